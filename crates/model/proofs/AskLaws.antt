@@ -1,0 +1,107 @@
+-- Laws of answers and questions: both, either, within, the first no, a question looked up by its number, and what settles a call.
+use Prim.Native.Nat.{ℕ, zero, suc, _≤_, _<_}
+use mathlib.Core.Bool.{Bool, true, false, not, cond}
+use mathlib.Core.List.{List, [], _∷_}
+use mathlib.Core.Path.{_≡_, refl, sym, _∙_}
+use lib.Dec.{leb, ltb, eqb}
+use borrow.Author.Tests.{leb-true, leb-false, le-leb, lt-leb, eqb-true, eq-eqb}
+use native.Mathlib.Omega.{arith}
+use Rattle.model.specs.Edges.{both, either, within}
+use Rattle.model.specs.Questions.{Ask, ask, firstNo}
+use Rattle.model.specs.Calls.{settle}
+
+-- Both answers are yes where each is, and a no of either is a no.
+pub both-yes : {a b : Bool} → a ≡ true → b ≡ true → both a b ≡ true
+unfolding both
+both-yes p q = rw p q
+
+pub both-no : {a : Bool} (b : Bool) → a ≡ false → both a b ≡ false
+unfolding both
+both-no b p = rw p refl
+
+pub both-no-after : (a : Bool) {b : Bool} → b ≡ false → both a b ≡ false
+unfolding both
+both-no-after true p = p
+both-no-after false p = refl
+
+pub both-first : (a b : Bool) → both a b ≡ true → a ≡ true
+unfolding both
+both-first true b p = refl
+both-first false b p = p
+
+pub both-second : (a b : Bool) → both a b ≡ true → b ≡ true
+unfolding both
+both-second true b p = p
+both-second false b p = absurd (let z : false ≡ true = p in mathlib.Core.Bool.false≢true z)
+
+-- A number within its range, and one outside.
+pub within-yes : (low high x : ℕ) → low ≤ x → x ≤ high → within low high x ≡ true
+unfolding within
+within-yes low high x p q = both-yes (le-leb low x p) (le-leb x high q)
+
+pub within-low : (low high x : ℕ) → within low high x ≡ true → low ≤ x
+unfolding within
+within-low low high x p = leb-true low x (both-first (leb low x) (leb x high) p)
+
+pub within-high : (low high x : ℕ) → within low high x ≡ true → x ≤ high
+unfolding within
+within-high low high x p = leb-true x high (both-second (leb low x) (leb x high) p)
+
+pub within-below : (low high x : ℕ) → x < low → within low high x ≡ false
+unfolding within
+within-below low high x p = both-no (leb x high) (lt-leb low x p)
+
+pub within-above : (low high x : ℕ) → high < x → within low high x ≡ false
+unfolding within
+within-above low high x p = both-no-after (leb low x) (lt-leb x high p)
+
+-- The first no: past a yes, and at a no.
+pub firstNo-yes : (n : ℕ) {b : Bool} (qs : List Ask) → b ≡ true → firstNo (ask n b ∷ qs) ≡ firstNo qs
+unfolding firstNo
+firstNo-yes n qs p = rw p refl
+
+pub firstNo-no : (n : ℕ) {b : Bool} (qs : List Ask) → b ≡ false → firstNo (ask n b ∷ qs) ≡ n
+unfolding firstNo
+firstNo-no n qs p = rw p refl
+
+-- A question looked up by its number: every question of that number in the list is answered yes.
+unfoldable pub asked : ℕ → List Ask → Bool
+asked n [] = true
+asked n (q ∷ qs) = both (either (not (eqb n (q .number))) (q .holds)) (asked n qs)
+
+-- No question of the list has the number 0, which stands for "accepted".
+unfoldable pub numbered : List Ask → Bool
+numbered [] = true
+numbered (q ∷ qs) = both (not (eqb (q .number) 0)) (numbered qs)
+
+either-second : (a : Bool) {b : Bool} → b ≡ true → either a b ≡ true
+unfolding either
+either-second true p = refl
+either-second false p = p
+
+not-zero : (n : ℕ) → not (eqb n 0) ≡ true → n ≡ 0 → ⊥
+not-zero n p q = let z : not (eqb n 0) ≡ false = rw (eq-eqb n 0 q) refl in
+    mathlib.Core.Bool.true≢false (sym p ∙ z)
+
+-- "All were yes": an accepted call's questions, each by its number.
+pub all-yes : (n : ℕ) (qs : List Ask) → numbered qs ≡ true → firstNo qs ≡ 0 → asked n qs ≡ true
+unfolding asked numbered firstNo
+all-yes n [] h p = refl
+all-yes n (q ∷ qs) h p =
+    head (q .holds) refl (λ t. all-yes n qs (both-second (not (eqb (q .number) 0)) (numbered qs) h) t)
+  where
+    head : (b : Bool) → q .holds ≡ b → (firstNo qs ≡ 0 → asked n qs ≡ true)
+        → both (either (not (eqb n (q .number))) (q .holds)) (asked n qs) ≡ true
+    head true e rest = both-yes (either-second (not (eqb n (q .number))) e) (rest (sym (firstNo-yes (q .number) qs e) ∙ p))
+    head false e rest =
+        absurd
+        (not-zero (q .number) (both-first (not (eqb (q .number) 0)) (numbered qs) h) (sym (firstNo-no (q .number) qs e) ∙ p))
+
+-- What settles a call: an accepted one, and one refused by the question n.
+pub settle-accepted : {A : Type 0} {n : ℕ} (done : A) (refusal : ℕ → A) → n ≡ 0 → settle n done refusal ≡ done
+unfolding settle
+settle-accepted done refusal p = rw p refl
+
+pub settle-refused : {A : Type 0} {n : ℕ} (k : ℕ) (done : A) (refusal : ℕ → A) → n ≡ suc k → settle n done refusal ≡ refusal (suc k)
+unfolding settle
+settle-refused k done refusal p = rw p refl

@@ -1,0 +1,2 @@
+-- Laws about the definitions, each stated once. Code crates cite them.
+pub mod AskLaws

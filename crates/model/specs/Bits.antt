@@ -1,0 +1,64 @@
+-- Document 01, "Entry bits", with the entries that "Synchronising one page" makes of them: kernel entries taken apart, shadow entries made.
+use Prim.Native.Nat.{ℕ, _+_, _*_, _/_, _%_, _^_}
+use mathlib.Core.Bool.{Bool, true, not, cond}
+use Rattle.model.specs.declared.Entry.{Entry}
+use Rattle.model.specs.declared.Entry.the-variants.{Absent, Present}
+use Rattle.model.specs.declared.Fields.{Fields}
+use Rattle.model.specs.Edges.{bit, either}
+use Rattle.model.specs.Keeps.{flag}
+
+-- "bit 0 present, 1 writable, 2 user, 63 no-execute, 12 to 51 the frame": the same bits in kernel and shadow entries.
+unfoldable pub present : ℕ → Bool
+present entry = bit 0 entry
+
+unfoldable pub writable : ℕ → Bool
+writable entry = bit 1 entry
+
+unfoldable pub userBit : ℕ → Bool
+userBit entry = bit 2 entry
+
+unfoldable pub noExecute : ℕ → Bool
+noExecute entry = bit 63 entry
+
+unfoldable pub frameOf : ℕ → ℕ
+frameOf entry = entry / 2 ^ 12 % 2 ^ 40
+
+-- "Shadow entry: the same bits, with bit 9 holding the kernel entry's own no-execute and bit 10 the approved mark."
+unfoldable pub kernelNoExecute : ℕ → Bool
+kernelNoExecute entry = bit 9 entry
+
+unfoldable pub approvedMark : ℕ → Bool
+approvedMark entry = bit 10 entry
+
+unfoldable pub fieldsOf : ℕ → Fields
+fieldsOf entry = record { writable = writable entry; user = userBit entry; noexec = noExecute entry; frame = frameOf entry }
+
+-- "A kernel entry is taken apart first: absent, or present with its fields." "Other bits are ignored."
+unfoldable pub takenApart : ℕ → Entry
+takenApart entry = cond (present entry) (Present (fieldsOf entry)) Absent
+
+-- "Approved entry: bits 0 and 10, the frame; bit 63 set in user mode only."
+unfoldable pub approvedNoExecute : Bool → Bool
+approvedNoExecute user = user
+
+unfoldable pub approved : Bool → ℕ → ℕ
+approved user frame = 2 ^ 0 + 2 ^ 10 + frame * 2 ^ 12 + flag (approvedNoExecute user) 63
+
+-- "Ordinary: bit 63 set in kernel mode; in user mode set if bit 9 is set or bit 2 clear." Arguments: user mode, bit 9, bit 2.
+unfoldable pub ordinaryNoExecute : Bool → Bool → Bool → Bool
+ordinaryNoExecute user bit9 bit2 = cond user (either bit9 (not bit2)) true
+
+-- "Else ordinary: present, writable, user, frame and bit 9 from the kernel entry."
+unfoldable pub ordinary : Bool → Fields → ℕ
+ordinary user x =
+    2 ^ 0 + flag (x .writable) 1 + flag (x .user) 2 + flag (x .noexec) 9 + x .frame * 2 ^ 12
+    + flag (ordinaryNoExecute user (x .noexec) (x .user)) 63
+
+-- The rule for bit 63 of a shadow entry, "approved mark and bits 2 and 9 as found".
+unfoldable pub noExecuteIn : Bool → ℕ → Bool
+noExecuteIn user entry =
+    cond (approvedMark entry) (approvedNoExecute user) (ordinaryNoExecute user (kernelNoExecute entry) (userBit entry))
+
+-- "it sets bit 63 of each present shadow entry by these rules, [..] other bits kept": the bits below 63, with bit 63 anew.
+unfoldable pub switched : Bool → ℕ → ℕ
+switched user entry = cond (present entry) (entry % 2 ^ 63 + flag (noExecuteIn user entry) 63) entry

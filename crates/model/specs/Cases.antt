@@ -1,0 +1,118 @@
+-- Document 01, "Twelve cases on that policy, just started unless a mode is named": one table, a row or two for each case. Each row has
+-- the outcome that the definitions give, and the whole outcome that the document fixes: number, both values, state and the three tables.
+use Prim.Native.Nat.{ℕ}
+use mathlib.Core.Bool.{Bool}
+use mathlib.Core.List.{List, [], _∷_}
+use mathlib.Core.Path.{_≡_}
+use lib.ListN.{replicate, set}
+use Rattle.model.specs.declared.State.{State}
+use Rattle.model.specs.declared.Mode.{Mode}
+use Rattle.model.specs.declared.Mode.the-variants.{Kernel, User}
+use Rattle.model.specs.Keeps.{Guard, inMode}
+use Rattle.model.specs.Calls.{Outcome, accepted, refused, startOf}
+use Rattle.model.specs.Lists.{Call, syncPage, write, deviceWrite, answer}
+
+-- "Policy V 4, F 4, n 1, e 1, page 1, frame 2."
+unfoldable pub policyBytes : List ℕ
+policyBytes = 4 ∷ 0 ∷ 4 ∷ 0 ∷ 1 ∷ 0 ∷ 1 ∷ 0 ∷ 1 ∷ 0 ∷ 2 ∷ 0 ∷ []
+
+-- The start on that policy, whatever the lent tables held.
+unfoldable pub theStart : Outcome
+theStart = startOf policyBytes (5 ∷ 6 ∷ 7 ∷ 8 ∷ []) (1 ∷ 2 ∷ 3 ∷ 4 ∷ []) (255 ∷ [])
+
+-- The started guard, "with the mode replaced by user" where user mode is named.
+unfoldable pub started : Guard
+started = theStart .guard
+
+unfoldable pub startedUser : Guard
+startedUser =
+    record {
+      state = inMode (started .state) (User 1);
+      shadow = started .shadow;
+      map = started .map;
+      exclusion = started .exclusion;
+    }
+
+-- A kernel table with one entry, at a page.
+unfoldable pub only : ℕ → ℕ → List ℕ
+only page entry = set (replicate 4 0) page entry
+
+-- C11 stands where nothing else refuses the write: page 0 synchronised from 0x3003, an ordinary writable page.
+unfoldable pub startedWritable : Guard
+startedWritable = (answer started (syncPage (only 0 0x3003) 0)) .guard
+
+-- The state after the start, with its mode.
+unfoldable pub stateIn : Mode → State
+stateIn mode = record { pages = 4; frames = 4; entries = 1; entry = 1 ∷ replicate 15 0; mode = mode }
+
+-- A guard of that policy with these contents. No call changes the exclusion vector, whose one byte is 0x04.
+unfoldable pub holding : Mode → List ℕ → List ℕ → Guard
+holding mode shadow map = record { state = stateIn mode; shadow = shadow; map = map; exclusion = 0x04 ∷ [] }
+
+-- The tables as the start leaves them.
+unfoldable pub shadowStarted : List ℕ
+shadowStarted = 0 ∷ 0x2401 ∷ 0 ∷ 0 ∷ []
+
+unfoldable pub mapStarted : List ℕ
+mapStarted = 65535 ∷ 2 ∷ 65535 ∷ 65535 ∷ []
+
+pub record Case : Type 0 where
+  pub given : Outcome
+  pub fixed : Outcome
+
+unfoldable pub row : Outcome → Outcome → Case
+row given fixed = record { given = given; fixed = fixed }
+
+unfoldable pub cases : List Case
+cases =
+    -- C1 start: shadow of page 1 is 0x2401, exclusion byte 0x04.
+    row theStart (record { reply = accepted 1 1; guard = holding (Kernel 1) shadowStarted mapStarted })
+    -- C2 page 0 from 0x2003: 0x2401, joined.
+    ∷ row (answer started (syncPage (only 0 0x2003) 0))
+    (record { reply = accepted 1 1; guard = holding (Kernel 1) (0x2401 ∷ 0x2401 ∷ 0 ∷ 0 ∷ []) (2 ∷ 2 ∷ 65535 ∷ 65535 ∷ []) })
+    -- C3 page 1 from 0x3003: 0x2401.
+    ∷ row (answer started (syncPage (only 1 0x3003) 1))
+    (record { reply = accepted 0 0; guard = holding (Kernel 1) shadowStarted mapStarted })
+    -- C4 page 0 from 0x4003: 0.
+    ∷ row (answer started (syncPage (only 0 0x4003) 0))
+    (record { reply = accepted 0 0; guard = holding (Kernel 1) shadowStarted mapStarted })
+    -- C5 page 0 from 0x3003: 0x8000000000003003.
+    ∷ row (answer started (syncPage (only 0 0x3003) 0))
+    (record { reply = accepted 1 0; guard = holding (Kernel 1) (0x8000000000003003 ∷ 0x2401 ∷ 0 ∷ 0 ∷ []) mapStarted })
+    -- C6 user mode, page 3 from 0x3007: 0x3007.
+    ∷ row (answer startedUser (syncPage (only 3 0x3007) 3))
+    (record { reply = accepted 1 0; guard = holding (User 1) (0 ∷ 0x2401 ∷ 0 ∷ 0x3007 ∷ []) mapStarted })
+    -- C7 user mode, page 3 from 0x8000000000003007: 0x8000000000003207.
+    ∷ row (answer startedUser (syncPage (only 3 0x8000000000003007) 3))
+    (record { reply = accepted 1 0; guard = holding (User 1) (0 ∷ 0x2401 ∷ 0 ∷ 0x8000000000003207 ∷ []) mapStarted })
+    -- C8 user mode, page 0 from 0x3003: 0x8000000000003003.
+    ∷ row (answer startedUser (syncPage (only 0 0x3003) 0))
+    (record { reply = accepted 1 0; guard = holding (User 1) (0x8000000000003003 ∷ 0x2401 ∷ 0 ∷ 0 ∷ []) mapStarted })
+    -- C9 device write at 16383: 1 byte gives 3 and 3; 2 bytes give 9.
+    ∷ row (answer started (deviceWrite 16383 1))
+    (record { reply = accepted 3 3; guard = holding (Kernel 1) shadowStarted mapStarted })
+    ∷ row (answer started (deviceWrite 16383 2))
+    (record { reply = refused 9; guard = holding (Kernel 1) shadowStarted mapStarted })
+    -- C10 device write at 4096: 4,096 bytes give 1 and 1; 4,097 give 13.
+    ∷ row (answer started (deviceWrite 4096 4096))
+    (record { reply = accepted 1 1; guard = holding (Kernel 1) shadowStarted mapStarted })
+    ∷ row (answer started (deviceWrite 4096 4097))
+    (record { reply = refused 13; guard = holding (Kernel 1) shadowStarted mapStarted })
+    -- C11 write of 0 or 17 bytes: 8. (1 and 16 bytes at that address are allowed: nothing else refuses there.)
+    ∷ row (answer startedWritable (write 0 0))
+    (record { reply = refused 8; guard = holding (Kernel 1) (0x8000000000003003 ∷ 0x2401 ∷ 0 ∷ 0 ∷ []) mapStarted })
+    ∷ row (answer startedWritable (write 0 17))
+    (record { reply = refused 8; guard = holding (Kernel 1) (0x8000000000003003 ∷ 0x2401 ∷ 0 ∷ 0 ∷ []) mapStarted })
+    ∷ row (answer startedWritable (write 0 1))
+    (record { reply = accepted 3 3; guard = holding (Kernel 1) (0x8000000000003003 ∷ 0x2401 ∷ 0 ∷ 0 ∷ []) mapStarted })
+    ∷ row (answer startedWritable (write 0 16))
+    (record { reply = accepted 3 3; guard = holding (Kernel 1) (0x8000000000003003 ∷ 0x2401 ∷ 0 ∷ 0 ∷ []) mapStarted })
+    -- C12 page 1 from 0x2000: shadow 0, map still 2.
+    ∷ row (answer started (syncPage (only 1 0x2000) 1))
+    (record { reply = accepted 1 0; guard = holding (Kernel 1) (0 ∷ 0 ∷ 0 ∷ 0 ∷ []) mapStarted })
+    ∷ []
+
+-- Every row's outcome is the one that is fixed.
+abbrev pub Hold : List Case → Type 0
+Hold [] = Unit {0}
+Hold (c ∷ cs) = (c .given ≡ c .fixed) × Hold cs

@@ -1,0 +1,58 @@
+-- Document 01, "What the guard keeps": the tables as lists of numbers, and the mode.
+use Prim.Native.Nat.{ℕ, zero, suc, _+_, _*_, _/_, _%_, _^_}
+use mathlib.Core.Bool.{Bool, true, false, cond}
+use mathlib.Core.List.{List}
+use lib.ListN.{getD}
+use Rattle.model.specs.declared.Mode.{Mode}
+use Rattle.model.specs.declared.Mode.the-variants.{Kernel, User}
+use Rattle.model.specs.declared.State.{State}
+use Rattle.model.specs.Edges.{bit, table}
+
+-- "the frame approved for that page, or 65535 for none"
+abbrev pub none : ℕ
+none = 65535
+
+-- What the guard keeps beside the kernel table, which is not its own.
+pub record Guard : Type 0 where
+  pub state : State
+  pub shadow : List ℕ
+  pub map : List ℕ
+  pub exclusion : List ℕ
+
+-- "The exclusion vector: F/8 bytes rounded up"
+unfoldable pub vectorBytes : ℕ → ℕ
+vectorBytes frames = (frames + 7) / 8
+
+-- "bit f mod 8 (0 lowest) of byte f/8 belongs to frame f"
+unfoldable pub excludedIn : List ℕ → ℕ → Bool
+excludedIn exclusion f = bit (f % 8) (getD exclusion (f / 8) 0)
+
+-- The weight of bit k where b holds, and else 0.
+unfoldable pub flag : Bool → ℕ → ℕ
+flag b k = cond b (2 ^ k) 0
+
+-- The byte whose bit j is h j.
+unfoldable pub byteOf : (ℕ → Bool) → ℕ
+byteOf h = flag (h 0) 0 + flag (h 1) 1 + flag (h 2) 2 + flag (h 3) 3 + flag (h 4) 4 + flag (h 5) 5 + flag (h 6) 6 + flag (h 7) 7
+
+-- The vector in which just the frames that h names are excluded. Where h names none at or above F, "spare bits zero".
+unfoldable pub vectorOf : ℕ → (ℕ → Bool) → List ℕ
+vectorOf frames h = table (vectorBytes frames) (λ i. byteOf (λ j. h (i * 8 + j)))
+
+-- "the mode, which is kernel or user together with the page now running"
+unfoldable pub inUser : Mode → Bool
+inUser (Kernel page) = false
+inUser (User page) = true
+
+unfoldable pub running : Mode → ℕ
+running (Kernel page) = page
+running (User page) = page
+
+-- Kernel or user, and the page that runs.
+unfoldable pub modeOf : Bool → ℕ → Mode
+modeOf false page = Kernel page
+modeOf true page = User page
+
+-- The state with another mode.
+unfoldable pub inMode : State → Mode → State
+inMode s m = record { pages = s .pages; frames = s .frames; entries = s .entries; entry = s .entry; mode = m }

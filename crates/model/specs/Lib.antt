@@ -1,0 +1,10 @@
+-- The definitions of document 01, a file for each of its sections, in its order.
+pub mod Edges
+pub mod Keeps
+pub mod Policy
+pub mod Bits
+pub mod Sync
+pub mod Calls
+pub mod Questions
+pub mod Lists
+pub mod Cases

@@ -1,0 +1,181 @@
+-- Document 01, "Questions in order": each question, and the list of them that each call goes down.
+use Prim.Native.Nat.{ℕ, zero, suc, _+_, _*_, _/_, min}
+use mathlib.Core.Bool.{Bool, true, false, not, cond}
+use mathlib.Core.List.{List, [], _∷_}
+use lib.ListN.{length, getD}
+use lib.Dec.{leb, ltb, eqb}
+use Rattle.model.specs.declared.State.{State}
+use Rattle.model.specs.Edges.{pageBytes, both, either, within, pagesInRange, framesInRange, everyFrom, lastByte, lastPage, touched}
+use Rattle.model.specs.Keeps.{none, vectorBytes, excludedIn, inUser, running}
+use Rattle.model.specs.Policy.{Policy}
+use Rattle.model.specs.Bits.{present, writable, userBit, noExecute, kernelNoExecute, approvedMark, frameOf}
+
+-- A question with its number, and whether its answer is yes.
+pub record Ask : Type 0 where
+  pub number : ℕ
+  pub holds : Bool
+
+abbrev pub ask : ℕ → Bool → Ask
+ask number holds = record { number = number; holds = holds }
+
+-- "Each call goes down the list [..]. The first no gives its number": 0 where every answer is yes.
+unfoldable pub firstNo : List Ask → ℕ
+firstNo [] = 0
+firstNo (q ∷ qs) = cond (q .holds) (firstNo qs) (q .number)
+
+-- What the questions look at. The guard's is made of its state and tables, and that of demand 3 of the one-page guards.
+pub record View : Type 0 where
+  -- V, F, e and the page of each entry index
+  pub pages : ℕ
+  pub frames : ℕ
+  pub entries : ℕ
+  pub entry : ℕ → ℕ
+  -- user mode
+  pub user : Bool
+  -- the shadow entry and the approval of a page, and whether a frame is excluded
+  pub shadow : ℕ → ℕ
+  pub approval : ℕ → ℕ
+  pub excluded : ℕ → Bool
+  -- the parts of question 7: the state, and the length of each of the guard's tables
+  pub stateFits : Bool
+  pub shadowFits : Bool
+  pub mapFits : Bool
+  pub exclusionFits : Bool
+
+-- "7. Are the state's V, F within range, e from 1 to 16, the running page below V"
+unfoldable pub stateInOrder : State → Bool
+stateInOrder s =
+    both (pagesInRange (s .pages)) (both (framesInRange (s .frames)) (both (within 1 16 (s .entries)) (ltb (running (s .mode)) (s .pages))))
+
+-- The guard's view. A call looks only at the tables that it is lent; the others are empty lists there.
+abbrev pub seen : State → List ℕ → List ℕ → List ℕ → View
+seen s shadow map exclusion =
+    record {
+      pages = s .pages;
+      frames = s .frames;
+      entries = s .entries;
+      entry = λ i. getD (s .entry) i 0;
+      user = inUser (s .mode);
+      shadow = λ p. getD shadow p 0;
+      approval = λ p. getD map p none;
+      excluded = excludedIn exclusion;
+      stateFits = stateInOrder s;
+      shadowFits = eqb (length shadow) (s .pages);
+      mapFits = eqb (length map) (s .pages);
+      exclusionFits = eqb (length exclusion) (vectorBytes (s .frames));
+    }
+
+-- Questions 2 to 6, of sizes and lists wherever they come from.
+
+-- "2. Are V and F within their ranges?"
+unfoldable pub sizesInRange : Policy → Bool
+sizesInRange policy = both (pagesInRange (policy .pages)) (framesInRange (policy .frames))
+
+-- "3. Is n from 1 to V, and e from 1 to the smaller of n and 16?"
+unfoldable pub countsInRange : Policy → Bool
+countsInRange policy = both (within 1 (policy .pages) (policy .count)) (within 1 (min (policy .count) 16) (policy .entries))
+
+-- "5. Is every listed page below V and above the one before?": each is at least `least`, one more than the one before, and 0 at first.
+unfoldable pub rising : ℕ → ℕ → List ℕ → Bool
+rising pages least [] = true
+rising pages least (p ∷ ps) = both (both (leb least p) (ltb p pages)) (rising pages (suc p) ps)
+
+-- "6. Is every listed frame below F?"
+unfoldable pub allBelow : ℕ → List ℕ → Bool
+allBelow frames [] = true
+allBelow frames (f ∷ fs) = both (ltb f frames) (allBelow frames fs)
+
+-- "7. [..] does every lent table have its exact length": the state, and the tables that a call is lent. Every call asks it so.
+unfoldable pub inOrder : Bool → List Bool → Bool
+inOrder stateFits [] = stateFits
+inOrder stateFits (fits ∷ lent) = both fits (inOrder stateFits lent)
+
+-- The questions of the start. Its question 7 goes "by the record's V and F", and there is no state yet.
+unfoldable pub startAsks : List ℕ → Policy → ℕ → ℕ → ℕ → List Ask
+startAsks bytes policy shadowLength mapLength exclusionLength =
+    ask 1 (leb 8 (length bytes))
+    ∷ ask 2 (sizesInRange policy)
+    ∷ ask 3 (countsInRange policy)
+    ∷ ask 4 (eqb (length bytes) (8 + 4 * policy .count))
+    ∷ ask 5 (rising (policy .pages) 0 (policy .listed))
+    ∷ ask 6 (allBelow (policy .frames) (policy .backing))
+    ∷ ask 7 (inOrder true (eqb shadowLength (policy .pages) ∷ eqb mapLength (policy .pages) ∷ eqb exclusionLength (vectorBytes (policy .frames)) ∷ []))
+    ∷ []
+
+-- Synchronise one page: the kernel table is lent too, and has a length of its own.
+unfoldable pub syncAllAsks : View → ℕ → List Ask
+syncAllAsks v kernelLength =
+    ask 7 (inOrder (v .stateFits) (eqb kernelLength (v .pages) ∷ v .shadowFits ∷ v .mapFits ∷ v .exclusionFits ∷ [])) ∷ []
+
+unfoldable pub syncPageAsks : View → ℕ → ℕ → List Ask
+syncPageAsks v kernelLength page =
+    ask 7 (inOrder (v .stateFits) (eqb kernelLength (v .pages) ∷ v .shadowFits ∷ v .mapFits ∷ v .exclusionFits ∷ []))
+    ∷ ask 9 (ltb page (v .pages))
+    ∷ []
+
+-- Fetch: "Needs bit 63 clear and, in user mode, bit 2."
+unfoldable pub fetchPermitted : Bool → ℕ → Bool
+fetchPermitted user entry = both (not (noExecute entry)) (either (not user) (userBit entry))
+
+unfoldable pub fetchAsks : View → ℕ → List Ask
+fetchAsks v page =
+    ask 7 (inOrder (v .stateFits) (v .shadowFits ∷ []))
+    ∷ ask 9 (ltb page (v .pages))
+    ∷ ask 11 (present (v .shadow page))
+    ∷ ask 12 (fetchPermitted (v .user) (v .shadow page))
+    ∷ []
+
+-- Write: "Every touched page needs bit 1 and, in user mode, bit 2."
+unfoldable pub writePermitted : Bool → ℕ → Bool
+writePermitted user entry = both (writable entry) (either (not user) (userBit entry))
+
+-- "13. [..] are all touched frames free of exclusion, one at or above F counting as excluded?"
+unfoldable pub free : View → ℕ → Bool
+free v f = both (ltb f (v .frames)) (not (v .excluded f))
+
+-- A test of every page that a write touches, from its first on.
+unfoldable pub everyTouched : (ℕ → Bool) → ℕ → ℕ → Bool
+everyTouched test address length = everyFrom test (address / pageBytes) (touched address length)
+
+unfoldable pub writeAsks : View → ℕ → ℕ → List Ask
+writeAsks v address length =
+    ask 7 (inOrder (v .stateFits) (v .shadowFits ∷ v .exclusionFits ∷ []))
+    ∷ ask 8 (within 1 16 length)
+    ∷ ask 9 (ltb (lastPage address length) (v .pages))
+    ∷ ask 11 (everyTouched (λ p. present (v .shadow p)) address length)
+    ∷ ask 12 (everyTouched (λ p. writePermitted (v .user) (v .shadow p)) address length)
+    ∷ ask 13 (everyTouched (λ p. free v (frameOf (v .shadow p))) address length)
+    ∷ []
+
+-- Enter by entry index: "entry index below e with its page below V"; "user to enter"; "the page needs bit 10".
+-- Question 12 is source 001's slide "Checking Entry Pointers": the page of an entry must translate to approved code.
+unfoldable pub enterAsks : View → ℕ → List Ask
+enterAsks v index =
+    ask 7 (inOrder (v .stateFits) (v .shadowFits ∷ []))
+    ∷ ask 9 (both (ltb index (v .entries)) (ltb (v .entry index) (v .pages)))
+    ∷ ask 10 (v .user)
+    ∷ ask 11 (present (v .shadow (v .entry index)))
+    ∷ ask 12 (approvedMark (v .shadow (v .entry index)))
+    ∷ []
+
+-- Leave to a page: "kernel to leave"; "it needs bit 2 set and bit 9 clear".
+unfoldable pub leavePermitted : ℕ → Bool
+leavePermitted entry = both (userBit entry) (not (kernelNoExecute entry))
+
+unfoldable pub leaveAsks : View → ℕ → List Ask
+leaveAsks v page =
+    ask 7 (inOrder (v .stateFits) (v .shadowFits ∷ []))
+    ∷ ask 9 (ltb page (v .pages))
+    ∷ ask 10 (not (v .user))
+    ∷ ask 11 (present (v .shadow page))
+    ∷ ask 12 (leavePermitted (v .shadow page))
+    ∷ []
+
+-- Device write: "last transfer byte below F × 4,096"; the frames that it touches are numbered by its addresses.
+unfoldable pub deviceWriteAsks : View → ℕ → ℕ → List Ask
+deviceWriteAsks v address length =
+    ask 7 (inOrder (v .stateFits) (v .exclusionFits ∷ []))
+    ∷ ask 8 (within 1 1048576 length)
+    ∷ ask 9 (ltb (lastByte address length) (v .frames * pageBytes))
+    ∷ ask 13 (everyTouched (free v) address length)
+    ∷ []

@@ -1,0 +1,81 @@
+-- Document 01, "Synchronising one page", and the same for all pages; the mode switch of a whole table.
+use Prim.Native.Nat.{ℕ, _+_, _<_}
+use mathlib.Core.Bool.{Bool, true, false, not, cond}
+use mathlib.Core.List.{List, [], _∷_, map}
+use lib.Dec.{leb, eqb}
+use Rattle.model.specs.declared.Entry.{Entry}
+use Rattle.model.specs.declared.Entry.the-variants.{Absent, Present}
+use Rattle.model.specs.declared.Fields.{Fields}
+use Rattle.model.specs.Keeps.{none}
+use Rattle.model.specs.Bits.{takenApart, approved, ordinary, switched}
+
+-- What a step reads beside the kernel entry and the page's approval.
+pub record Rules : Type 0 where
+  pub user : Bool
+  pub frames : ℕ
+  pub excluded : ℕ → Bool
+
+-- A page's shadow entry and its number in the map.
+pub record Place : Type 0 where
+  pub entry : ℕ
+  pub approval : ℕ
+
+abbrev pub place : ℕ → ℕ → Place
+place entry approval = record { entry = entry; approval = approval }
+
+-- "1. Kernel entry absent: shadow 0; map unchanged."
+-- "2. Else the map has a frame for this page: an approved entry with the map's frame, not the kernel's." Source 000, section 5.1: a kernel
+-- entry that maps an approved virtual page must contain the address of an approved physical page.
+-- "3. Else frame at or above F: shadow 0." Source 004, section 4.2: no address at or above the memory limit is copied.
+-- "4. Else the frame is excluded: the page joins the map with it; approved entry." Source 000, section 5.1: every virtual alias of an
+-- approved physical page must disallow writes to it.
+-- "5. Else ordinary: present, writable, user, frame and bit 9 from the kernel entry."
+unfoldable pub stepOf : Rules → Entry → ℕ → Place
+stepOf rules Absent approval = place 0 approval
+stepOf rules (Present x) approval =
+    cond (not (eqb approval none)) (place (approved (rules .user) approval) approval)
+    (cond (leb (rules .frames) (x .frame)) (place 0 approval)
+    (cond (rules .excluded (x .frame)) (place (approved (rules .user) (x .frame)) (x .frame))
+    (place (ordinary (rules .user) x) approval)))
+
+-- Steps 1 to 5 on a kernel entry and the page's number in the map. The shadow entry that stood there is not read.
+unfoldable pub step : Rules → ℕ → ℕ → Place
+step rules entry approval = stepOf rules (takenApart entry) approval
+
+-- 1 where two values differ: "shadow entries whose value changed", "pages that joined the map".
+unfoldable pub differs : ℕ → ℕ → ℕ
+differs a b = cond (eqb a b) 0 1
+
+-- Both tables after a synchronisation, with its two counts.
+pub record Run : Type 0 where
+  pub shadow : List ℕ
+  pub map : List ℕ
+  pub changed : ℕ
+  pub joined : ℕ
+
+-- A run whose first place had the entry s and the number m and has now the place p.
+unfoldable pub before : ℕ → ℕ → Place → Run → Run
+before s m p rest =
+    record {
+      shadow = p .entry ∷ rest .shadow;
+      map = p .approval ∷ rest .map;
+      changed = differs s (p .entry) + rest .changed;
+      joined = differs m (p .approval) + rest .joined;
+    }
+
+-- "All pages: the same for each, in rising order." What goes past the shortest list stays as it is.
+unfoldable pub runOver : (ℕ → ℕ → Place) → List ℕ → List ℕ → List ℕ → Run
+runOver f [] shadow map = record { shadow = shadow; map = map; changed = 0; joined = 0 }
+runOver f (k ∷ kernel) [] map = record { shadow = []; map = map; changed = 0; joined = 0 }
+runOver f (k ∷ kernel) (s ∷ shadow) [] = record { shadow = s ∷ shadow; map = []; changed = 0; joined = 0 }
+runOver f (k ∷ kernel) (s ∷ shadow) (m ∷ map) = before s m (f k m) (runOver f kernel shadow map)
+
+-- "A mode switch [..] sets bit 63 of each present shadow entry".
+unfoldable pub switchedAll : Bool → List ℕ → List ℕ
+switchedAll user shadow = map (switched user) shadow
+
+-- "the count of changed shadow entries": places at which two tables of one length differ.
+unfoldable pub changes : List ℕ → List ℕ → ℕ
+changes [] after = 0
+changes (b ∷ before) [] = 0
+changes (b ∷ before) (a ∷ after) = differs b a + changes before after

@@ -1,0 +1,49 @@
+// The declared types of the guard, and the functions that carry the theorems about its definitions.
+// The definitions themselves stand in specs/, one file for each section of document 01.
+
+ghost use Rattle.model.specs.Cases.{cases, Hold};
+
+// Document 01, "What the guard keeps": the mode, kernel or user, together with the page now running.
+pub enum Mode {
+    Kernel(u16),
+    User(u16),
+}
+
+// Document 01, "What the guard keeps": the state.
+pub struct State {
+    // V, the number of virtual pages.
+    pub pages: u16,
+    // F, the number of physical frames.
+    pub frames: u16,
+    // e, the number of entry pages.
+    pub entries: u16,
+    // The sixteen entry pages; unused ones are 0.
+    pub entry: [u16; 16],
+    pub mode: Mode,
+}
+
+// Document 01, "Entry bits": the fields of a kernel entry that is present.
+pub struct Fields {
+    pub writable: bool,
+    pub user: bool,
+    // The kernel entry's own no-execute, bit 63.
+    pub noexec: bool,
+    pub frame: u64,
+}
+
+// Document 01, "Entry bits": a kernel entry taken apart.
+pub enum Entry {
+    Absent,
+    Present(Fields),
+}
+
+// What a call answers: its two numbers, or the number of the question that refused it.
+pub enum Answer {
+    Done(u64, u64),
+    Refused(u64),
+}
+
+// Document 01, C1 to C12: every row of the table holds of the definitions.
+pub fn twelve_cases()
+    ensures { λ _. ⌜ Hold cases ⌝ }
+{}
