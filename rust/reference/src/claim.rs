@@ -1,0 +1,157 @@
+//! Demand 3 as something that runs: the calls of a list, and the number that the one-page guards settle for each.
+//! A test keeps these beside a guard and compares answers, entries, approvals and mode after every call.
+
+use crate::page_guard::PageGuard;
+
+/// A call of the list, with the kernel table that a synchronising call brings.
+#[derive(Clone, Copy, Debug)]
+pub enum Call<'a> {
+    SynchroniseOne { kernel: &'a [u64], page: u64 },
+    SynchroniseAll { kernel: &'a [u64] },
+    Fetch { page: u64 },
+    Write { address: u64, length: u64 },
+    Enter { index: u64 },
+    Leave { page: u64 },
+    DeviceWrite { address: u64, length: u64 },
+}
+
+/// The policy and the one-page guards of all its pages.
+pub struct Claim {
+    v: u64,
+    f: u64,
+    entry_pages: Vec<u16>,
+    pages: Vec<PageGuard>,
+}
+
+/// A question: its number, and whether the answer is yes.
+type Question = (u8, bool);
+
+impl Claim {
+    /// The one-page guards as an accepted start of this record leaves them.
+    pub fn told_start(record: &[u8]) -> Claim {
+        let number = |place: usize| u16::from_le_bytes([record[2 * place], record[2 * place + 1]]);
+        let (v, f, e) = (number(0), number(1), number(3));
+        Claim {
+            v: v.into(),
+            f: f.into(),
+            entry_pages: (4..4 + usize::from(e)).map(number).collect(),
+            pages: (0..v).map(|page| PageGuard::told_start(record, page)).collect(),
+        }
+    }
+
+    /// The one-page guards, by page.
+    pub fn pages(&self) -> &[PageGuard] {
+        &self.pages
+    }
+
+    /// Kernel or user, on which all one-page guards agree.
+    pub fn is_user(&self) -> bool {
+        self.pages[0].is_user()
+    }
+
+    /// The number of the first question answered no, or 0 where the call is accepted.
+    pub fn settled(&self, call: &Call) -> u8 {
+        let first_no = |questions: &[Question]| {
+            questions.iter().find(|(_, is_yes)| !is_yes).map_or(0, |&(number, _)| number)
+        };
+        match *call {
+            Call::SynchroniseOne { kernel, page } => {
+                first_no(&[(7, kernel.len() as u64 == self.v), (9, page < self.v)])
+            }
+            Call::SynchroniseAll { kernel } => first_no(&[(7, kernel.len() as u64 == self.v)]),
+            Call::Fetch { page } => first_no(&[
+                (9, page < self.v),
+                (11, self.has(page, 0)),
+                (12, !self.has(page, 63) && self.is_open(page)),
+            ]),
+            Call::Write { address, length } => first_no(&self.write_questions(address, length)),
+            Call::Enter { index } => first_no(&self.enter_questions(index)),
+            Call::Leave { page } => first_no(&[
+                (9, page < self.v),
+                (10, !self.is_user()),
+                (11, self.has(page, 0)),
+                (12, self.has(page, 2) && !self.has(page, 9)),
+            ]),
+            Call::DeviceWrite { address, length } => {
+                let frames = touched(address, length);
+                let last_byte = u128::from(address) + u128::from(length) - u128::from(length > 0);
+                first_no(&[
+                    (8, (1..=1_048_576).contains(&length)),
+                    (9, last_byte < u128::from(self.f) * 4096),
+                    (13, frames.take(257).all(|frame| self.is_free(frame))),
+                ])
+            }
+        }
+    }
+
+    /// Tells the one-page guards of an accepted call.
+    pub fn tell(&mut self, call: &Call) {
+        match *call {
+            Call::SynchroniseOne { kernel, page } => {
+                self.pages[page as usize].told_synchronised(kernel[page as usize]);
+            }
+            Call::SynchroniseAll { kernel } => {
+                for (page, &entry) in self.pages.iter_mut().zip(kernel) {
+                    page.told_synchronised(entry);
+                }
+            }
+            Call::Enter { .. } => self.pages.iter_mut().for_each(PageGuard::told_entered),
+            Call::Leave { .. } => self.pages.iter_mut().for_each(PageGuard::told_left),
+            Call::Fetch { .. } | Call::Write { .. } | Call::DeviceWrite { .. } => {}
+        }
+    }
+
+    /// The frame in the entry of a page's one-page guard.
+    pub fn frame(&self, page: u64) -> u64 {
+        (self.entry(page) >> 12) % (1 << 40)
+    }
+
+    /// Whether a frame is below F and not excluded.
+    pub fn is_free(&self, frame: u64) -> bool {
+        frame < self.f && !self.pages[0].excludes(frame)
+    }
+
+    fn write_questions(&self, address: u64, length: u64) -> [Question; 5] {
+        let pages = || touched(address, length).take(2);
+        let permits = |page| self.has(page, 1) && self.is_open(page);
+        [
+            (8, (1..=16).contains(&length)),
+            (9, pages().all(|page| page < self.v)),
+            (11, pages().all(|page| self.has(page, 0))),
+            (12, pages().all(permits)),
+            (13, pages().all(|page| self.is_free(self.frame(page)))),
+        ]
+    }
+
+    fn enter_questions(&self, index: u64) -> [Question; 4] {
+        let named = usize::try_from(index).ok().and_then(|index| self.entry_pages.get(index));
+        let page = named.map_or(u64::MAX, |&page| page.into());
+        [
+            (9, page < self.v),
+            (10, self.is_user()),
+            (11, self.has(page, 0)),
+            (12, self.has(page, 10)),
+        ]
+    }
+
+    /// The entry of a page's one-page guard; a page that does not exist has none, and question 9 comes first.
+    fn entry(&self, page: u64) -> u64 {
+        let guard = usize::try_from(page).ok().and_then(|page| self.pages.get(page));
+        guard.map_or(0, PageGuard::entry)
+    }
+
+    fn has(&self, page: u64, bit: u32) -> bool {
+        self.entry(page) >> bit & 1 == 1
+    }
+
+    /// In user mode a page needs bit 2.
+    fn is_open(&self, page: u64) -> bool {
+        !self.is_user() || self.has(page, 2)
+    }
+}
+
+/// The pages, or frames, of the bytes from an address on, with exact sums.
+fn touched(address: u64, length: u64) -> impl Iterator<Item = u64> {
+    let last_byte = u128::from(address) + u128::from(length.max(1)) - 1;
+    address / 4096..=(last_byte / 4096) as u64
+}

@@ -1,0 +1,26 @@
+//! The page guard of document 01 in plain Rust: a baseline for speed and the other side of differential tests.
+//! Tables are lent slices, a refused call changes nothing, and nothing here allocates but the claim of demand 3.
+#![forbid(unsafe_code)]
+
+mod access;
+pub mod claim;
+mod drill;
+mod entry;
+pub mod fault;
+mod page_guard;
+mod start;
+mod state;
+mod switch;
+mod sync;
+
+pub use access::{device_write, fetch, write};
+pub use drill::{drill, drill_with_fault};
+pub use entry::NO_FRAME;
+pub use fault::Fault;
+pub use page_guard::PageGuard;
+pub use start::start;
+pub use state::{
+    vector_len, Answer, Mode, Refusal, State, ENTRY_PAGES, MAX_FRAMES, MAX_PAGES, PAGE_BYTES,
+};
+pub use switch::{enter, leave};
+pub use sync::{synchronise_all, synchronise_one, without_approval};

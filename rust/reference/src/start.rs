@@ -1,0 +1,126 @@
+//! The start: the policy record is read, questions 1 to 7 are asked, and the tables are set.
+//! All questions come before the first store, so a refused start leaves the tables as they were.
+
+use crate::entry::{approved, framed, NO_FRAME};
+use crate::state::{
+    vector_len, Answer, Mode, Refusal, State, ENTRY_PAGES, MAX_FRAMES, MAX_PAGES, MAX_VECTOR,
+};
+
+/// Two bytes of a record: a little-endian 16-bit number.
+type Word = [u8; 2];
+
+/// The record's bytes and how far they have been read.
+struct Reader<'a> {
+    bytes: &'a [u8],
+    at: usize,
+}
+
+impl<'a> Reader<'a> {
+    fn new(bytes: &'a [u8]) -> Self {
+        Reader { bytes, at: 0 }
+    }
+
+    /// The next `count` words, or none where the record has too few bytes left.
+    fn words(&mut self, count: usize) -> Option<&'a [Word]> {
+        let end = self.at + 2 * count;
+        let (words, _) = self.bytes.get(self.at..end)?.as_chunks::<2>();
+        self.at = end;
+        Some(words)
+    }
+
+    fn is_at_end(&self) -> bool {
+        self.at == self.bytes.len()
+    }
+}
+
+/// A policy record that questions 1 to 6 accept.
+struct Policy<'a> {
+    v: u16,
+    f: u16,
+    e: u16,
+    pages: &'a [Word],
+    frames: &'a [Word],
+}
+
+impl<'a> Policy<'a> {
+    fn read(record: &'a [u8]) -> Result<Self, Refusal> {
+        let mut reader = Reader::new(record);
+        let sizes = reader.words(4).ok_or(Refusal::RecordTooShort)?;
+        let [v, f, n, e] = [0, 1, 2, 3].map(|i| u16::from_le_bytes(sizes[i]));
+        if !(1..=MAX_PAGES).contains(&v) || !(1..=MAX_FRAMES).contains(&f) {
+            return Err(Refusal::SizeOutOfRange);
+        }
+        if !(1..=v).contains(&n) || !(1..=n.min(ENTRY_PAGES as u16)).contains(&e) {
+            return Err(Refusal::CountOutOfRange);
+        }
+        let pages = reader.words(n.into()).ok_or(Refusal::RecordLength)?;
+        let frames = reader.words(n.into()).ok_or(Refusal::RecordLength)?;
+        if !reader.is_at_end() {
+            return Err(Refusal::RecordLength);
+        }
+        if !are_rising_below(pages, v) {
+            return Err(Refusal::ListedPage);
+        }
+        if frames.iter().any(|&frame| u16::from_le_bytes(frame) >= f) {
+            return Err(Refusal::ListedFrame);
+        }
+        Ok(Policy { v, f, e, pages, frames })
+    }
+
+    /// The listed pages with their frames.
+    fn listed(&self) -> impl Iterator<Item = (u16, u16)> + 'a {
+        let pages = self.pages.iter().map(|&page| u16::from_le_bytes(page));
+        pages.zip(self.frames.iter().map(|&frame| u16::from_le_bytes(frame)))
+    }
+
+    /// Kernel mode on the first entry page.
+    fn state(&self) -> State {
+        let mut entry_pages = [0; ENTRY_PAGES];
+        for (place, (page, _)) in entry_pages.iter_mut().zip(self.listed()).take(self.e.into()) {
+            *place = page;
+        }
+        let mode = Mode::Kernel(entry_pages[0]);
+        State { v: self.v, f: self.f, e: self.e, entry_pages, mode }
+    }
+}
+
+fn are_rising_below(pages: &[Word], v: u16) -> bool {
+    let mut least = 0;
+    pages.iter().all(|&page| {
+        let page = u16::from_le_bytes(page);
+        let fits = least <= page && page < v;
+        least = page.saturating_add(1);
+        fits
+    })
+}
+
+/// Starts the guard: the state, and n and e or the refusal.
+pub fn start(
+    record: &[u8],
+    shadow: &mut [u64],
+    map: &mut [u16],
+    exclusion: &mut [u8],
+) -> (State, Answer) {
+    let policy = match Policy::read(record) {
+        Ok(policy) => policy,
+        Err(refusal) => return (State::REFUSED, Err(refusal)),
+    };
+    let v = usize::from(policy.v);
+    if shadow.len() != v || map.len() != v || exclusion.len() != vector_len(policy.f) {
+        return (State::REFUSED, Err(Refusal::StateOrTable));
+    }
+    set_tables(&policy, shadow, map, exclusion);
+    (policy.state(), Ok((policy.pages.len() as u64, policy.e.into())))
+}
+
+fn set_tables(policy: &Policy, shadow: &mut [u64], map: &mut [u16], exclusion: &mut [u8]) {
+    let mut gathered = [0u8; MAX_VECTOR];
+    shadow.fill(0);
+    map.fill(NO_FRAME);
+    for (page, frame) in policy.listed() {
+        shadow[usize::from(page)] = approved::<false>(framed(frame));
+        map[usize::from(page)] = frame;
+        gathered[usize::from(frame / 8)] |= 1 << (frame % 8);
+    }
+    exclusion.copy_from_slice(&gathered[..exclusion.len()]);
+}

@@ -1,0 +1,140 @@
+//! The guard's state, its answers and its refusal numbers.
+//! Question 7 about the state is asked here; each call asks it about the tables that it is lent.
+
+/// The largest number of virtual pages.
+pub const MAX_PAGES: u16 = 2048;
+/// The largest number of physical frames.
+pub const MAX_FRAMES: u16 = 4096;
+/// How many entry pages the state has room for.
+pub const ENTRY_PAGES: usize = 16;
+/// The bytes of a page and of a frame.
+pub const PAGE_BYTES: u64 = 4096;
+/// The bytes of the longest exclusion vector.
+pub(crate) const MAX_VECTOR: usize = MAX_FRAMES as usize / 8;
+
+/// The two numbers of an accepted call, or the number of the first question answered no.
+pub type Answer = Result<(u64, u64), Refusal>;
+
+/// The mode together with the page now running.
+#[derive(Clone, Copy, Debug, PartialEq, Eq)]
+pub enum Mode {
+    Kernel(u16),
+    User(u16),
+}
+
+impl Mode {
+    /// The page now running.
+    #[inline]
+    pub fn page(self) -> u16 {
+        match self {
+            Mode::Kernel(page) | Mode::User(page) => page,
+        }
+    }
+
+    #[inline]
+    pub fn is_user(self) -> bool {
+        matches!(self, Mode::User(_))
+    }
+
+    /// The same mode with another page running.
+    #[inline]
+    pub(crate) fn on(self, page: u16) -> Mode {
+        match self {
+            Mode::Kernel(_) => Mode::Kernel(page),
+            Mode::User(_) => Mode::User(page),
+        }
+    }
+}
+
+/// What the guard keeps beside the lent tables.
+#[derive(Clone, Copy, Debug, PartialEq, Eq)]
+pub struct State {
+    /// V, the number of virtual pages.
+    pub v: u16,
+    /// F, the number of physical frames.
+    pub f: u16,
+    /// The number of entry pages.
+    pub e: u16,
+    /// The entry pages; unused places are 0.
+    pub entry_pages: [u16; ENTRY_PAGES],
+    pub mode: Mode,
+}
+
+impl State {
+    /// The answer of a refused start, which has no state to keep.
+    pub const REFUSED: State =
+        State { v: 0, f: 0, e: 0, entry_pages: [0; ENTRY_PAGES], mode: Mode::User(0) };
+
+    /// Question 7 about the state alone.
+    #[inline]
+    pub fn is_sound(&self) -> bool {
+        (1..=MAX_PAGES).contains(&self.v)
+            && (1..=MAX_FRAMES).contains(&self.f)
+            && (1..=ENTRY_PAGES as u16).contains(&self.e)
+            && self.mode.page() < self.v
+    }
+
+    /// Question 7 for a call that is lent one table with a place for each page.
+    #[inline]
+    pub(crate) fn fits_pages(&self, places: usize) -> bool {
+        self.is_sound() && places == usize::from(self.v)
+    }
+
+    /// Question 7 for a call that is lent the exclusion vector.
+    #[inline]
+    pub(crate) fn fits_vector(&self, bytes: usize) -> bool {
+        self.is_sound() && bytes == vector_len(self.f)
+    }
+}
+
+/// The bytes of the exclusion vector of `frames` frames.
+#[inline]
+pub fn vector_len(frames: u16) -> usize {
+    usize::from(frames).div_ceil(8)
+}
+
+/// The number of the first question answered no.
+#[derive(Clone, Copy, Debug, PartialEq, Eq)]
+#[repr(u8)]
+pub enum Refusal {
+    RecordTooShort = 1,
+    SizeOutOfRange = 2,
+    CountOutOfRange = 3,
+    RecordLength = 4,
+    ListedPage = 5,
+    ListedFrame = 6,
+    StateOrTable = 7,
+    LengthOutOfRange = 8,
+    DoesNotExist = 9,
+    WrongMode = 10,
+    NotPresent = 11,
+    NotPermitted = 12,
+    Excluded = 13,
+    CallCutShort = 14,
+    UnknownKind = 15,
+}
+
+impl Refusal {
+    pub const ALL: [Refusal; 15] = [
+        Refusal::RecordTooShort,
+        Refusal::SizeOutOfRange,
+        Refusal::CountOutOfRange,
+        Refusal::RecordLength,
+        Refusal::ListedPage,
+        Refusal::ListedFrame,
+        Refusal::StateOrTable,
+        Refusal::LengthOutOfRange,
+        Refusal::DoesNotExist,
+        Refusal::WrongMode,
+        Refusal::NotPresent,
+        Refusal::NotPermitted,
+        Refusal::Excluded,
+        Refusal::CallCutShort,
+        Refusal::UnknownKind,
+    ];
+
+    #[inline]
+    pub fn number(self) -> u8 {
+        self as u8
+    }
+}

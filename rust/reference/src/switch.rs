@@ -1,0 +1,66 @@
+//! Enter and leave: the mode switch over the whole shadow table.
+//! A switch reads no kernel table; it assigns bit 63 of each present shadow entry and keeps all other bits.
+
+use crate::entry::{no_execute, APPROVED, KERNEL_NO_EXECUTE, PRESENT, USER};
+use crate::state::{Answer, Mode, Refusal, State, ENTRY_PAGES};
+
+/// Enters the kernel by an entry index: how many shadow entries changed, and 0.
+pub fn enter(state: &mut State, shadow: &mut [u64], index: u64) -> Answer {
+    if !state.fits_pages(shadow.len()) {
+        return Err(Refusal::StateOrTable);
+    }
+    if index >= u64::from(state.e) {
+        return Err(Refusal::DoesNotExist);
+    }
+    let page = state.entry_pages[index as usize % ENTRY_PAGES];
+    if page >= state.v {
+        return Err(Refusal::DoesNotExist);
+    }
+    if !state.mode.is_user() {
+        return Err(Refusal::WrongMode);
+    }
+    let entry = shadow[usize::from(page)];
+    if entry & PRESENT == 0 {
+        return Err(Refusal::NotPresent);
+    }
+    if entry & APPROVED == 0 {
+        return Err(Refusal::NotPermitted);
+    }
+    state.mode = Mode::Kernel(page);
+    Ok((switch::<false>(shadow), 0))
+}
+
+/// Leaves the kernel to a page: how many shadow entries changed, and 0.
+pub fn leave(state: &mut State, shadow: &mut [u64], page: u64) -> Answer {
+    if !state.fits_pages(shadow.len()) {
+        return Err(Refusal::StateOrTable);
+    }
+    if page >= u64::from(state.v) {
+        return Err(Refusal::DoesNotExist);
+    }
+    if state.mode.is_user() {
+        return Err(Refusal::WrongMode);
+    }
+    let entry = shadow[page as usize];
+    if entry & PRESENT == 0 {
+        return Err(Refusal::NotPresent);
+    }
+    if entry & (USER | KERNEL_NO_EXECUTE) != USER {
+        return Err(Refusal::NotPermitted);
+    }
+    state.mode = Mode::User(page as u16);
+    Ok((switch::<true>(shadow), 0))
+}
+
+/// Assigns bit 63 of each present entry for the new mode, and counts the entries that change.
+#[inline(always)]
+fn switch<const IN_USER: bool>(shadow: &mut [u64]) -> u64 {
+    let mut changed = 0;
+    for entry in shadow {
+        // The present bit, brought to bit 63, lets the difference through.
+        let difference = (*entry ^ no_execute::<IN_USER>(*entry)) & (*entry << 63);
+        *entry ^= difference;
+        changed += difference >> 63;
+    }
+    changed
+}

@@ -1,0 +1,163 @@
+//! Synchronising one page or all pages with the kernel table.
+//! One step serves the exact guard, the planted mistakes and the variant without approval; each is compiled apart.
+
+use crate::entry::{
+    approved, framed, is_excluded, ordinary, FRAME, FRAME_SHIFT, NO_FRAME, PRESENT,
+};
+use crate::fault;
+use crate::state::{Answer, Refusal, State, MAX_FRAMES, MAX_VECTOR};
+
+/// Question 7 for the four tables that a synchronisation is lent.
+#[inline(always)]
+fn fits(state: &State, kernel: &[u64], shadow: &[u64], map: &[u16], exclusion: &[u8]) -> bool {
+    let v = usize::from(state.v);
+    state.fits_vector(exclusion.len()) && kernel.len() == v && shadow.len() == v && map.len() == v
+}
+
+/// Steps 1 to 5 for one page: its shadow entry, and whether it joined the map. `frames_end` is F in a frame's place.
+#[inline(always)]
+fn step<const IN_USER: bool, const VARIANT: u8>(
+    kernel: u64,
+    place: &mut u16,
+    frames_end: u64,
+    exclusion: &[u8],
+) -> (u64, bool) {
+    if kernel & PRESENT == 0 {
+        if VARIANT == fault::FORGET_APPROVAL {
+            *place = NO_FRAME;
+        }
+        return (0, false);
+    }
+    let frame = kernel & FRAME;
+    if VARIANT != fault::NO_APPROVAL && *place != NO_FRAME {
+        let kept = if VARIANT == fault::TRUST_KERNEL_FRAME { frame } else { framed(*place) };
+        return (approved::<IN_USER>(kept), false);
+    }
+    if frame >= frames_end {
+        return (0, false);
+    }
+    let joins = VARIANT != fault::NO_APPROVAL && VARIANT != fault::WRITABLE_ALIAS;
+    if joins && is_excluded(exclusion, frame >> FRAME_SHIFT) {
+        *place = (frame >> FRAME_SHIFT) as u16;
+        return (approved::<IN_USER>(frame), true);
+    }
+    (ordinary::<IN_USER>(kernel), false)
+}
+
+#[inline(always)]
+pub(crate) fn one<const VARIANT: u8>(
+    state: &State,
+    kernel: &[u64],
+    shadow: &mut [u64],
+    map: &mut [u16],
+    exclusion: &[u8],
+    page: u64,
+) -> Answer {
+    if !fits(state, kernel, shadow, map, exclusion) {
+        return Err(Refusal::StateOrTable);
+    }
+    if page >= u64::from(state.v) {
+        return Err(Refusal::DoesNotExist);
+    }
+    let page = page as usize;
+    let frames_end = framed(state.f);
+    let (entry, joined) = if state.mode.is_user() {
+        step::<true, VARIANT>(kernel[page], &mut map[page], frames_end, exclusion)
+    } else {
+        step::<false, VARIANT>(kernel[page], &mut map[page], frames_end, exclusion)
+    };
+    let changed = shadow[page] != entry;
+    shadow[page] = entry;
+    Ok((changed.into(), joined.into()))
+}
+
+#[inline(always)]
+pub(crate) fn all<const VARIANT: u8>(
+    state: &State,
+    kernel: &[u64],
+    shadow: &mut [u64],
+    map: &mut [u16],
+    exclusion: &[u8],
+) -> Answer {
+    if !fits(state, kernel, shadow, map, exclusion) {
+        return Err(Refusal::StateOrTable);
+    }
+    Ok(if state.mode.is_user() {
+        run::<true, VARIANT>(state.f, kernel, shadow, map, exclusion)
+    } else {
+        run::<false, VARIANT>(state.f, kernel, shadow, map, exclusion)
+    })
+}
+
+/// The step for each page in rising order: how many entries changed and how many pages joined.
+#[inline(always)]
+fn run<const IN_USER: bool, const VARIANT: u8>(
+    frames: u16,
+    kernel: &[u64],
+    shadow: &mut [u64],
+    map: &mut [u16],
+    exclusion: &[u8],
+) -> (u64, u64) {
+    // A vector of fixed length: with the frame below F, the loop has no bounds check.
+    let mut vector = [0u8; MAX_VECTOR];
+    vector[..exclusion.len()].copy_from_slice(exclusion);
+    let frames_end = framed(frames.min(MAX_FRAMES));
+    let (mut changed, mut joined) = (0, 0);
+    for ((&kernel, shadow), place) in kernel.iter().zip(shadow).zip(map) {
+        let (entry, joins) = step::<IN_USER, VARIANT>(kernel, place, frames_end, &vector);
+        changed += u64::from(*shadow != entry);
+        joined += u64::from(joins);
+        *shadow = entry;
+    }
+    (changed, joined)
+}
+
+/// Synchronises one page: how many shadow entries changed, and how many pages joined the map.
+pub fn synchronise_one(
+    state: &State,
+    kernel: &[u64],
+    shadow: &mut [u64],
+    map: &mut [u16],
+    exclusion: &[u8],
+    page: u64,
+) -> Answer {
+    one::<{ fault::NONE }>(state, kernel, shadow, map, exclusion, page)
+}
+
+/// Synchronises all pages in rising order; the numbers are those of [`synchronise_one`].
+pub fn synchronise_all(
+    state: &State,
+    kernel: &[u64],
+    shadow: &mut [u64],
+    map: &mut [u16],
+    exclusion: &[u8],
+) -> Answer {
+    all::<{ fault::NONE }>(state, kernel, shadow, map, exclusion)
+}
+
+/// Synchronising without steps 2 and 4: the kernel's frame is always taken and no page joins.
+/// It shows what approval costs; it asks the same questions of the same tables, and it guards nothing.
+pub mod without_approval {
+    use super::{all, fault, one, Answer, State};
+
+    pub fn synchronise_one(
+        state: &State,
+        kernel: &[u64],
+        shadow: &mut [u64],
+        map: &mut [u16],
+        exclusion: &[u8],
+        page: u64,
+    ) -> Answer {
+        one::<{ fault::NO_APPROVAL }>(state, kernel, shadow, map, exclusion, page)
+    }
+
+    pub fn synchronise_all(
+        state: &State,
+        kernel: &[u64],
+        shadow: &mut [u64],
+        map: &mut [u16],
+        exclusion: &[u8],
+    ) -> Answer {
+        all::<{ fault::NO_APPROVAL }>(state, kernel, shadow, map, exclusion)
+    }
+}

@@ -1,0 +1,129 @@
+//! A started guard with its tables, for the tests of the reference.
+//! Each test file uses a part of it.
+#![allow(dead_code)]
+
+use reference::{Answer, Fault, Mode, Refusal, State};
+
+/// A policy record of these sizes and of listed pages with their frames.
+pub fn record(v: u16, f: u16, e: u16, listed: &[(u16, u16)]) -> Vec<u8> {
+    let sizes = [v, f, listed.len() as u16, e];
+    let pages = listed.iter().map(|&(page, _)| page);
+    let frames = listed.iter().map(|&(_, frame)| frame);
+    sizes.into_iter().chain(pages).chain(frames).flat_map(u16::to_le_bytes).collect()
+}
+
+/// The policy of document 01's cases: V 4, F 4, page 1 with frame 2.
+pub fn cases_record() -> Vec<u8> {
+    record(4, 4, 1, &[(1, 2)])
+}
+
+#[derive(Clone, Debug, PartialEq, Eq)]
+pub struct Guard {
+    pub state: State,
+    pub kernel: Vec<u64>,
+    pub shadow: Vec<u64>,
+    pub map: Vec<u16>,
+    pub exclusion: Vec<u8>,
+}
+
+impl Guard {
+    /// Starts on tables of the record's sizes that hold other values, which the start has to overwrite.
+    pub fn started(record: &[u8]) -> Guard {
+        let (guard, answer) = Guard::try_start(record);
+        answer.expect("the start is accepted");
+        guard
+    }
+
+    pub fn try_start(record: &[u8]) -> (Guard, Answer) {
+        let size = |place: usize| u16::from_le_bytes([record[place], record[place + 1]]);
+        let (v, f) = (usize::from(size(0)), size(2));
+        let mut guard = Guard {
+            state: State::REFUSED,
+            kernel: vec![0; v],
+            shadow: vec![0x1234; v],
+            map: vec![7; v],
+            exclusion: vec![0xff; reference::vector_len(f)],
+        };
+        let (state, answer) =
+            reference::start(record, &mut guard.shadow, &mut guard.map, &mut guard.exclusion);
+        guard.state = state;
+        (guard, answer)
+    }
+
+    pub fn cases() -> Guard {
+        Guard::started(&cases_record())
+    }
+
+    /// The started guard with its mode replaced by user; no leave can reach it there.
+    pub fn cases_in_user_mode() -> Guard {
+        let mut guard = Guard::cases();
+        guard.state.mode = Mode::User(1);
+        guard
+    }
+
+    /// Edits one kernel entry and synchronises its page.
+    pub fn synchronise(&mut self, page: usize, entry: u64) -> Answer {
+        self.kernel[page] = entry;
+        self.synchronise_one(page as u64)
+    }
+
+    pub fn synchronise_one(&mut self, page: u64) -> Answer {
+        let Guard { state, kernel, shadow, map, exclusion } = self;
+        reference::synchronise_one(state, kernel, shadow, map, exclusion, page)
+    }
+
+    pub fn synchronise_all(&mut self) -> Answer {
+        let Guard { state, kernel, shadow, map, exclusion } = self;
+        reference::synchronise_all(state, kernel, shadow, map, exclusion)
+    }
+
+    pub fn fetch(&mut self, page: u64) -> Answer {
+        reference::fetch(&mut self.state, &self.shadow, page)
+    }
+
+    pub fn write(&self, address: u64, length: u64) -> Answer {
+        reference::write(&self.state, &self.shadow, &self.exclusion, address, length)
+    }
+
+    pub fn enter(&mut self, index: u64) -> Answer {
+        reference::enter(&mut self.state, &mut self.shadow, index)
+    }
+
+    pub fn leave(&mut self, page: u64) -> Answer {
+        reference::leave(&mut self.state, &mut self.shadow, page)
+    }
+
+    pub fn device_write(&self, address: u64, length: u64) -> Answer {
+        reference::device_write(&self.state, &self.exclusion, address, length)
+    }
+}
+
+/// A refusal by its number.
+pub fn refused(number: u8) -> Answer {
+    Err(Refusal::ALL[usize::from(number) - 1])
+}
+
+/// Numbers that differ from run to run only by their seed (xorshift).
+pub struct Random(pub u64);
+
+impl Random {
+    pub fn next(&mut self) -> u64 {
+        self.0 ^= self.0 << 13;
+        self.0 ^= self.0 >> 7;
+        self.0 ^= self.0 << 17;
+        self.0.wrapping_mul(0x2545_f491_4f6c_dd1d)
+    }
+
+    pub fn below(&mut self, end: u64) -> u64 {
+        (self.next() >> 11) % end
+    }
+
+    pub fn one_in(&mut self, count: u64) -> bool {
+        self.below(count) == 0
+    }
+}
+
+/// All mistakes and the guard without one.
+pub fn all_faults() -> impl Iterator<Item = Fault> {
+    std::iter::once(Fault::None).chain(Fault::PLANTED)
+}
