@@ -7,4 +7,6 @@ pub mod Sync
 pub mod Calls
 pub mod Questions
 pub mod Lists
+pub mod OnePage
+pub mod Claim
 pub mod Cases

@@ -1,0 +1,106 @@
+-- Document 01, "The list and the one-page guard of demand 3", second part: the one-page guard of a page, and how the one-page guards
+-- settle a call. A one-page guard is a function of the policy, of what it holds and of what it is told, and of no call, table or other page.
+use Prim.Native.Nat.{ℕ, _+_}
+use mathlib.Core.Bool.{Bool, true, false, cond}
+use mathlib.Core.List.{List}
+use lib.ListN.{length, getD}
+use lib.Dec.{eqb}
+use Rattle.model.specs.Edges.{member}
+use Rattle.model.specs.Keeps.{none, Guard}
+use Rattle.model.specs.Policy.{Policy, frameFor, named, entryPages}
+use Rattle.model.specs.Bits.{approved, switched}
+use Rattle.model.specs.Sync.{Place, step}
+use Rattle.model.specs.Questions.{View, firstNo, syncPageAsks, syncAllAsks, fetchAsks, writeAsks, enterAsks, leaveAsks, deviceWriteAsks}
+use Rattle.model.specs.Calls.{settle}
+use Rattle.model.specs.Lists.{Call, syncPage, syncAll, fetch, write, enter, leave, deviceWrite}
+
+-- "The one-page guard of a page p holds a mode (kernel or user alone, with no running page), an entry and an approval." It keeps its own
+-- set of excluded frames, which are the policy's in the base.
+pub record Page : Type 0 where
+  pub user : Bool
+  pub entry : ℕ
+  pub approval : ℕ
+  pub excluded : ℕ → Bool
+
+-- "It is told the policy record, each accepted synchronisation of p, alone or with others, with the kernel table's entry for p at that
+-- call, and each accepted enter and leave."
+pub data News : Type 0 where
+  synchronised : (entry : ℕ) → News
+  entered : News
+  left : News
+  nothing : News
+
+-- "Start: kernel mode. If p is listed, the approval is its listed frame and the entry the approved one for it; else 65535 and 0."
+unfoldable pub firstPage : Policy → ℕ → Page
+firstPage policy p =
+    let listed : Bool = member p (policy .listed) in
+    let frame : ℕ = frameFor (policy .listed) (policy .backing) p none in
+    record {
+      user = false;
+      entry = cond listed (approved false frame) 0;
+      approval = cond listed frame none;
+      excluded = named policy;
+    }
+
+-- "Enter: kernel mode. Leave: user mode. After either, a present entry has bit 63 by the rules above, its other bits kept."
+unfoldable pub turned : Bool → Page → Page
+turned user page =
+    record { user = user; entry = switched user (page .entry); approval = page .approval; excluded = page .excluded }
+
+-- "Synchronising p: steps 1 to 5 on the entry told, with its own mode, its approval as the map's place for p, and as the excluded ones the
+-- policy's frames".
+unfoldable pub stepped : Policy → Page → ℕ → Page
+stepped policy page k =
+    let p : Place = step (record { user = page .user; frames = policy .frames; excluded = page .excluded }) k (page .approval) in
+    record { user = page .user; entry = p .entry; approval = p .approval; excluded = page .excluded }
+
+unfoldable pub told : Policy → Page → News → Page
+told policy page (synchronised k) = stepped policy page k
+told policy page entered = turned false page
+told policy page left = turned true page
+told policy page nothing = page
+
+-- What an accepted call tells the one-page guard of p. "Synchronising another page only, fetch, write, device write [..]: no change."
+unfoldable pub news : ℕ → Call → News
+news p (syncPage kernel page) = cond (eqb p page) (synchronised (getD kernel p 0)) nothing
+news p (syncAll kernel) = synchronised (getD kernel p 0)
+news p (fetch page) = nothing
+news p (write address length) = nothing
+news p (enter index) = entered
+news p (leave page) = left
+news p (deviceWrite address length) = nothing
+
+-- What the questions look at, made of the policy and the one-page guards. They were all told the same switches, so that the mode, and the
+-- excluded frames, are read off page 0's. "the state and guard tables pass question 7"
+abbrev pub seenBy : Policy → (ℕ → Page) → View
+seenBy policy ps =
+    record {
+      pages = policy .pages;
+      frames = policy .frames;
+      entries = policy .entries;
+      entry = λ i. getD (entryPages policy) i 0;
+      user = (ps 0) .user;
+      shadow = λ p. (ps p) .entry;
+      approval = λ p. (ps p) .approval;
+      excluded = (ps 0) .excluded;
+      stateFits = true;
+      shadowFits = true;
+      mapFits = true;
+      exclusionFits = true;
+    }
+
+-- "Whether a call is accepted, and else its number, is settled by the questions in order from its arguments and the policy, with the mode,
+-- entries, approvals and excluded frames of the one-page guards". "Only what else a later request asks about is read from the state and
+-- tables that reach the call": the last guard argument, of which the base reads nothing.
+unfoldable pub settled : Policy → (ℕ → Page) → Guard → Call → ℕ
+settled policy ps reaching (syncPage kernel page) = firstNo (syncPageAsks (seenBy policy ps) (length kernel) page)
+settled policy ps reaching (syncAll kernel) = firstNo (syncAllAsks (seenBy policy ps) (length kernel))
+settled policy ps reaching (fetch page) = firstNo (fetchAsks (seenBy policy ps) page)
+settled policy ps reaching (write address length) = firstNo (writeAsks (seenBy policy ps) address length)
+settled policy ps reaching (enter index) = firstNo (enterAsks (seenBy policy ps) index)
+settled policy ps reaching (leave page) = firstNo (leaveAsks (seenBy policy ps) page)
+settled policy ps reaching (deviceWrite address length) = firstNo (deviceWriteAsks (seenBy policy ps) address length)
+
+-- The one-page guards after a call that was settled with this number: told of it if it was accepted. "any refused call: no change"
+unfoldable pub pagesAfter : Policy → ℕ → Call → (ℕ → Page) → ℕ → Page
+pagesAfter policy number call ps p = settle number (told policy (ps p) (news p call)) (λ n. ps p)
