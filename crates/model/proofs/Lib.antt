@@ -1,2 +1,4 @@
 -- Laws about the definitions, each stated once. Code crates cite them.
 pub mod AskLaws
+pub mod TableLaws
+pub mod PolicyLaws
