@@ -1,4 +1,5 @@
 -- Laws about the definitions, each stated once. Code crates cite them.
 pub mod AskLaws
+pub mod BitLaws
 pub mod TableLaws
 pub mod PolicyLaws
