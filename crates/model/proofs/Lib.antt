@@ -3,3 +3,6 @@ pub mod AskLaws
 pub mod BitLaws
 pub mod TableLaws
 pub mod PolicyLaws
+pub mod ClaimPages
+pub mod ClaimRun
+pub mod ClaimKept
