@@ -38,7 +38,7 @@ abbrev pub placed : Page → Place → Page
 placed page p = record { user = page .user; entry = p .entry; approval = p .approval; excluded = page .excluded }
 
 module _ (code : ℕ → Bool) (page : Page) where
-  good-absent : (a : ℕ) → (eqb a none ≡ false → code a ≡ true) → Good code (placed page (place 0 a))
+  pub good-absent : (a : ℕ) → (eqb a none ≡ false → code a ≡ true) → Good code (placed page (place 0 a))
   unfolding present Rattle.model.specs.Edges.bit
   good-absent a h =
       record {
@@ -48,7 +48,7 @@ module _ (code : ℕ → Bool) (page : Page) where
         executable = λ u p q. absurd (false≢true p);
       }
 
-  good-approved : (f : ℕ) → code f ≡ true → f < 4096 → Good code (placed page (place (approved (page .user) f) f))
+  pub good-approved : (f : ℕ) → code f ≡ true → f < 4096 → Good code (placed page (place (approved (page .user) f) f))
   good-approved f h l =
       record {
         approval = λ p. h;
@@ -130,8 +130,8 @@ turned-good user code page h =
       marked = λ p q. h .marked (rw present-switched at p) (rw approvedMark-switched at q);
       frame = λ p q. frameOf-switched user (page .entry) ∙ h .frame (rw present-switched at p) (rw approvedMark-switched at q);
       executable = λ u p q.
-        let ruled : noExecuteIn user (page .entry) ≡ false = sym (noExecute-switched user (page .entry) (rw present-switched at p)) ∙ q in
-        rw approvedMark-switched (clear-marked (page .entry) (rw u at ruled));
+          let ruled : noExecuteIn user (page .entry) ≡ false = sym (noExecute-switched user (page .entry) (rw present-switched at p)) ∙ q in
+          rw approvedMark-switched (clear-marked (page .entry) (rw u at ruled));
     }
 
 -- Everything that a one-page guard is told keeps it good.

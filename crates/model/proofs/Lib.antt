@@ -6,3 +6,8 @@ pub mod PolicyLaws
 pub mod ClaimPages
 pub mod ClaimRun
 pub mod ClaimKept
+pub mod ClaimAsks
+pub mod ClaimCalls
+pub mod ClaimSafe
+pub mod ClaimStart
+pub mod ClaimLists

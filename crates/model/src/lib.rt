@@ -2,6 +2,7 @@
 // The definitions themselves stand in specs/, one file for each section of document 01.
 
 ghost use Rattle.model.specs.Cases.{cases, Hold};
+ghost use Rattle.model.specs.Claim.{Claim};
 
 // Document 01, "What the guard keeps": the mode, kernel or user, together with the page now running.
 pub enum Mode {
@@ -46,4 +47,9 @@ pub enum Answer {
 // Document 01, C1 to C12: every row of the table holds of the definitions.
 pub fn twelve_cases()
     ensures { λ _. ⌜ Hold cases ⌝ }
+{}
+
+// Demand 3: one claim about every list of calls after an accepted start.
+pub fn every_list()
+    ensures { λ _. ⌜ Claim ⌝ }
 {}

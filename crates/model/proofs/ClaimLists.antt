@@ -1,0 +1,80 @@
+-- Demand 3: the claim about the whole list, by induction on it. One call at a time, refused or accepted, and then the rest.
+use Prim.Native.Nat.{ℕ, zero, suc}
+use mathlib.Core.Bool.{Bool}
+use mathlib.Core.List.{List, [], _∷_}
+use mathlib.Core.Path.{_≡_, refl, sym, ap, fun-ext, _∙_}
+use lib.ListN.{length}
+use native.Mathlib.Omega.{arith}
+use Rattle.model.specs.Keeps.{Guard}
+use Rattle.model.specs.Policy.{Policy, policyOf, named, startGuard}
+use Rattle.model.specs.Questions.{firstNo, startAsks}
+use Rattle.model.specs.Calls.{Outcome, settle, startOf, pageSynced, allSynced, switchTo}
+use Rattle.model.specs.Lists.{Call, syncPage, syncAll, fetch, write, enter, leave, deviceWrite, withSynced, withMoved, withSwitched, withReply, answer}
+use Rattle.model.specs.OnePage.{Page, firstPage, settled, pagesAfter}
+use Rattle.model.specs.Claim.{Agree, protectedAfter, Always, Claim}
+use Rattle.model.proofs.AskLaws.{settle-accepted, settle-refused}
+use Rattle.model.proofs.ClaimKept.{Sound, Kept, pageOf, acceptedOf, refusedOf, answered}
+use Rattle.model.proofs.ClaimCalls.{commutes, kept}
+use Rattle.model.proofs.ClaimSafe.{safe}
+use Rattle.model.proofs.ClaimStart.{sound, first-pages, start-kept}
+
+-- An accepted call has no number.
+accepted-number : (g : Guard) (call : Call) → (acceptedOf g call) .reply .number ≡ 0
+unfolding acceptedOf withSynced withMoved withSwitched withReply pageSynced allSynced switchTo
+accepted-number g (syncPage kernel page) = refl
+accepted-number g (syncAll kernel) = refl
+accepted-number g (fetch page) = refl
+accepted-number g (write address size) = refl
+accepted-number g (enter index) = refl
+accepted-number g (leave page) = refl
+accepted-number g (deviceWrite address size) = refl
+
+agree : (policy : Policy) (protected : ℕ → Bool) (g : Guard) → Kept policy protected g → Agree policy g (pageOf g)
+agree policy protected g h =
+    record {
+      shadowLength = h .shadowLength;
+      mapLength = h .mapLength;
+      exclusionLength = h .exclusionLength;
+      mode = λ p l. refl;
+      entry = λ p l. refl;
+      approval = λ p l. refl;
+    }
+
+always : (policy : Policy) → Sound policy → (calls : List Call) (protected : ℕ → Bool) (g : Guard) → Kept policy protected g
+    → Always policy protected g (pageOf g) calls
+unfolding protectedAfter pagesAfter
+always policy sound [] protected g h = agree policy protected g h
+always policy sound (call ∷ calls) protected g h = by-number (settled policy (pageOf g) g call) refl (always policy sound calls protected)
+  where
+    by-number : (n : ℕ) → settled policy (pageOf g) g call ≡ n → ((after : Guard) → Kept policy protected after → Always policy protected after (pageOf after) calls)
+        → Always policy protected g (pageOf g) (call ∷ calls)
+    by-number zero e rest =
+        let outcome : answer g call ≡ acceptedOf g call =
+        answered policy protected g sound h call ∙ settle-accepted (acceptedOf g call) (refusedOf g) e in
+        let pages : pagesAfter policy (settled policy (pageOf g) g call) call (pageOf g) ≡ pageOf ((acceptedOf g call) .guard) =
+        fun-ext (λ p. settle-accepted _ _ e ∙ commutes policy protected g sound h call e p) in (
+          agree policy protected g h,
+          rw (outcome, e) (accepted-number g call),
+          (λ _. rw outcome (safe policy protected g h call e)),
+          rw (outcome, pages) (rest ((acceptedOf g call) .guard) (kept policy protected g sound h call e)),
+        )
+    by-number (suc n) e rest =
+        let outcome : answer g call ≡ refusedOf g (suc n) =
+        answered policy protected g sound h call ∙ settle-refused n (acceptedOf g call) (refusedOf g) e in
+        let pages : pagesAfter policy (settled policy (pageOf g) g call) call (pageOf g) ≡ pageOf g = fun-ext (λ p. settle-refused n _ _ e) in
+        (agree policy protected g h, rw (outcome, e) refl, (λ z. absurd (omega arith)), rw (outcome, pages) (rest g h))
+
+pub claim : Claim
+unfolding startOf
+claim bytes shadow map exclusion calls accepted = by-number (firstNo (startAsks bytes (policyOf bytes) (length shadow) (length map) (length exclusion))) refl
+  where
+    by-number : (n : ℕ) → firstNo (startAsks bytes (policyOf bytes) (length shadow) (length map) (length exclusion)) ≡ n
+        → Always (policyOf bytes) (named (policyOf bytes)) ((startOf bytes shadow map exclusion) .guard) (firstPage (policyOf bytes)) calls
+    by-number zero e =
+        let guard : (startOf bytes shadow map exclusion) .guard ≡ startGuard (policyOf bytes) = ap (λ (o : Outcome). o .guard) (settle-accepted _ _ e) in
+        rw (guard, ← (first-pages bytes (length shadow) (length map) (length exclusion) e))
+        (always (policyOf bytes) (sound bytes (length shadow) (length map) (length exclusion) e) calls (named (policyOf bytes))
+        (startGuard (policyOf bytes)) (start-kept bytes (length shadow) (length map) (length exclusion) e))
+    by-number (suc n) e =
+        let number : (startOf bytes shadow map exclusion) .reply .number ≡ suc n = ap (λ (o : Outcome). o .reply .number) (settle-refused n _ _ e) in
+        absurd (omega arith)
