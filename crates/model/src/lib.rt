@@ -1,7 +1,10 @@
 // The declared types of the guard, and the functions that carry the theorems about its definitions.
 // The definitions themselves stand in specs/, one file for each section of document 01.
 
+ghost use mathlib.Core.Path.{_≡_};
 ghost use Rattle.model.specs.Cases.{cases, Hold};
+ghost use Rattle.model.specs.Drill.{drillOutput};
+ghost use Rattle.model.specs.Worked.{workedInput, workedOutput};
 
 // Document 01, "What the guard keeps": the mode, kernel or user, together with the page now running.
 pub enum Mode {
@@ -46,4 +49,9 @@ pub enum Answer {
 // Document 01, C1 to C12: every row of the table holds of the definitions.
 pub fn twelve_cases()
     ensures { λ _. ⌜ Hold cases ⌝ }
+{}
+
+// Document 01, the worked example: every byte of its output follows from the drill's definitions.
+pub fn worked_example()
+    ensures { λ _. ⌜ drillOutput workedInput ≡ workedOutput ⌝ }
 {}
