@@ -11,3 +11,4 @@ pub mod ClaimCalls
 pub mod ClaimSafe
 pub mod ClaimStart
 pub mod ClaimLists
+mod Computed

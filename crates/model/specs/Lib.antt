@@ -9,4 +9,6 @@ pub mod Questions
 pub mod Lists
 pub mod OnePage
 pub mod Claim
+pub mod Drill
+pub mod Worked
 pub mod Cases

@@ -1,8 +1,11 @@
 // The declared types of the guard, and the functions that carry the theorems about its definitions.
 // The definitions themselves stand in specs/, one file for each section of document 01.
 
+ghost use mathlib.Core.Path.{_≡_};
 ghost use Rattle.model.specs.Cases.{cases, Hold};
 ghost use Rattle.model.specs.Claim.{Claim};
+ghost use Rattle.model.specs.Drill.{drillOutput};
+ghost use Rattle.model.specs.Worked.{workedInput, workedOutput};
 
 // Document 01, "What the guard keeps": the mode, kernel or user, together with the page now running.
 pub enum Mode {
@@ -52,4 +55,9 @@ pub fn twelve_cases()
 // Demand 3: one claim about every list of calls after an accepted start.
 pub fn every_list()
     ensures { λ _. ⌜ Claim ⌝ }
+{}
+
+// Document 01, the worked example: every byte of its output follows from the drill's definitions.
+pub fn worked_example()
+    ensures { λ _. ⌜ drillOutput workedInput ≡ workedOutput ⌝ }
 {}

@@ -1,5 +1,5 @@
 //! The page guard of document 01 in plain Rust: a baseline for speed and the other side of differential tests.
-//! Tables are lent slices, a refused call changes nothing, and nothing here allocates but the claim of demand 3.
+//! Tables are lent slices, a refused call changes nothing, and no guard call allocates.
 #![forbid(unsafe_code)]
 
 mod access;

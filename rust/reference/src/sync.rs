@@ -14,34 +14,37 @@ fn fits(state: &State, kernel: &[u64], shadow: &[u64], map: &[u16], exclusion: &
     state.fits_vector(exclusion.len()) && kernel.len() == v && shadow.len() == v && map.len() == v
 }
 
-/// Steps 1 to 5 for one page: its shadow entry, and whether it joined the map. `frames_end` is F in a frame's place.
+/// Steps 1 to 5 for one page: its shadow entry. `frames_end` is F in a frame's place.
+/// A page that joins the map is counted where it joins, which is rare, and not on the common way.
 #[inline(always)]
 fn step<const IN_USER: bool, const VARIANT: u8>(
     kernel: u64,
     place: &mut u16,
     frames_end: u64,
-    exclusion: &[u8],
-) -> (u64, bool) {
+    is_excluded: impl Fn(u64) -> bool,
+    joined: &mut u64,
+) -> u64 {
     if kernel & PRESENT == 0 {
         if VARIANT == fault::FORGET_APPROVAL {
             *place = NO_FRAME;
         }
-        return (0, false);
+        return 0;
     }
     let frame = kernel & FRAME;
     if VARIANT != fault::NO_APPROVAL && *place != NO_FRAME {
         let kept = if VARIANT == fault::TRUST_KERNEL_FRAME { frame } else { framed(*place) };
-        return (approved::<IN_USER>(kept), false);
+        return approved::<IN_USER>(kept);
     }
     if frame >= frames_end {
-        return (0, false);
+        return 0;
     }
     let joins = VARIANT != fault::NO_APPROVAL && VARIANT != fault::WRITABLE_ALIAS;
-    if joins && is_excluded(exclusion, frame >> FRAME_SHIFT) {
+    if joins && is_excluded(frame >> FRAME_SHIFT) {
         *place = (frame >> FRAME_SHIFT) as u16;
-        return (approved::<IN_USER>(frame), true);
+        *joined += 1;
+        return approved::<IN_USER>(frame);
     }
-    (ordinary::<IN_USER>(kernel), false)
+    ordinary::<IN_USER>(kernel)
 }
 
 #[inline(always)]
@@ -61,14 +64,17 @@ pub(crate) fn one<const VARIANT: u8>(
     }
     let page = page as usize;
     let frames_end = framed(state.f);
-    let (entry, joined) = if state.mode.is_user() {
-        step::<true, VARIANT>(kernel[page], &mut map[page], frames_end, exclusion)
+    let is_excluded = |frame| is_excluded(exclusion, frame);
+    let place = &mut map[page];
+    let mut joined = 0;
+    let entry = if state.mode.is_user() {
+        step::<true, VARIANT>(kernel[page], place, frames_end, is_excluded, &mut joined)
     } else {
-        step::<false, VARIANT>(kernel[page], &mut map[page], frames_end, exclusion)
+        step::<false, VARIANT>(kernel[page], place, frames_end, is_excluded, &mut joined)
     };
     let changed = shadow[page] != entry;
     shadow[page] = entry;
-    Ok((changed.into(), joined.into()))
+    Ok((changed.into(), joined))
 }
 
 #[inline(always)]
@@ -98,15 +104,17 @@ fn run<const IN_USER: bool, const VARIANT: u8>(
     map: &mut [u16],
     exclusion: &[u8],
 ) -> (u64, u64) {
-    // A vector of fixed length: with the frame below F, the loop has no bounds check.
+    // A vector of fixed length, looked up by words: with the frame below F, the loop has no bounds check.
     let mut vector = [0u8; MAX_VECTOR];
     vector[..exclusion.len()].copy_from_slice(exclusion);
+    let (words, _) = vector.as_chunks::<8>();
+    let is_excluded =
+        |frame: u64| u64::from_le_bytes(words[(frame / 64) as usize]) >> (frame % 64) & 1 != 0;
     let frames_end = framed(frames.min(MAX_FRAMES));
     let (mut changed, mut joined) = (0, 0);
     for ((&kernel, shadow), place) in kernel.iter().zip(shadow).zip(map) {
-        let (entry, joins) = step::<IN_USER, VARIANT>(kernel, place, frames_end, &vector);
+        let entry = step::<IN_USER, VARIANT>(kernel, place, frames_end, is_excluded, &mut joined);
         changed += u64::from(*shadow != entry);
-        joined += u64::from(joins);
         *shadow = entry;
     }
     (changed, joined)

@@ -10,10 +10,13 @@ use reference::{fault, Answer, Fault};
 const LISTS: u64 = 400;
 const CALLS: u64 = 60;
 
-/// A valid record with few frames, so that aliases are frequent.
+/// A valid record: mostly with few frames, so that aliases are frequent, and now and then of the largest sizes.
 fn random_record(random: &mut Random) -> Vec<u8> {
-    let v = 1 + random.below(12);
-    let f = 1 + random.below(20);
+    let (v, f) = match random.below(40) {
+        0 => (2048, 4096),
+        1 => (1 + random.below(2048), 1 + random.below(4096)),
+        _ => (1 + random.below(12), 1 + random.below(20)),
+    };
     let mut listed = Vec::new();
     for page in 0..v {
         if random.one_in(3) {
@@ -23,7 +26,7 @@ fn random_record(random: &mut Random) -> Vec<u8> {
     if listed.is_empty() {
         listed.push((random.below(v) as u16, random.below(f) as u16));
     }
-    let e = 1 + random.below(listed.len() as u64);
+    let e = 1 + random.below(16.min(listed.len() as u64));
     record(v as u16, f as u16, e as u16, &listed)
 }
 

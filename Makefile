@@ -1,0 +1,4 @@
+# The commands of the README.
+.PHONY: test
+test:
+	bash tests/all

@@ -1,0 +1,14 @@
+-- The worked example: the drill's definitions compute to every byte of its output.
+use mathlib.Core.Path.{refl}
+use Rattle.model.specs.Cases.{policyBytes}
+use Rattle.model.specs.Worked.{workedInput, workedOutput}
+use Rattle.model.proofs.Computed.{computed}
+use Rattle.model.proofs.worked_example.Statement.{statement}
+use Rattle.model.proofs.worked_example.Tie as tie
+
+returns : tie.Need-returns
+unfolding computed policyBytes workedInput workedOutput
+returns c = refl
+
+pub worked-example-spec : {M : Type 1} → statement M
+worked-example-spec = tie.close (tie.spec returns)

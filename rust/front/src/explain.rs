@@ -1,0 +1,142 @@
+//! The lines that the drill prints, in words: the start, each call, the shadow entries and the share.
+//! One line of words for each line of the drill, in the same order.
+
+use crate::refusals::refusal;
+use crate::LineError;
+
+/// Explains the drill's output.
+pub fn explain(lines: &str) -> Result<String, LineError> {
+    let mut words = String::new();
+    let mut page = 0;
+    for (at, line) in lines.lines().enumerate() {
+        let explained = explain_line(line, &mut page);
+        words.push_str(&explained.map_err(|message| LineError::new(at + 1, message))?);
+        words.push('\n');
+    }
+    if words.is_empty() {
+        return Err(LineError::new(1, "the drill prints at least one line, and none is here"));
+    }
+    Ok(words)
+}
+
+/// `page` is the page of the next shadow entry.
+fn explain_line(line: &str, page: &mut u64) -> Result<String, String> {
+    let fields: Vec<_> = line.split_whitespace().collect();
+    match fields[..] {
+        [kind, number, first, second, mode, running] => {
+            let (number, first, second) = (decimal(number)?, decimal(first)?, decimal(second)?);
+            let place = format!("{} mode, page {}", mode_word(mode)?, decimal(running)?);
+            let outcome = explain_call(kind, number, (first, second))?;
+            let is_refused_start = kind == "S" && number != 0;
+            let ending = if is_refused_start { "; no guard was started" } else { "" };
+            Ok(format!("{outcome}; {place}{ending}"))
+        }
+        ["share", share] => {
+            Ok(format!("share: {} percent of the frames are excluded", decimal(share)?))
+        }
+        [entry] => {
+            let explained = explain_entry(*page, hexadecimal(entry)?);
+            *page += 1;
+            Ok(explained)
+        }
+        _ => Err(format!("'{line}' is no line of the drill")),
+    }
+}
+
+fn explain_call(kind: &str, number: u64, numbers: (u64, u64)) -> Result<String, String> {
+    let name = match kind {
+        "S" => "start",
+        "X" => "calls ended",
+        "0" => "edit",
+        "1" => "synchronise page",
+        "2" => "synchronise all",
+        "3" => "fetch",
+        "4" => "write",
+        "5" => "enter",
+        "6" => "leave",
+        "7" => "device write",
+        _ => return Err(format!("'{kind}' is no kind of call")),
+    };
+    if number == 0 {
+        return match kind {
+            "X" => Err("an X line carries a refusal number".into()),
+            _ => Ok(format!("{name} accepted{}", explain_numbers(kind, numbers))),
+        };
+    }
+    let refusal = refusal(number).ok_or(format!("{number} is no refusal number"))?;
+    let verb = if kind == "X" { "" } else { " refused" };
+    Ok(format!("{name}{verb}: {number}, {}", refusal.words))
+}
+
+/// What the two numbers of an accepted call say.
+fn explain_numbers(kind: &str, (first, second): (u64, u64)) -> String {
+    match kind {
+        "S" => {
+            let pages = counted(first, "page listed", "pages listed");
+            format!(": {pages}, {}", counted(second, "entry page", "entry pages"))
+        }
+        "1" | "2" => {
+            let joined = counted(second, "page joined the map", "pages joined the map");
+            format!(": {}, {joined}", changed(first))
+        }
+        "3" => format!(": frame {first}"),
+        "4" | "7" => format!(": first frame {first}, last frame {second}"),
+        "5" | "6" => format!(": {}", changed(first)),
+        _ => String::new(),
+    }
+}
+
+fn changed(count: u64) -> String {
+    counted(count, "shadow entry changed", "shadow entries changed")
+}
+
+fn counted(count: u64, one: &str, many: &str) -> String {
+    format!("{count} {}", if count == 1 { one } else { many })
+}
+
+/// A shadow entry by its bits; bits without a name are shown as a number.
+fn explain_entry(page: u64, entry: u64) -> String {
+    const FRAME: u64 = ((1 << 40) - 1) << 12;
+    const NAMES: [(u32, &str); 6] = [
+        (0, "present"),
+        (1, "writable"),
+        (2, "user"),
+        (10, "approved"),
+        (9, "no-execute in the kernel entry"),
+        (63, "no-execute"),
+    ];
+    if entry == 0 {
+        return format!("page {page}: absent");
+    }
+    let named = NAMES.iter().filter(|(bit, _)| entry >> bit & 1 == 1);
+    let mut words: Vec<_> = named.map(|&(_, name)| name.to_string()).collect();
+    if entry & 1 == 0 {
+        words.insert(0, "absent".into());
+    }
+    words.push(format!("frame {}", (entry & FRAME) >> 12));
+    let other = NAMES.iter().fold(entry & !FRAME, |rest, (bit, _)| rest & !(1 << bit));
+    if other != 0 {
+        words.push(format!("other bits 0x{other:x}"));
+    }
+    format!("page {page}: {}", words.join(", "))
+}
+
+fn mode_word(mode: &str) -> Result<&'static str, String> {
+    match mode {
+        "K" => Ok("kernel"),
+        "U" => Ok("user"),
+        _ => Err(format!("the mode is K or U, not '{mode}'")),
+    }
+}
+
+fn decimal(word: &str) -> Result<u64, String> {
+    let is_decimal = word.bytes().all(|digit| digit.is_ascii_digit());
+    let number = word.parse().ok().filter(|_| is_decimal);
+    number.ok_or(format!("a decimal number is expected, not '{word}'"))
+}
+
+fn hexadecimal(word: &str) -> Result<u64, String> {
+    let is_entry = word.len() == 16 && word.bytes().all(|digit| digit.is_ascii_hexdigit());
+    let number = u64::from_str_radix(word, 16).ok().filter(|_| is_entry);
+    number.ok_or(format!("'{word}' is no line of the drill"))
+}

@@ -1,0 +1,45 @@
+//! The readable front of the page guard: scripts become drill input, drill output becomes words.
+//! The words of the refusal numbers come from docs/refusals.txt alone.
+#![forbid(unsafe_code)]
+
+mod explain;
+mod refusals;
+mod run;
+mod script;
+
+use std::fmt;
+
+pub use explain::explain;
+pub use refusals::{refusals, refusals_page, RefusalWords};
+pub use run::{run, Explained, RunError};
+pub use script::encode;
+
+/// What is wrong with a line of a script or of drill output. Lines are counted from 1.
+#[derive(Clone, Debug, PartialEq, Eq)]
+pub struct LineError {
+    pub line: usize,
+    pub message: String,
+}
+
+impl LineError {
+    fn new(line: usize, message: impl Into<String>) -> Self {
+        LineError { line, message: message.into() }
+    }
+}
+
+impl fmt::Display for LineError {
+    fn fmt(&self, f: &mut fmt::Formatter) -> fmt::Result {
+        write!(f, "line {}: {}", self.line, self.message)
+    }
+}
+
+impl std::error::Error for LineError {}
+
+/// Text from bytes; the error names the line of the first byte that is no text.
+pub fn text(bytes: Vec<u8>) -> Result<String, LineError> {
+    String::from_utf8(bytes).map_err(|error| {
+        let before = &error.as_bytes()[..error.utf8_error().valid_up_to()];
+        let line = 1 + before.iter().filter(|&&byte| byte == b'\n').count();
+        LineError::new(line, "the text is not UTF-8")
+    })
+}

@@ -1,0 +1,265 @@
+//! A readable script of a policy and calls becomes the bytes that the drill reads.
+//! Only what the binary form asks is checked, that each number fits its field, so refused calls can be written too.
+
+use crate::LineError;
+
+/// The field of the binary form that a number goes to.
+#[derive(Clone, Copy)]
+struct Field {
+    name: &'static str,
+    largest: u64,
+}
+
+const PAGES: Field = field16("number of pages");
+const FRAMES: Field = field16("number of frames");
+const LISTED: Field = field16("number of listed pages");
+const ENTRIES: Field = field16("number of entry pages");
+const PAGE: Field = field16("page");
+const FRAME: Field = field16("frame");
+const INDEX: Field = field16("index");
+const LENGTH: Field = Field { name: "length", largest: u32::MAX as u64 };
+const ADDRESS: Field = Field { name: "address", largest: u64::MAX };
+const ENTRY: Field = Field { name: "entry", largest: u64::MAX };
+const VALUE: Field = Field { name: "value", largest: u64::MAX };
+const BYTE: Field = Field { name: "byte", largest: u8::MAX as u64 };
+const KIND: Field = Field { name: "kind", largest: u8::MAX as u64 };
+
+const fn field16(name: &'static str) -> Field {
+    Field { name, largest: u16::MAX as u64 }
+}
+
+const ITEMS: &str = "policy, approve, edit, synchronise, fetch, write, enter, leave, \
+device-write, call or bytes";
+
+/// Encodes a script as drill input.
+pub fn encode(script: &str) -> Result<Vec<u8>, LineError> {
+    let mut encoder = Encoder::default();
+    for (at, line) in script.lines().enumerate() {
+        let item = line.split('#').next().unwrap_or_default();
+        let mut words = Words { line: at + 1, rest: item.split_whitespace() };
+        if let Some(name) = words.rest.next() {
+            encoder.item(name, &mut words)?;
+            words.end()?;
+        }
+    }
+    encoder.finish(script.lines().count().max(1))
+}
+
+/// The words of one line that are still to be read.
+struct Words<'a> {
+    line: usize,
+    rest: std::str::SplitWhitespace<'a>,
+}
+
+impl Words<'_> {
+    fn error<T>(&self, message: String) -> Result<T, LineError> {
+        Err(LineError::new(self.line, message))
+    }
+
+    /// A name that has to come next.
+    fn name(&mut self, name: &str) -> Result<(), LineError> {
+        match self.rest.next() {
+            Some(found) if found == name => Ok(()),
+            Some(found) => self.error(format!("'{name}' is expected, not '{found}'")),
+            None => self.error(format!("'{name}' is missing")),
+        }
+    }
+
+    /// A name that may come next.
+    fn has_name(&mut self, name: &str) -> bool {
+        let mut ahead = self.rest.clone();
+        let found = ahead.next() == Some(name);
+        if found {
+            self.rest = ahead;
+        }
+        found
+    }
+
+    /// A name and its number.
+    fn named(&mut self, name: &str, field: Field) -> Result<u64, LineError> {
+        self.name(name)?;
+        self.number(field)
+    }
+
+    fn named16(&mut self, name: &str, field: Field) -> Result<u16, LineError> {
+        Ok(self.named(name, field)? as u16)
+    }
+
+    fn number(&mut self, field: Field) -> Result<u64, LineError> {
+        let Field { name, largest } = field;
+        let Some(word) = self.rest.next() else {
+            return self.error(format!("the {name} is missing"));
+        };
+        let (digits, radix) = match word.strip_prefix("0x") {
+            Some(digits) => (digits, 16),
+            None => (word, 10),
+        };
+        if digits.is_empty() || !digits.chars().all(|digit| digit.is_digit(radix)) {
+            return self.error(format!(
+                "the {name} is a number, decimal or hexadecimal with 0x, not '{word}'"
+            ));
+        }
+        match u64::from_str_radix(digits, radix) {
+            Ok(number) if number <= largest => Ok(number),
+            _ => self.error(format!("the {name} {word} does not fit its field, at most {largest}")),
+        }
+    }
+
+    fn end(&mut self) -> Result<(), LineError> {
+        match self.rest.next() {
+            None => Ok(()),
+            Some(word) => self.error(format!("'{word}' is too much on this line")),
+        }
+    }
+}
+
+/// A policy that is being listed.
+struct Policy {
+    pages: u16,
+    frames: u16,
+    /// Given only to write a record whose counts do not fit its arrays.
+    listed: Option<u16>,
+    entries: Option<u16>,
+    entry_pages: Vec<(u16, u16)>,
+    other_pages: Vec<(u16, u16)>,
+}
+
+impl Policy {
+    fn read(words: &mut Words) -> Result<Policy, LineError> {
+        let pages = words.named16("pages", PAGES)?;
+        let frames = words.named16("frames", FRAMES)?;
+        let mut count = |name: &str, field| {
+            let is_given = words.has_name(name);
+            is_given.then(|| words.number(field).map(|number| number as u16)).transpose()
+        };
+        let listed = count("listed", LISTED)?;
+        let entries = count("entries", ENTRIES)?;
+        Ok(Policy { pages, frames, listed, entries, entry_pages: vec![], other_pages: vec![] })
+    }
+
+    fn approve(&mut self, words: &mut Words) -> Result<(), LineError> {
+        let approval = (words.named16("page", PAGE)?, words.named16("frame", FRAME)?);
+        if self.entry_pages.len() + self.other_pages.len() == usize::from(u16::MAX) {
+            return words.error("a policy lists at most 65535 pages".into());
+        }
+        if words.has_name("entry") {
+            self.entry_pages.push(approval);
+        } else {
+            self.other_pages.push(approval);
+        }
+        Ok(())
+    }
+
+    /// Sizes, pages, frames; entry pages come first.
+    fn record(&self) -> Vec<u8> {
+        let approvals = || self.entry_pages.iter().chain(&self.other_pages);
+        let listed = self.listed.unwrap_or(approvals().count() as u16);
+        let entries = self.entries.unwrap_or(self.entry_pages.len() as u16);
+        let sizes = [self.pages, self.frames, listed, entries];
+        let pages = approvals().map(|&(page, _)| page);
+        let frames = approvals().map(|&(_, frame)| frame);
+        sizes.into_iter().chain(pages).chain(frames).flat_map(u16::to_le_bytes).collect()
+    }
+}
+
+/// The 16 bytes of a call.
+fn call(kind: u8, index: u16, length: u64, value: u64) -> [u8; 16] {
+    let mut bytes = [0; 16];
+    bytes[0] = kind;
+    bytes[2..4].copy_from_slice(&index.to_le_bytes());
+    bytes[4..8].copy_from_slice(&(length as u32).to_le_bytes());
+    bytes[8..].copy_from_slice(&value.to_le_bytes());
+    bytes
+}
+
+#[derive(Default)]
+struct Encoder {
+    /// The policy, until the first call closes it.
+    policy: Option<Policy>,
+    bytes: Vec<u8>,
+    has_begun: bool,
+}
+
+impl Encoder {
+    fn item(&mut self, name: &str, words: &mut Words) -> Result<(), LineError> {
+        match name {
+            "policy" => self.begin(words),
+            "approve" => match &mut self.policy {
+                Some(policy) => policy.approve(words),
+                None => words.error("'approve' comes after the policy and before the calls".into()),
+            },
+            "bytes" => {
+                self.close_policy();
+                self.raw_bytes(words)
+            }
+            _ => {
+                let bytes = read_call(name, words)?;
+                if !self.has_begun {
+                    return words.error("a script begins with its policy".into());
+                }
+                self.close_policy();
+                self.bytes.extend(bytes);
+                Ok(())
+            }
+        }
+    }
+
+    fn begin(&mut self, words: &mut Words) -> Result<(), LineError> {
+        if self.has_begun {
+            return words.error("a script has one policy, at its beginning".into());
+        }
+        self.has_begun = true;
+        self.policy = Some(Policy::read(words)?);
+        Ok(())
+    }
+
+    fn close_policy(&mut self) {
+        if let Some(policy) = self.policy.take() {
+            self.bytes.extend(policy.record());
+        }
+    }
+
+    fn raw_bytes(&mut self, words: &mut Words) -> Result<(), LineError> {
+        self.has_begun = true;
+        while words.rest.clone().next().is_some() {
+            self.bytes.push(words.number(BYTE)? as u8);
+        }
+        Ok(())
+    }
+
+    fn finish(mut self, last_line: usize) -> Result<Vec<u8>, LineError> {
+        if !self.has_begun {
+            return Err(LineError::new(last_line, "the script has no policy"));
+        }
+        self.close_policy();
+        Ok(self.bytes)
+    }
+}
+
+fn read_call(name: &str, words: &mut Words) -> Result<[u8; 16], LineError> {
+    Ok(match name {
+        "edit" => {
+            let page = words.named16("page", PAGE)?;
+            call(0, page, 0, words.named("entry", ENTRY)?)
+        }
+        "synchronise" if words.has_name("all") => call(2, 0, 0, 0),
+        "synchronise" => call(1, words.named16("page", PAGE)?, 0, 0),
+        "fetch" => call(3, words.named16("page", PAGE)?, 0, 0),
+        "write" => read_access(4, words)?,
+        "enter" => call(5, words.named16("index", INDEX)?, 0, 0),
+        "leave" => call(6, words.named16("page", PAGE)?, 0, 0),
+        "device-write" => read_access(7, words)?,
+        "call" => {
+            let kind = words.named("kind", KIND)? as u8;
+            let index = words.named16("index", INDEX)?;
+            let length = words.named("length", LENGTH)?;
+            call(kind, index, length, words.named("value", VALUE)?)
+        }
+        _ => return words.error(format!("'{name}' is no item; an item is {ITEMS}")),
+    })
+}
+
+fn read_access(kind: u8, words: &mut Words) -> Result<[u8; 16], LineError> {
+    let address = words.named("address", ADDRESS)?;
+    Ok(call(kind, 0, words.named("length", LENGTH)?, address))
+}

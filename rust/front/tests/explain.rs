@@ -1,0 +1,111 @@
+//! Drill lines become words: every kind of line, every refusal number, and lines that are none.
+//! The refusal words are compared with docs/refusals.txt in tests/refusals.rs.
+
+mod common;
+
+use front::{explain, refusals};
+
+/// The words of one line.
+fn words(line: &str) -> String {
+    let explained = explain(line).unwrap();
+    explained.strip_suffix('\n').expect("each line ends").to_string()
+}
+
+#[test]
+fn accepted_calls() {
+    let lines = [
+        ("S 0 1 1 K 1", "start accepted: 1 page listed, 1 entry page; kernel mode, page 1"),
+        ("S 0 10 2 K 0", "start accepted: 10 pages listed, 2 entry pages; kernel mode, page 0"),
+        ("0 0 0 0 K 1", "edit accepted; kernel mode, page 1"),
+        (
+            "1 0 1 1 K 1",
+            "synchronise page accepted: 1 shadow entry changed, 1 page joined the map; kernel mode, page 1",
+        ),
+        (
+            "2 0 5 0 U 4",
+            "synchronise all accepted: 5 shadow entries changed, 0 pages joined the map; user mode, page 4",
+        ),
+        ("3 0 2 2 K 7", "fetch accepted: frame 2; kernel mode, page 7"),
+        ("4 0 3 5 U 2", "write accepted: first frame 3, last frame 5; user mode, page 2"),
+        ("5 0 3 0 K 1", "enter accepted: 3 shadow entries changed; kernel mode, page 1"),
+        ("6 0 1 0 U 3", "leave accepted: 1 shadow entry changed; user mode, page 3"),
+        ("7 0 1 9 U 3", "device write accepted: first frame 1, last frame 9; user mode, page 3"),
+    ];
+    for (line, expected) in lines {
+        assert_eq!(words(line), expected);
+    }
+}
+
+#[test]
+fn refused_calls() {
+    let lines = [
+        ("0 9 0 0 K 1", "edit refused: 9, the thing named does not exist; kernel mode, page 1"),
+        ("1 9 0 0 U 1", "synchronise page refused: 9, the thing named does not exist; user mode, page 1"),
+        ("3 11 0 0 K 1", "fetch refused: 11, a touched page is not present; kernel mode, page 1"),
+        ("4 12 0 0 K 1", "write refused: 12, a touched page does not permit it; kernel mode, page 1"),
+        ("5 10 0 0 K 1", "enter refused: 10, the mode does not suit the call; kernel mode, page 1"),
+        ("6 12 0 0 K 1", "leave refused: 12, a touched page does not permit it; kernel mode, page 1"),
+        ("7 13 0 0 U 3", "device write refused: 13, a touched frame is excluded; user mode, page 3"),
+        ("X 14 0 0 U 3", "calls ended: 14, the last call is cut short; user mode, page 3"),
+        ("X 15 0 0 K 0", "calls ended: 15, the kind of call is unknown; kernel mode, page 0"),
+        (
+            "S 5 0 0 U 0",
+            "start refused: 5, a listed page is out of range or out of order; user mode, page 0; no guard was started",
+        ),
+    ];
+    for (line, expected) in lines {
+        assert_eq!(words(line), expected);
+    }
+}
+
+#[test]
+fn every_number_has_its_words() {
+    let mut explained = 0;
+    for refusal in refusals() {
+        let line = format!("4 {} 0 0 K 1", refusal.number);
+        let expected =
+            format!("write refused: {}, {}; kernel mode, page 1", refusal.number, refusal.words);
+        assert_eq!(words(&line), expected);
+        explained += 1;
+    }
+    assert_eq!(explained, 15);
+}
+
+#[test]
+fn shadow_entries_and_share() {
+    let lines = "0000000000000000\n8000000000002401\n0000000000003007\n8000000000003207\n\
+                 8000000000003003\n000ffffffffff005\n0000000000001006\n4000000000001809\nshare 25\n";
+    let expected = "page 0: absent\n\
+                    page 1: present, approved, no-execute, frame 2\n\
+                    page 2: present, writable, user, frame 3\n\
+                    page 3: present, writable, user, no-execute in the kernel entry, no-execute, frame 3\n\
+                    page 4: present, writable, no-execute, frame 3\n\
+                    page 5: present, user, frame 1099511627775\n\
+                    page 6: absent, writable, user, frame 1\n\
+                    page 7: present, frame 1, other bits 0x4000000000000808\n\
+                    share: 25 percent of the frames are excluded\n";
+    assert_eq!(explain(lines).unwrap(), expected);
+}
+
+#[test]
+fn lines_that_are_none() {
+    let lines = [
+        ("", "line 1: the drill prints at least one line, and none is here"),
+        ("S 0 1 1 K 1\n\n", "line 2: '' is no line of the drill"),
+        ("S 0 1 1 K", "line 1: 'S 0 1 1 K' is no line of the drill"),
+        ("S 0 1 1 K 1 1", "line 1: 'S 0 1 1 K 1 1' is no line of the drill"),
+        ("8 0 1 1 K 1", "line 1: '8' is no kind of call"),
+        ("1 16 0 0 K 1", "line 1: 16 is no refusal number"),
+        ("1 256 0 0 K 1", "line 1: 256 is no refusal number"),
+        ("1 +1 0 0 K 1", "line 1: a decimal number is expected, not '+1'"),
+        ("1 0 0 x K 1", "line 1: a decimal number is expected, not 'x'"),
+        ("1 0 0 0 k 1", "line 1: the mode is K or U, not 'k'"),
+        ("X 0 0 0 K 1", "line 1: an X line carries a refusal number"),
+        ("S 0 1 1 K 1\n000000000000000", "line 2: '000000000000000' is no line of the drill"),
+        ("S 0 1 1 K 1\n00000000000000g0", "line 2: '00000000000000g0' is no line of the drill"),
+        ("share", "line 1: 'share' is no line of the drill"),
+    ];
+    for (line, message) in lines {
+        assert_eq!(explain(line).unwrap_err().to_string(), message);
+    }
+}
