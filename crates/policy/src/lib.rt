@@ -1,0 +1,68 @@
+// Document 01, "The policy record", and questions 1 to 6, which are about the record alone.
+// Every number of the record is read by `number_from`, through a reader.
+
+ghost use mathlib.Core.Path.{_≡_};
+ghost use Prim.Native.Nat.{_+_, _*_, min};
+ghost use Rattle.model.specs.Edges.{both, within, pagesInRange, framesInRange};
+ghost use Rattle.model.specs.Policy.{numberAt, numbersAt};
+ghost use Rattle.model.specs.Questions.{firstNo, rising, allBelow};
+ghost use Rattle.policy.specs.Record.{recordAsks};
+
+// Two bytes as a number, the lower one first.
+fn joined(low: u8, high: u8) -> u16
+    ensures { λ r. ⌜ r ≡ low + 256 * high ⌝ }
+{
+    low as u16 + 256 * high as u16
+}
+
+// The 16-bit number at a place of the bytes. A byte past the end counts as 0.
+pub fn number_at(bytes: &[u8], at: usize) -> u16
+    ensures { λ r. ⌜ r ≡ numberAt (now (bytes .entry)) at ⌝ }
+{
+    if bytes.len() <= at {
+        return 0;
+    }
+    let next = at + 1;
+    if bytes.len() <= next {
+        return joined(bytes[at], 0);
+    }
+    joined(bytes[at], bytes[next])
+}
+
+// Question 5, of the count pages from byte 8 on.
+pub fn pages_rising(bytes: &[u8], pages: u16, count: u16) -> bool
+    ensures { λ r. ⌜ r ≡ rising pages 0 (numbersAt (now (bytes .entry)) 8 count) ⌝ }
+{
+    let mut at: usize = 8;
+    let mut least: u16 = 0;
+    let mut left = count;
+    while 0 < left {
+        let page = number_at(bytes, at);
+        if page < least {
+            return false;
+        }
+        if pages <= page {
+            return false;
+        }
+        least = page + 1;
+        at += 2;
+        left -= 1;
+    }
+    true
+}
+
+// Question 6, of the count frames behind the pages.
+pub fn frames_below(bytes: &[u8], frames: u16, count: u16) -> bool
+    ensures { λ r. ⌜ r ≡ allBelow frames (numbersAt (now (bytes .entry)) (8 + 2 * count) count) ⌝ }
+{
+    let mut at = 8 + 2 * count as usize;
+    let mut left = count;
+    while 0 < left {
+        if frames <= number_at(bytes, at) {
+            return false;
+        }
+        at += 2;
+        left -= 1;
+    }
+    true
+}
