@@ -2,7 +2,7 @@
 // Every number of the record is read by `number_from`, through a reader.
 
 ghost use mathlib.Core.Path.{_≡_};
-ghost use Prim.Native.Nat.{_+_, _*_, min};
+ghost use Prim.Native.Nat.{_+_, _*_, _<_, _^_, min};
 ghost use Rattle.model.specs.Edges.{both, within, pagesInRange, framesInRange};
 ghost use Rattle.model.specs.Policy.{numberAt, numbersAt};
 ghost use Rattle.model.specs.Questions.{firstNo, rising, allBelow};
@@ -16,7 +16,7 @@ fn joined(low: u8, high: u8) -> u16
 }
 
 // The 16-bit number at a place of the bytes. A byte past the end counts as 0.
-pub fn number_at(bytes: &[u8], at: usize) -> u16
+fn number_at(bytes: &[u8], at: usize) -> u16
     ensures { λ r. ⌜ r ≡ numberAt (now (bytes .entry)) at ⌝ }
 {
     if bytes.len() <= at {
@@ -29,6 +29,44 @@ pub fn number_at(bytes: &[u8], at: usize) -> u16
     joined(bytes[at], bytes[next])
 }
 
+// "Reading a record goes through a reader that carries the lent bytes and how far it has come."
+// Its functions are thin: the number is read by `number_at`, and callers use `number_from`.
+pub struct Reader<'a> {
+    pub src: &'a [u8],
+    pub at: usize,
+}
+
+pub fn new<'a>(src: &'a [u8]) -> Reader<'a>
+    ensures { λ r. ⌜ (r .src ≡ src .entry) × (r .at ≡ 0) ⌝ }
+{
+    Reader { src, at: 0 }
+}
+
+// The place after the bytes skipped is a `usize`.
+pub fn skip<'a>(r: Reader<'a>, count: usize) -> Reader<'a>
+    requires { ⌜ r .at + count < 2 ^ 64 ⌝ }
+    ensures { λ q. ⌜ (q .src ≡ r .entry .src) × (q .at ≡ r .entry .at + count) ⌝ }
+{
+    Reader {
+        src: r.src,
+        at: r.at + count,
+    }
+}
+
+// The number where the reader stands.
+pub fn number<'a>(r: Reader<'a>) -> u16
+    ensures { λ n. ⌜ n ≡ numberAt (now (r .entry .src)) (r .entry .at) ⌝ }
+{
+    number_at(r.src, r.at)
+}
+
+// The number at a place, read by a reader that has come so far. The parameters are plain.
+pub fn number_from(bytes: &[u8], at: usize) -> u16
+    ensures { λ r. ⌜ r ≡ numberAt (now (bytes .entry)) at ⌝ }
+{
+    number(skip(new(bytes), at))
+}
+
 // Question 5, of the count pages from byte 8 on.
 pub fn pages_rising(bytes: &[u8], pages: u16, count: u16) -> bool
     ensures { λ r. ⌜ r ≡ rising pages 0 (numbersAt (now (bytes .entry)) 8 count) ⌝ }
@@ -37,7 +75,7 @@ pub fn pages_rising(bytes: &[u8], pages: u16, count: u16) -> bool
     let mut least: u16 = 0;
     let mut left = count;
     while 0 < left {
-        let page = number_at(bytes, at);
+        let page = number_from(bytes, at);
         if page < least {
             return false;
         }
@@ -58,7 +96,7 @@ pub fn frames_below(bytes: &[u8], frames: u16, count: u16) -> bool
     let mut at = 8 + 2 * count as usize;
     let mut left = count;
     while 0 < left {
-        if frames <= number_at(bytes, at) {
+        if frames <= number_from(bytes, at) {
             return false;
         }
         at += 2;
