@@ -2,3 +2,4 @@
 pub mod AskLaws
 pub mod TableLaws
 pub mod PolicyLaws
+pub mod TouchLaws
