@@ -67,6 +67,33 @@ pub fn number_from(bytes: &[u8], at: usize) -> u16
     number(skip(new(bytes), at))
 }
 
+// Question 2.
+pub fn sizes_in_range(pages: u16, frames: u16) -> bool
+    ensures { λ r. ⌜ r ≡ both (pagesInRange pages) (framesInRange frames) ⌝ }
+{
+    questions::both(
+        questions::pages_in_range(pages),
+        questions::frames_in_range(frames),
+    )
+}
+
+fn smaller(a: u16, b: u16) -> u16
+    ensures { λ r. ⌜ r ≡ min a b ⌝ }
+{
+    if a < b { a } else { b }
+}
+
+// Question 3.
+pub fn counts_in_range(pages: u16, count: u16, entries: u16) -> bool
+    ensures { λ r. ⌜ r ≡ both (within 1 pages count) (within 1 (min count 16) entries) ⌝ }
+{
+    let most = smaller(count, 16);
+    questions::both(
+        questions::in_range(1, pages as u64, count as u64),
+        questions::in_range(1, most as u64, entries as u64),
+    )
+}
+
 // Question 5, of the count pages from byte 8 on.
 pub fn pages_rising(bytes: &[u8], pages: u16, count: u16) -> bool
     ensures { λ r. ⌜ r ≡ rising pages 0 (numbersAt (now (bytes .entry)) 8 count) ⌝ }
@@ -103,4 +130,33 @@ pub fn frames_below(bytes: &[u8], frames: u16, count: u16) -> bool
         left -= 1;
     }
     true
+}
+
+// The first no among questions 1 to 6, or 0.
+pub fn record_question(bytes: &[u8]) -> u64
+    ensures { λ r. ⌜ r ≡ firstNo (recordAsks (now (bytes .entry))) ⌝ }
+{
+    if bytes.len() < 8 {
+        return 1;
+    }
+    let pages = number_from(bytes, 0);
+    let frames = number_from(bytes, 2);
+    if !sizes_in_range(pages, frames) {
+        return 2;
+    }
+    let count = number_from(bytes, 4);
+    let entries = number_from(bytes, 6);
+    if !counts_in_range(pages, count, entries) {
+        return 3;
+    }
+    if bytes.len() != 8 + 4 * count as usize {
+        return 4;
+    }
+    if !pages_rising(bytes, pages, count) {
+        return 5;
+    }
+    if !frames_below(bytes, frames, count) {
+        return 6;
+    }
+    0
 }
