@@ -1,2 +1,3 @@
 -- Laws about the definitions, each stated once. Code crates cite them.
 pub mod AskLaws
+pub mod VectorLaws
