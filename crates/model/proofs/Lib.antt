@@ -2,4 +2,5 @@
 pub mod AskLaws
 pub mod TableLaws
 pub mod PolicyLaws
+pub mod VectorLaws
 pub mod TouchLaws
