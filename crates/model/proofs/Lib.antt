@@ -12,3 +12,5 @@ pub mod ClaimSafe
 pub mod ClaimStart
 pub mod ClaimLists
 mod Computed
+pub mod VectorLaws
+pub mod TouchLaws

@@ -1,5 +1,6 @@
--- Laws of the policy record: numbers in a row, the rising pages, the frames below a limit, the frame listed for a page, and members of a list.
-use Prim.Native.Nat.{ℕ, zero, suc, _+_, _-_, _*_, _≤_, _<_}
+-- Laws of the policy record: numbers in a row, the rising pages, the frames below a limit, the frame listed for a page, members of a list,
+-- and what an accepted start has passed.
+use Prim.Native.Nat.{ℕ, zero, suc, _+_, _-_, _*_, _≤_, _<_, min}
 use mathlib.Core.Bool.{Bool, true, false, cond, false≢true}
 use mathlib.Core.List.{List, [], _∷_, map}
 use mathlib.Core.Logic.{_⊎_, inl, inr}
@@ -9,10 +10,11 @@ use lib.ListN.{length, getD}
 use native.Mathlib.Nat.{le-of-suc-le-suc}
 use native.Mathlib.Omega.{arith}
 use borrow.Author.Tests.{ltb-true, lt-ltb, le-ltb, le-leb, lt-leb, eqb-true, eq-eqb}
-use Rattle.model.specs.Edges.{both, either, member}
-use Rattle.model.specs.Policy.{numberAt, numbersAt, frameFor}
-use Rattle.model.specs.Questions.{rising, allBelow}
-use Rattle.model.proofs.AskLaws.{both-yes, both-no, both-no-after, both-first, both-second}
+use Rattle.model.specs.Edges.{both, either, within, pagesInRange, framesInRange, member}
+use Rattle.model.specs.Keeps.{vectorBytes}
+use Rattle.model.specs.Policy.{Policy, numberAt, numbersAt, frameFor}
+use Rattle.model.specs.Questions.{firstNo, sizesInRange, countsInRange, rising, allBelow, inOrder, startAsks}
+use Rattle.model.proofs.AskLaws.{both-yes, both-no, both-no-after, both-first, both-second, within-low, within-high, asked, numbered, all-yes}
 
 either-second : (a : Bool) {b : Bool} → b ≡ true → either a b ≡ true
 unfolding either
@@ -159,3 +161,81 @@ frameFor-map h (p ∷ ps) (f ∷ fs) page other =
     at : (b : Bool) → cond b (h f) (h other) ≡ h (cond b f other)
     at true = refl
     at false = refl
+
+-- What the questions of an accepted start say of its policy and of the lengths of the three tables.
+pub record Passed (policy : Policy) (shadow map exclusion : ℕ) : Type 0 where
+  pub pages-low : 1 ≤ policy .pages
+  pub pages-high : policy .pages ≤ 2048
+  pub frames-low : 1 ≤ policy .frames
+  pub frames-high : policy .frames ≤ 4096
+  pub count-low : 1 ≤ policy .count
+  pub count-high : policy .count ≤ policy .pages
+  pub entries-low : 1 ≤ policy .entries
+  pub entries-listed : policy .entries ≤ policy .count
+  pub entries-high : policy .entries ≤ 16
+  pub listed-below : allBelow (policy .pages) (policy .listed) ≡ true
+  pub backing-below : allBelow (policy .frames) (policy .backing) ≡ true
+  pub shadow-fits : shadow ≡ policy .pages
+  pub map-fits : map ≡ policy .pages
+  pub exclusion-fits : exclusion ≡ vectorBytes (policy .frames)
+
+module _ (bytes : List ℕ) (policy : Policy) (shadow map exclusion : ℕ) (h : firstNo (startAsks bytes policy shadow map exclusion) ≡ 0) where
+  answered : (n : ℕ) → asked n (startAsks bytes policy shadow map exclusion) ≡ true
+  unfolding startAsks numbered both
+  answered n = all-yes n (startAsks bytes policy shadow map exclusion) refl h
+
+  sizes-yes : sizesInRange policy ≡ true
+  unfolding startAsks asked both either
+  sizes-yes = both-first (sizesInRange policy) true (answered 2)
+
+  pages-yes : pagesInRange (policy .pages) ≡ true
+  unfolding sizesInRange
+  pages-yes = both-first (pagesInRange (policy .pages)) (framesInRange (policy .frames)) sizes-yes
+
+  frames-yes : framesInRange (policy .frames) ≡ true
+  unfolding sizesInRange
+  frames-yes = both-second (pagesInRange (policy .pages)) (framesInRange (policy .frames)) sizes-yes
+
+  counts-yes : countsInRange policy ≡ true
+  unfolding startAsks asked both either
+  counts-yes = both-first (countsInRange policy) true (answered 3)
+
+  count-yes : within 1 (policy .pages) (policy .count) ≡ true
+  unfolding countsInRange
+  count-yes = both-first (within 1 (policy .pages) (policy .count)) (within 1 (min (policy .count) 16) (policy .entries)) counts-yes
+
+  entries-yes : within 1 (min (policy .count) 16) (policy .entries) ≡ true
+  unfolding countsInRange
+  entries-yes = both-second (within 1 (policy .pages) (policy .count)) (within 1 (min (policy .count) 16) (policy .entries)) counts-yes
+
+  rises-yes : rising (policy .pages) 0 (policy .listed) ≡ true
+  unfolding startAsks asked both either
+  rises-yes = both-first (rising (policy .pages) 0 (policy .listed)) true (answered 5)
+
+  below-yes : allBelow (policy .frames) (policy .backing) ≡ true
+  unfolding startAsks asked both either
+  below-yes = both-first (allBelow (policy .frames) (policy .backing)) true (answered 6)
+
+  lengths-yes : both (eqb shadow (policy .pages)) (both (eqb map (policy .pages)) (both (eqb exclusion (vectorBytes (policy .frames))) true)) ≡ true
+  unfolding startAsks asked both either inOrder
+  lengths-yes = both-first _ true (answered 7)
+
+  pub start-passed : Passed policy shadow map exclusion
+  unfolding pagesInRange framesInRange
+  start-passed =
+      record {
+        pages-low = within-low 1 2048 (policy .pages) pages-yes;
+        pages-high = within-high 1 2048 (policy .pages) pages-yes;
+        frames-low = within-low 1 4096 (policy .frames) frames-yes;
+        frames-high = within-high 1 4096 (policy .frames) frames-yes;
+        count-low = within-low 1 (policy .pages) (policy .count) count-yes;
+        count-high = within-high 1 (policy .pages) (policy .count) count-yes;
+        entries-low = within-low 1 (min (policy .count) 16) (policy .entries) entries-yes;
+        entries-listed = omega (arith, within-high 1 (min (policy .count) 16) (policy .entries) entries-yes);
+        entries-high = omega (arith, within-high 1 (min (policy .count) 16) (policy .entries) entries-yes);
+        listed-below = rising-below (policy .pages) 0 (policy .listed) rises-yes;
+        backing-below = below-yes;
+        shadow-fits = eqb-true _ _ (both-first _ _ lengths-yes);
+        map-fits = eqb-true _ _ (both-first _ _ (both-second _ _ lengths-yes));
+        exclusion-fits = eqb-true _ _ (both-first _ true (both-second _ _ (both-second _ _ lengths-yes)));
+      }
