@@ -2,3 +2,4 @@
 pub mod AskLaws
 pub mod VectorLaws
 pub mod TouchLaws
+pub mod RunLaws
