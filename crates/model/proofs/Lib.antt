@@ -14,3 +14,4 @@ pub mod ClaimLists
 mod Computed
 pub mod VectorLaws
 pub mod TouchLaws
+pub mod RunLaws
