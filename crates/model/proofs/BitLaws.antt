@@ -1,51 +1,38 @@
--- Laws of the bits of entries: those of an approved and of an ordinary entry, those that a mode switch keeps and sets, and those of the
--- exclusion vector's bytes.
-use Prim.Native.Nat.{ℕ, zero, suc, _+_, _*_, _/_, _%_, _^_, _≤_, _<_}
-use mathlib.Core.Bool.{Bool, true, false, not, cond}
-use mathlib.Core.List.{List}
-use mathlib.Core.Path.{_≡_, refl, sym, ap, _∙_}
-use lib.Dec.{ltb, eqb}
-use lib.ListN.{length, getD, List·getD-eq-default}
-use lib.Pow.{shr-shr}
-use native.Mathlib.Nat.{le-of-suc-le-suc, zero-div}
+-- Laws of the bits of entries: those of an approved and of an ordinary entry, and those that a mode switch keeps and sets.
+use Prim.Native.Nat.{ℕ, _+_, _*_, _/_, _%_, _^_, _≤_, _<_}
+use mathlib.Core.Bool.{Bool, true, false, cond}
+use mathlib.Core.Path.{_≡_, refl}
 use native.Mathlib.Omega.{arith}
-use borrow.Author.Tests.{eq-eqb, ne-eqb, ltb-true, ltb-false}
 use Rattle.model.specs.declared.Fields.{Fields}
-use Rattle.model.specs.Edges.{bit, table}
-use Rattle.model.specs.Keeps.{flag, byteOf, vectorBytes, vectorOf, excludedIn}
-use Rattle.model.specs.Bits.{present, writable, userBit, noExecute, frameOf, kernelNoExecute, approvedMark, approvedNoExecute, approved, ordinaryNoExecute, ordinary, noExecuteIn, switched}
-use Rattle.model.proofs.TableLaws.{length-table, getD-table}
+use Rattle.model.specs.Edges.{bit}
+use Rattle.model.specs.Keeps.{flag}
+use Rattle.model.specs.Bits.{present, writable, noExecute, frameOf, approvedMark, approvedNoExecute, approved, ordinaryNoExecute, ordinary, noExecuteIn, switched}
+use Rattle.model.proofs.VectorLaws.{flag-weight, flag-small, flag-test}
 
--- A bit that is 1, one that is 0, and two numbers that agree at a bit.
-pub bit-on : (k x : ℕ) → x / 2 ^ k % 2 ≡ 1 → bit k x ≡ true
+-- A bit that is a Boolean's digit, one that is 1, one that is 0, and two numbers that agree at a bit.
+pub bit-is : (k x : ℕ) (b : Bool) → x / 2 ^ k % 2 ≡ flag b 0 → bit k x ≡ b
 unfolding bit
-bit-on k x h = eq-eqb (x / 2 ^ k % 2) 1 h
+bit-is k x b h = flag-test b (x / 2 ^ k % 2) h
+
+pub bit-on : (k x : ℕ) → x / 2 ^ k % 2 ≡ 1 → bit k x ≡ true
+unfolding flag
+bit-on k x h = bit-is k x true h
 
 pub bit-off : (k x : ℕ) → x / 2 ^ k % 2 ≡ 0 → bit k x ≡ false
-unfolding bit
-bit-off k x h = ne-eqb (x / 2 ^ k % 2) 1 (λ e. omega arith)
+unfolding flag
+bit-off k x h = bit-is k x false h
 
 pub bit-same : (k x y : ℕ) → x / 2 ^ k % 2 ≡ y / 2 ^ k % 2 → bit k x ≡ bit k y
 unfolding bit
 bit-same k x y h = rw h refl
 
 -- A flag is a digit, 0 or 1, times its weight.
-unfoldable digit : Bool → ℕ
-digit b = cond b 1 0
-
 record Digit (b : Bool) (k : ℕ) : Type 0 where
-  small : digit b ≤ 1
-  weight : flag b k ≡ digit b * 2 ^ k
+  small : flag b 0 ≤ 1
+  weight : flag b k ≡ flag b 0 * 2 ^ k
 
 flag-is : (b : Bool) (k : ℕ) → Digit b k
-unfolding flag digit
-flag-is true k = record { small = omega arith; weight = omega arith }
-flag-is false k = record { small = omega arith; weight = omega arith }
-
-bit-digit : (k x : ℕ) (b : Bool) → x / 2 ^ k % 2 ≡ digit b → bit k x ≡ b
-unfolding digit
-bit-digit k x true h = bit-on k x h
-bit-digit k x false h = bit-off k x h
+flag-is b k = record { small = flag-small b; weight = flag-weight b k }
 
 bit-flag : (b : Bool) (x : ℕ) → x < 2 ^ 63 → bit 63 (x + flag b 63) ≡ b
 unfolding flag
@@ -102,7 +89,7 @@ module _ (user : Bool) (x : Fields) where
   pub writable-ordinary : writable (ordinary user x) ≡ x .writable
   unfolding writable ordinary
   writable-ordinary =
-      bit-digit 1 (ordinary user x) (x .writable)
+      bit-is 1 (ordinary user x) (x .writable)
       (omega (arith, flag-is (x .writable) 1, flag-is (x .user) 2, flag-is (x .noexec) 9, flag-is (ordinaryNoExecute user (x .noexec) (x .user)) 63))
 
   pub approvedMark-ordinary : approvedMark (ordinary user x) ≡ false
@@ -150,64 +137,3 @@ frameOf-switched user entry = at (present entry)
 pub noExecute-switched : (user : Bool) (entry : ℕ) → present entry ≡ true → noExecute (switched user entry) ≡ noExecuteIn user entry
 unfolding noExecute switched
 noExecute-switched user entry h = rw h (bit-flag (noExecuteIn user entry) (entry % 2 ^ 63) (omega arith))
-
--- The byte whose bit j is h j: as a number of n digits.
-word : ℕ → (ℕ → Bool) → ℕ
-word zero h = 0
-word (suc n) h = digit (h 0) + 2 * word n (λ j. h (suc j))
-
-bit-half : (j d x : ℕ) → d ≤ 1 → bit (suc j) (d + 2 * x) ≡ bit j x
-unfolding bit
-bit-half j d x l =
-    let halved : (d + 2 * x) / 2 ^ 1 ≡ x = omega arith in
-    let power : 1 + j ≡ suc j = omega arith in
-    let shifted : (d + 2 * x) / 2 ^ suc j ≡ x / 2 ^ j = ap (λ n. (d + 2 * x) / 2 ^ n) (sym power) ∙ (sym (shr-shr (d + 2 * x) 1 j) ∙ ap (λ n. n / 2 ^ j) halved) in
-    ap (λ n. eqb (n % 2) 1) shifted
-
-bit-word : (n : ℕ) (h : ℕ → Bool) (j : ℕ) → j < n → bit j (word n h) ≡ h j
-unfolding word
-bit-word zero h j l = absurd (omega arith)
-bit-word (suc n) h zero l = bit-digit 0 (digit (h 0) + 2 * word n (λ j. h (suc j))) (h 0) (omega (arith, flag-is (h 0) 0))
-bit-word (suc n) h (suc j) l =
-    bit-half j (digit (h 0)) (word n (λ j. h (suc j))) (flag-is (h 0) 0 .small) ∙ bit-word n (λ j. h (suc j)) j (le-of-suc-le-suc l)
-
-pub bit-byteOf : (h : ℕ → Bool) (j : ℕ) → j < 8 → bit j (byteOf h) ≡ h j
-unfolding byteOf word
-bit-byteOf h j l = rw is-word (bit-word 8 h j l)
-  where
-    is-word : byteOf h ≡ word 8 h
-    is-word =
-        omega (
-          arith,
-          flag-is (h 0) 0,
-          flag-is (h 1) 1,
-          flag-is (h 2) 2,
-          flag-is (h 3) 3,
-          flag-is (h 4) 4,
-          flag-is (h 5) 5,
-          flag-is (h 6) 6,
-          flag-is (h 7) 7,
-        )
-
--- The exclusion vector: a frame is excluded where h names it, if h names none at or above F.
-bit-zero : (k : ℕ) → bit k 0 ≡ false
-bit-zero k = bit-off k 0 (rw zero-div refl)
-
-pub excludedIn-vectorOf : (frames : ℕ) (h : ℕ → Bool) → ((f : ℕ) → h f ≡ true → f < frames) → (f : ℕ) → excludedIn (vectorOf frames h) f ≡ h f
-unfolding excludedIn vectorOf vectorBytes
-excludedIn-vectorOf frames h below f = at (ltb (f / 8) ((frames + 7) / 8)) refl (h f) refl
-  where
-    bytes : List ℕ
-    bytes = table ((frames + 7) / 8) (λ i. byteOf (λ j. h (i * 8 + j)))
-
-    whole : f / 8 * 8 + f % 8 ≡ f
-    whole = omega arith
-
-    at : (b : Bool) → ltb (f / 8) ((frames + 7) / 8) ≡ b → (c : Bool) → h f ≡ c → bit (f % 8) (getD bytes (f / 8) 0) ≡ h f
-    at true e c q =
-        rw (getD-table ((frames + 7) / 8) (λ i. byteOf (λ j. h (i * 8 + j))) (f / 8) 0 (ltb-true (f / 8) ((frames + 7) / 8) e))
-        (bit-byteOf (λ j. h (f / 8 * 8 + j)) (f % 8) (omega arith) ∙ ap h whole)
-    at false e true q = absurd (omega (arith, below f q, ltb-false (f / 8) ((frames + 7) / 8) e))
-    at false e false q =
-        let past : length bytes ≤ f / 8 = rw length-table (ltb-false (f / 8) ((frames + 7) / 8) e) in
-        rw (List·getD-eq-default bytes 0 past) (bit-zero (f % 8) ∙ sym q)

@@ -1,15 +1,14 @@
 -- Demand 3: what the questions of an accepted call, each looked up by its number, say of what the call names. They hold of any view.
-use Prim.Native.Nat.{ℕ, zero, suc, _+_, _-_, _*_, _/_, _≤_, _<_}
-use mathlib.Core.Bool.{Bool, true, false, not}
-use mathlib.Core.List.{List, [], _∷_}
-use mathlib.Core.Path.{_≡_, refl, sym, ap, _∙_}
+use Prim.Native.Nat.{ℕ, zero, suc, _+_, _/_, _≤_, _<_}
+use mathlib.Core.Bool.{Bool, true, false}
+use mathlib.Core.Path.{_≡_, refl}
 use lib.Dec.{ltb, eqb}
 use native.Mathlib.Omega.{arith}
 use borrow.Author.Tests.{ltb-true, eqb-true, eqb-false, not-true}
-use Rattle.model.specs.Edges.{pageBytes, both, either, within, everyFrom, lastByte, lastPage, touched}
+use Rattle.model.specs.Edges.{pageBytes, both, either, everyFrom, lastByte, lastPage, touched}
 use Rattle.model.specs.Bits.{present, noExecute, frameOf}
 use Rattle.model.specs.Questions.{View, firstNo, inOrder, syncPageAsks, syncAllAsks, fetchPermitted, fetchAsks, free, everyTouched, writeAsks, enterAsks, leaveAsks, deviceWriteAsks}
-use Rattle.model.proofs.AskLaws.{asked, numbered, all-yes, both-first, both-second, within-low}
+use Rattle.model.proofs.AskLaws.{asked, numbered, all-yes, both-first, both-second}
 
 module _ (v : View) where
   pub syncPage-kernel : (n page : ℕ) → firstNo (syncPageAsks v n page) ≡ 0 → n ≡ v .pages

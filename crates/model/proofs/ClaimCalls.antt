@@ -1,29 +1,28 @@
 -- Demand 3: an accepted call does to each page what its one-page guard is told, and keeps what always holds.
-use Prim.Native.Nat.{ℕ, zero, suc, _+_, _/_, _≤_, _<_}
+use Prim.Native.Nat.{ℕ, _≤_, _<_}
 use mathlib.Core.Bool.{Bool, true, false, cond}
-use mathlib.Core.List.{List, []}
-use mathlib.Core.Path.{_≡_, refl, sym, ap, subst, _∙_}
+use mathlib.Core.List.{List}
+use mathlib.Core.Path.{_≡_, refl, sym, subst, _∙_}
 use lib.ListN.{length, getD, set, length-set, length-map, List·getD-map, List·getD-eq-default}
 use lib.Seq.{getD-set-same, getD-set-other}
 use lib.Dec.{ltb, eqb}
 use native.Mathlib.Omega.{arith}
 use borrow.Author.Tests.{ltb-true, ltb-false, eqb-true, eqb-false}
-use Rattle.model.specs.declared.State.{State}
 use Rattle.model.specs.declared.Mode.{Mode}
 use Rattle.model.specs.declared.Mode.the-variants.{Kernel, User}
 use Rattle.model.specs.Edges.{bit, framesInRange}
-use Rattle.model.specs.Keeps.{none, Guard, vectorBytes, excludedIn, inUser, running, modeOf, inMode}
-use Rattle.model.specs.Policy.{Policy, named, entryPages}
+use Rattle.model.specs.Keeps.{none, Guard, inUser, running, modeOf, inMode}
+use Rattle.model.specs.Policy.{Policy, named}
 use Rattle.model.specs.Bits.{present, takenApart, switched}
 use Rattle.model.specs.Sync.{Rules, Place, place, step, stepOf, Run, switchedAll, runOver}
-use Rattle.model.specs.Questions.{firstNo, seen, inOrder, syncPageAsks, syncAllAsks, fetchAsks, enterAsks, leaveAsks}
+use Rattle.model.specs.Questions.{firstNo, syncPageAsks, syncAllAsks}
 use Rattle.model.specs.Calls.{rulesOf, pageSynced, allSynced, switchTo}
 use Rattle.model.specs.Lists.{Call, syncPage, syncAll, fetch, write, enter, leave, deviceWrite, withSynced, withMoved, withSwitched, withReply}
-use Rattle.model.specs.OnePage.{Page, News, synchronised, entered, left, nothing, seenBy, settled, stepped, turned, told, news}
+use Rattle.model.specs.OnePage.{synchronised, nothing, seenBy, settled, stepped, turned, told, news}
 use Rattle.model.proofs.AskLaws.{within-high}
 use Rattle.model.proofs.ClaimPages.{Good, told-good}
-use Rattle.model.proofs.ClaimRun.{run-shadow-length, run-map-length, run-entry, run-approval}
-use Rattle.model.proofs.ClaimAsks.{syncPage-kernel, syncPage-page, syncAll-kernel, fetch-page, enter-page, leave-page}
+use Rattle.model.proofs.RunLaws.{run-shadow-length, run-map-length, run-shadow-at, run-map-at}
+use Rattle.model.proofs.ClaimAsks.{syncPage-page, syncAll-kernel, fetch-page, enter-page, leave-page}
 use Rattle.model.proofs.ClaimKept.{Sound, Kept, pageOf, acceptedOf}
 
 inUser-modeOf : (user : Bool) (page : ℕ) → inUser (modeOf user page) ≡ user
@@ -48,9 +47,7 @@ module _ (policy : Policy) (protected : ℕ → Bool) (g : Guard) (sound : Sound
       → getD map p none ≡ (step (rulesOf (g .state) (g .exclusion)) k (getD (g .map) p none)) .approval
       → stepped policy (pageOf g p) k ≡ pageOf (record { state = g .state; shadow = shadow; map = map; exclusion = g .exclusion }) p
   unfolding stepped
-  stepped-at shadow map p k entry approval =
-      rw (← h .frames)
-      (λ i. record { user = inUser (g .state .mode); entry = sym entry i; approval = sym approval i; excluded = excludedIn (g .exclusion) })
+  stepped-at shadow map p k entry approval = rw (← h .frames, entry, approval)
 
   -- The same of a page that is in no table: it has no kernel entry either.
   stepped-past : (shadow map : List ℕ) (p k : ℕ) → policy .pages ≤ p → k ≡ 0 → length shadow ≡ policy .pages → length map ≡ policy .pages
@@ -99,8 +96,8 @@ module _ (policy : Policy) (protected : ℕ → Bool) (g : Guard) (sound : Sound
       at true e =
           let below : p < policy .pages = ltb-true p (policy .pages) e in
           stepped-at (after .shadow) (after .map) p (getD kernel p 0)
-          (run-entry f kernel (g .shadow) (g .map) p (omega (arith, whole)) (omega (arith, h .shadowLength)) (omega (arith, h .mapLength)))
-          (run-approval f kernel (g .shadow) (g .map) p (omega (arith, whole)) (omega (arith, h .shadowLength)) (omega (arith, h .mapLength)))
+          (run-shadow-at f kernel (g .shadow) (g .map) p 0 0 none (omega (arith, whole)) (omega (arith, h .shadowLength)) (omega (arith, h .mapLength)))
+          (run-map-at f kernel (g .shadow) (g .map) p 0 none (omega (arith, whole)) (omega (arith, h .shadowLength)) (omega (arith, h .mapLength)))
       at false e =
           let past : policy .pages ≤ p = ltb-false p (policy .pages) e in
           stepped-past (after .shadow) (after .map) p (getD kernel p 0) past (List·getD-eq-default kernel 0 (omega (arith, whole)))
@@ -120,18 +117,10 @@ module _ (policy : Policy) (protected : ℕ → Bool) (g : Guard) (sound : Sound
   unfolding news told settled acceptedOf withMoved withSwitched withReply switchTo inMode inUser turned
   commutes (syncPage kernel page) passed p = syncPage-commutes kernel page passed p
   commutes (syncAll kernel) passed p = syncAll-commutes kernel passed p
-  commutes (fetch page) passed p = λ i.
-      record {
-        user = sym (inUser-modeOf (inUser (g .state .mode)) page) i;
-        entry = getD (g .shadow) p 0;
-        approval = getD (g .map) p none;
-        excluded = excludedIn (g .exclusion);
-      }
+  commutes (fetch page) passed p = rw inUser-modeOf
   commutes (write address size) passed p = refl
-  commutes (enter index) passed p = λ i.
-      record { user = false; entry = switch-commutes false p i; approval = getD (g .map) p none; excluded = excludedIn (g .exclusion) }
-  commutes (leave page) passed p = λ i.
-      record { user = true; entry = switch-commutes true p i; approval = getD (g .map) p none; excluded = excludedIn (g .exclusion) }
+  commutes (enter index) passed p = rw (switch-commutes false p)
+  commutes (leave page) passed p = rw (switch-commutes true p)
   commutes (deviceWrite address size) passed p = refl
 
   -- Every page stays good.

@@ -1,23 +1,18 @@
 -- Demand 3: what is always true of the guard after an accepted start, and the one-page guards that its tables show. The questions of a call
 -- see the same through both, so that the guard's answer is the one that they settle.
-use Prim.Native.Nat.{ℕ, zero, suc, _+_, _/_, _≤_, _<_}
-use mathlib.Core.Bool.{Bool, true, false}
-use mathlib.Core.List.{List, []}
+use Prim.Native.Nat.{ℕ, zero, suc, _/_, _<_}
+use mathlib.Core.Bool.{Bool, true}
 use mathlib.Core.Path.{_≡_, refl, sym, ap, _∙_}
-use lib.ListN.{length, getD, length-set}
-use lib.Dec.{ltb, eqb}
-use native.Mathlib.Omega.{arith}
+use lib.ListN.{length, getD}
 use borrow.Author.Tests.{lt-ltb, eq-eqb}
-use Rattle.model.specs.declared.State.{State}
-use Rattle.model.specs.declared.Mode.{Mode}
 use Rattle.model.specs.declared.Mode.the-variants.{Kernel, User}
 use Rattle.model.specs.Edges.{pageBytes, within, pagesInRange, framesInRange, lastPage}
 use Rattle.model.specs.Keeps.{none, Guard, vectorBytes, excludedIn, inUser, running, modeOf, inMode}
 use Rattle.model.specs.Policy.{Policy, named, entryPages}
 use Rattle.model.specs.Bits.{frameOf}
-use Rattle.model.specs.Sync.{Place, step, runOver}
-use Rattle.model.specs.Questions.{View, firstNo, seen, stateInOrder, syncPageAsks, syncAllAsks, fetchAsks, free, writeAsks, enterAsks, leaveAsks, deviceWriteAsks}
-use Rattle.model.specs.Calls.{Reply, Moved, Switched, Synced, Outcome, refused, accepted, settle, rulesOf, pageSynced, syncPageOf, allSynced, syncAllOf, fetchOf, writeOf, switchTo, enterOf, leaveOf, deviceWriteOf}
+use Rattle.model.specs.Sync.{step, runOver}
+use Rattle.model.specs.Questions.{firstNo, seen, stateInOrder, syncPageAsks, syncAllAsks, fetchAsks, free, writeAsks, enterAsks, leaveAsks, deviceWriteAsks}
+use Rattle.model.specs.Calls.{Outcome, refused, accepted, settle, rulesOf, pageSynced, syncPageOf, allSynced, syncAllOf, fetchOf, writeOf, switchTo, enterOf, leaveOf, deviceWriteOf}
 use Rattle.model.specs.Lists.{Call, syncPage, syncAll, fetch, write, enter, leave, deviceWrite, withSynced, withMoved, withSwitched, withReply, answer}
 use Rattle.model.specs.OnePage.{Page, seenBy, settled}
 use Rattle.model.proofs.AskLaws.{both-yes}

@@ -2,15 +2,15 @@
 use Prim.Native.Nat.{ℕ, zero, suc}
 use mathlib.Core.Bool.{Bool}
 use mathlib.Core.List.{List, [], _∷_}
-use mathlib.Core.Path.{_≡_, refl, sym, ap, fun-ext, _∙_}
+use mathlib.Core.Path.{_≡_, refl, ap, fun-ext, _∙_}
 use lib.ListN.{length}
 use native.Mathlib.Omega.{arith}
 use Rattle.model.specs.Keeps.{Guard}
 use Rattle.model.specs.Policy.{Policy, policyOf, named, startGuard}
 use Rattle.model.specs.Questions.{firstNo, startAsks}
-use Rattle.model.specs.Calls.{Outcome, settle, startOf, pageSynced, allSynced, switchTo}
+use Rattle.model.specs.Calls.{Outcome, startOf, pageSynced, allSynced, switchTo}
 use Rattle.model.specs.Lists.{Call, syncPage, syncAll, fetch, write, enter, leave, deviceWrite, withSynced, withMoved, withSwitched, withReply, answer}
-use Rattle.model.specs.OnePage.{Page, firstPage, settled, pagesAfter}
+use Rattle.model.specs.OnePage.{firstPage, settled, pagesAfter}
 use Rattle.model.specs.Claim.{Agree, protectedAfter, Always, Claim}
 use Rattle.model.proofs.AskLaws.{settle-accepted, settle-refused}
 use Rattle.model.proofs.ClaimKept.{Sound, Kept, pageOf, acceptedOf, refusedOf, answered}

@@ -1,18 +1,20 @@
 -- Demand 3: what is always true of a one-page guard, and that everything it is told keeps it so. The frames that kernel code may be fetched
 -- from are a predicate throughout.
-use Prim.Native.Nat.{ℕ, _^_, _≤_, _<_}
+use Prim.Native.Nat.{ℕ, _≤_, _<_}
 use mathlib.Core.Bool.{Bool, true, false, not, cond, true≢false, false≢true}
-use mathlib.Core.Path.{_≡_, refl, sym, ap, _∙_}
+use mathlib.Core.Path.{_≡_, refl, sym, _∙_}
 use lib.Dec.{leb, eqb}
 use native.Mathlib.Omega.{arith}
-use borrow.Author.Tests.{leb-false, eqb-true, ne-eqb, not-true, not-false}
+use borrow.Author.Tests.{leb-false, ne-eqb}
+use Rattle.model.specs.declared.Entry.the-variants.{Absent, Present}
 use Rattle.model.specs.declared.Fields.{Fields}
+use Rattle.model.specs.Edges.{bit}
 use Rattle.model.specs.Keeps.{none}
 use Rattle.model.specs.Policy.{Policy}
-use Rattle.model.specs.Bits.{present, noExecute, frameOf, approvedMark, fieldsOf, takenApart, approvedNoExecute, approved, ordinaryNoExecute, ordinary, noExecuteIn, switched}
+use Rattle.model.specs.Bits.{present, noExecute, frameOf, approvedMark, fieldsOf, takenApart, approvedNoExecute, approved, ordinaryNoExecute, ordinary, noExecuteIn}
 use Rattle.model.specs.Sync.{Rules, Place, place, stepOf, step}
 use Rattle.model.specs.OnePage.{Page, News, synchronised, entered, left, nothing, turned, stepped, told}
-use Rattle.model.proofs.BitLaws.{present-approved, approvedMark-approved, frameOf-approved, approvedMark-ordinary, noExecute-ordinary, present-switched, approvedMark-switched, frameOf-switched, noExecute-switched}
+use Rattle.model.proofs.BitLaws.{approvedMark-approved, frameOf-approved, approvedMark-ordinary, noExecute-ordinary, present-switched, approvedMark-switched, frameOf-switched, noExecute-switched}
 
 -- A good page: its approval, if it has one, is a frame of code; an entry with bits 0 and 10 has its approval for its frame; and in kernel
 -- mode an entry with bit 0 set and bit 63 clear has bit 10.
@@ -39,7 +41,7 @@ placed page p = record { user = page .user; entry = p .entry; approval = p .appr
 
 module _ (code : ℕ → Bool) (page : Page) where
   pub good-absent : (a : ℕ) → (eqb a none ≡ false → code a ≡ true) → Good code (placed page (place 0 a))
-  unfolding present Rattle.model.specs.Edges.bit
+  unfolding present bit
   good-absent a h =
       record {
         approval = h;
@@ -96,7 +98,7 @@ step-cases P rules k a absent kept joins plain = one (present k)
     two true e = three (leb (rules .frames) (frameOf k)) refl
     two false e = kept e
 
-    one : (b : Bool) → P (stepOf rules (cond b (Rattle.model.specs.declared.Entry.the-variants.Present (fieldsOf k)) Rattle.model.specs.declared.Entry.the-variants.Absent) a)
+    one : (b : Bool) → P (stepOf rules (cond b (Present (fieldsOf k)) Absent) a)
     one true = two (eqb a none) refl
     one false = absent
 

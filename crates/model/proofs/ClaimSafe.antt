@@ -1,7 +1,7 @@
 -- Demand 3: what an accepted fetch reads is code in kernel mode, and what an accepted write or device write covers is clear.
-use Prim.Native.Nat.{ℕ, _+_, _*_, _/_, _%_, _≤_, _<_}
-use mathlib.Core.Bool.{Bool, true, false, not}
-use mathlib.Core.Path.{_≡_, refl, sym, ap, _∙_}
+use Prim.Native.Nat.{ℕ, _+_, _*_, _/_, _%_, _<_}
+use mathlib.Core.Bool.{Bool, true, not}
+use mathlib.Core.Path.{_≡_, refl, sym, _∙_}
 use lib.Dec.{ltb}
 use lib.ListN.{getD}
 use native.Mathlib.Omega.{arith}
@@ -17,7 +17,7 @@ use Rattle.model.specs.Claim.{Clear, coveredBy, Safe}
 use Rattle.model.proofs.AskLaws.{both-first, both-second}
 use Rattle.model.proofs.ClaimPages.{good-code}
 use Rattle.model.proofs.ClaimAsks.{fetch-there, fetch-executable, write-free, deviceWrite-free}
-use Rattle.model.proofs.ClaimKept.{Sound, Kept, pageOf, acceptedOf}
+use Rattle.model.proofs.ClaimKept.{Kept, pageOf, acceptedOf}
 
 module _ (policy : Policy) (protected : ℕ → Bool) (g : Guard) (h : Kept policy protected g) where
   -- Any byte of a frame that question 13 lets pass is clear.

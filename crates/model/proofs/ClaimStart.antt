@@ -1,31 +1,48 @@
 -- Demand 3: an accepted start leaves what always holds, and its tables show the one-page guards as they begin.
-use Prim.Native.Nat.{ℕ, zero, suc, _+_, _*_, _≤_, _<_, min}
+use Prim.Native.Nat.{ℕ, _+_, _*_, _/_, _%_, _≤_, _<_}
 use mathlib.Core.Bool.{Bool, true, false, cond, true≢false, false≢true}
 use mathlib.Core.List.{List, [], _∷_}
 use mathlib.Core.Logic.{_⊎_, inl, inr}
 use mathlib.Core.Path.{_≡_, refl, sym, ap, subst, fun-ext, _∙_}
-use lib.Dec.{leb, ltb, eqb}
+use lib.Dec.{ltb, eqb}
 use lib.ListN.{length, getD, List·getD-eq-default}
-use native.Mathlib.Nat.{suc-inj}
+use native.Mathlib.Nat.{suc-inj, zero-div}
 use native.Mathlib.Omega.{arith}
-use borrow.Author.Tests.{ltb-true, ltb-false, eqb-true, eq-eqb, ne-eqb}
-use Rattle.model.specs.Edges.{both, either, within, pagesInRange, framesInRange, table, member}
-use Rattle.model.specs.Keeps.{none, Guard, vectorBytes, excludedIn, vectorOf, inUser, running}
-use Rattle.model.specs.Policy.{Policy, policyOf, frameFor, approvalFor, named, firstEntry, entryPages, startState, startGuard, numbersAt}
+use borrow.Author.Tests.{ltb-true, ltb-false, ne-eqb}
+use Rattle.model.specs.Edges.{pagesInRange, framesInRange, table, member, bit}
+use Rattle.model.specs.Keeps.{none, vectorBytes, excludedIn, vectorOf, inUser, running}
+use Rattle.model.specs.Policy.{Policy, policyOf, frameFor, approvalFor, named, firstEntry, startState, startGuard}
 use Rattle.model.specs.Bits.{approved}
-use Rattle.model.specs.Questions.{firstNo, sizesInRange, countsInRange, rising, allBelow, startAsks}
-use Rattle.model.specs.Calls.{Outcome, settle, startOf}
+use Rattle.model.specs.Questions.{firstNo, startAsks}
 use Rattle.model.specs.OnePage.{Page, firstPage}
-use Rattle.model.proofs.AskLaws.{asked, numbered, all-yes, both-first, both-second, both-yes, within-yes, within-low, within-high}
+use Rattle.model.proofs.AskLaws.{within-yes, within-high}
 use Rattle.model.proofs.TableLaws.{length-table, getD-table}
-use Rattle.model.proofs.PolicyLaws.{length-numbersAt, rising-below, allBelow-getD, allBelow-member, member-here, member-there, member-later, frameFor-unlisted, frameFor-member}
-use Rattle.model.proofs.BitLaws.{excludedIn-vectorOf}
+use Rattle.model.proofs.PolicyLaws.{Passed, start-passed, length-numbersAt, allBelow-getD, allBelow-member, member-here, member-there, member-later, frameFor-unlisted, frameFor-member}
+use Rattle.model.proofs.BitLaws.{bit-off}
+use Rattle.model.proofs.VectorLaws.{byteOf-bit, vectorOf-length, vectorOf-byte}
 use Rattle.model.proofs.ClaimPages.{Good, good-absent, good-approved}
 use Rattle.model.proofs.ClaimKept.{Sound, Kept, pageOf}
 
 nobody : (x : ℕ) → member x [] ≡ true → ⊥
 unfolding member
 nobody x m = false≢true m
+
+-- The start's vector excludes just the frames that h names, if h names none at or above F: past F its bits are zero.
+excluded-is : (frames : ℕ) (h : ℕ → Bool) → ((f : ℕ) → h f ≡ true → f < frames) → (f : ℕ) → excludedIn (vectorOf frames h) f ≡ h f
+unfolding excludedIn vectorBytes
+excluded-is frames h below f = at (ltb (f / 8) (vectorBytes frames)) refl (h f) refl
+  where
+    whole : f / 8 * 8 + f % 8 ≡ f
+    whole = omega arith
+
+    at : (b : Bool) → ltb (f / 8) (vectorBytes frames) ≡ b → (c : Bool) → h f ≡ c → bit (f % 8) (getD (vectorOf frames h) (f / 8) 0) ≡ h f
+    at true e c q =
+        rw (vectorOf-byte frames h (f / 8) 0 (ltb-true (f / 8) (vectorBytes frames) e))
+        (byteOf-bit (λ j. h (f / 8 * 8 + j)) (f % 8) (omega arith) ∙ ap h whole)
+    at false e true q = absurd (omega (arith, below f q, ltb-false (f / 8) (vectorBytes frames) e))
+    at false e false q =
+        let past : length (vectorOf frames h) ≤ f / 8 = rw vectorOf-length (ltb-false (f / 8) (vectorBytes frames) e) in
+        rw (List·getD-eq-default (vectorOf frames h) 0 past) (bit-off (f % 8) 0 (rw zero-div) ∙ sym q)
 
 -- The frame listed for a listed page is one of the frames, where there is one for each page.
 frameFor-listed : (ps fs : List ℕ) (page other : ℕ) → length ps ≡ length fs → member page ps ≡ true → member (frameFor ps fs page other) fs ≡ true
@@ -44,26 +61,12 @@ frameFor-listed (p ∷ ps) (f ∷ fs) page other same listed =
     at true e rest = rw e (here (frameFor ps fs page f) (frameFor-member ps fs page f))
     at false e rest = rw e (member-later (frameFor ps fs page other) f fs (rest (sym (member-there page p ps e) ∙ listed)))
 
--- What questions 2 to 6 of an accepted start say of the policy.
-module _ (bytes : List ℕ) (s m x : ℕ) (passed : firstNo (startAsks bytes (policyOf bytes) s m x) ≡ 0) where
+module _ (bytes : List ℕ) (s m x : ℕ) (accepted : firstNo (startAsks bytes (policyOf bytes) s m x) ≡ 0) where
   abbrev policy : Policy
   policy = policyOf bytes
 
-  sizes : sizesInRange policy ≡ true
-  unfolding startAsks asked numbered both either
-  sizes = both-first _ _ (all-yes 2 (startAsks bytes policy s m x) refl passed)
-
-  counts : countsInRange policy ≡ true
-  unfolding startAsks asked numbered both either
-  counts = both-first _ _ (all-yes 3 (startAsks bytes policy s m x) refl passed)
-
-  pages-below : allBelow (policy .pages) (policy .listed) ≡ true
-  unfolding startAsks asked numbered both either
-  pages-below = rising-below (policy .pages) 0 (policy .listed) (both-first _ _ (all-yes 5 (startAsks bytes policy s m x) refl passed))
-
-  frames-below : allBelow (policy .frames) (policy .backing) ≡ true
-  unfolding startAsks asked numbered both either
-  frames-below = both-first _ _ (all-yes 6 (startAsks bytes policy s m x) refl passed)
+  passed : Passed policy s m x
+  passed = start-passed bytes policy s m x accepted
 
   listed-length : length (policy .listed) ≡ policy .count
   unfolding policyOf
@@ -73,26 +76,14 @@ module _ (bytes : List ℕ) (s m x : ℕ) (passed : firstNo (startAsks bytes (po
   unfolding policyOf
   backing-length = length-numbersAt bytes (8 + 2 * policy .count) (policy .count)
 
-  count-low : 1 ≤ policy .count
-  unfolding countsInRange
-  count-low = within-low 1 (policy .pages) (policy .count) (both-first _ _ counts)
-
-  entries-fit : within 1 16 (policy .entries) ≡ true
-  unfolding countsInRange
-  entries-fit =
-      let fits : within 1 (min (policy .count) 16) (policy .entries) ≡ true =
-      both-second (within 1 (policy .pages) (policy .count)) (within 1 (min (policy .count) 16) (policy .entries)) counts in
-      within-yes 1 16 (policy .entries) (within-low 1 (min (policy .count) 16) (policy .entries) fits)
-      (omega (arith, within-high 1 (min (policy .count) 16) (policy .entries) fits))
-
   pub sound : Sound policy
-  unfolding sizesInRange named
+  unfolding pagesInRange framesInRange named
   sound =
       record {
-        pages = both-first _ _ sizes;
-        frames = both-second (pagesInRange (policy .pages)) (framesInRange (policy .frames)) sizes;
-        entries = entries-fit;
-        below = λ f e. allBelow-member (policy .frames) f (policy .backing) frames-below e;
+        pages = within-yes 1 2048 (policy .pages) (passed .pages-low) (passed .pages-high);
+        frames = within-yes 1 4096 (policy .frames) (passed .frames-low) (passed .frames-high);
+        entries = within-yes 1 16 (policy .entries) (passed .entries-low) (passed .entries-high);
+        below = λ f e. allBelow-member (policy .frames) f (policy .backing) (passed .backing-below) e;
       }
 
   -- The map's number and the shadow entry of a page, by whether it is listed.
@@ -125,7 +116,7 @@ module _ (bytes : List ℕ) (s m x : ℕ) (passed : firstNo (startAsks bytes (po
   unlisted-past p past = at (member p (policy .listed)) refl
     where
       at : (b : Bool) → member p (policy .listed) ≡ b → b ≡ false
-      at true e = absurd (omega (arith, allBelow-member (policy .pages) p (policy .listed) pages-below e))
+      at true e = absurd (omega (arith, allBelow-member (policy .pages) p (policy .listed) (passed .listed-below) e))
       at false e = refl
 
   -- The tables of the start show the one-page guards as they begin.
@@ -139,7 +130,7 @@ module _ (bytes : List ℕ) (s m x : ℕ) (passed : firstNo (startAsks bytes (po
         user = false;
         entry = (at-entry p (ltb p (policy .pages)) refl) i;
         approval = (at-approval p (ltb p (policy .pages)) refl) i;
-        excluded = (fun-ext (excludedIn-vectorOf (policy .frames) (named policy) (sound .below))) i;
+        excluded = (fun-ext (excluded-is (policy .frames) (named policy) (sound .below))) i;
       }
     where
       shadow : List ℕ
@@ -188,11 +179,11 @@ module _ (bytes : List ℕ) (s m x : ℕ) (passed : firstNo (startAsks bytes (po
         frames = refl;
         entries = refl;
         entry = refl;
-        runs = allBelow-getD (policy .pages) (policy .listed) 0 pages-below (omega (arith, count-low, listed-length));
+        runs = allBelow-getD (policy .pages) (policy .listed) 0 (passed .listed-below) (omega (arith, passed .count-low, listed-length));
         shadowLength = length-table (policy .pages) (λ p. firstEntry (approvalFor policy p));
         mapLength = length-table (policy .pages) (approvalFor policy);
-        exclusionLength = length-table (vectorBytes (policy .frames)) _;
-        excluded = excludedIn-vectorOf (policy .frames) (named policy) (sound .below);
+        exclusionLength = vectorOf-length (policy .frames) (named policy);
+        excluded = excluded-is (policy .frames) (named policy) (sound .below);
         code = λ f e. e;
         good = λ p. subst (λ (ps : ℕ → Page). Good (named policy) (ps p)) (sym first-pages) (first-good p);
       }

@@ -3,15 +3,14 @@ pub mod AskLaws
 pub mod BitLaws
 pub mod TableLaws
 pub mod PolicyLaws
+mod Computed
+pub mod VectorLaws
+pub mod TouchLaws
+pub mod RunLaws
 pub mod ClaimPages
-pub mod ClaimRun
 pub mod ClaimKept
 pub mod ClaimAsks
 pub mod ClaimCalls
 pub mod ClaimSafe
 pub mod ClaimStart
 pub mod ClaimLists
-mod Computed
-pub mod VectorLaws
-pub mod TouchLaws
-pub mod RunLaws
