@@ -6,48 +6,55 @@ use mathlib.Core.Logic.{_⊎_, inl, inr}
 use mathlib.Core.Path.{_≡_, refl, sym, ap, subst, fun-ext, _∙_}
 use lib.Dec.{ltb, eqb}
 use lib.ListN.{length, getD, List·getD-eq-default}
-use native.Mathlib.Nat.{suc-inj, zero-div}
+use native.Mathlib.Nat.{suc-inj}
 use native.Mathlib.Omega.{arith}
 use borrow.Author.Tests.{ltb-true, ltb-false, ne-eqb}
 use Rattle.model.specs.Edges.{pagesInRange, framesInRange, table, member, bit}
-use Rattle.model.specs.Keeps.{none, vectorBytes, excludedIn, vectorOf, inUser, running}
+use Rattle.model.specs.Keeps.{none, vectorBytes, excludedIn, flag, byteOf, vectorOf, inUser, running}
 use Rattle.model.specs.Policy.{Policy, policyOf, frameFor, approvalFor, named, firstEntry, startState, startGuard}
 use Rattle.model.specs.Bits.{approved}
 use Rattle.model.specs.Questions.{firstNo, startAsks}
 use Rattle.model.specs.OnePage.{Page, firstPage}
-use Rattle.model.proofs.AskLaws.{within-yes, within-high}
+use Rattle.model.proofs.AskLaws.{within-yes}
 use Rattle.model.proofs.TableLaws.{length-table, getD-table}
 use Rattle.model.proofs.PolicyLaws.{Passed, start-passed, length-numbersAt, allBelow-getD, allBelow-member, member-here, member-there, member-later, frameFor-unlisted, frameFor-member}
-use Rattle.model.proofs.BitLaws.{bit-off}
-use Rattle.model.proofs.VectorLaws.{byteOf-bit, vectorOf-length, vectorOf-byte}
+use Rattle.model.proofs.VectorLaws.{byteOf-bit, byteOf-ext, vectorOf-length}
 use Rattle.model.proofs.ClaimPages.{Good, good-absent, good-approved}
 use Rattle.model.proofs.ClaimKept.{Sound, Kept, pageOf}
 
-nobody : (x : ℕ) → member x [] ≡ true → ⊥
-unfolding member
-nobody x m = false≢true m
-
--- The start's vector excludes just the frames that h names, if h names none at or above F: past F its bits are zero.
-excluded-is : (frames : ℕ) (h : ℕ → Bool) → ((f : ℕ) → h f ≡ true → f < frames) → (f : ℕ) → excludedIn (vectorOf frames h) f ≡ h f
-unfolding excludedIn vectorBytes
-excluded-is frames h below f = at (ltb (f / 8) (vectorBytes frames)) refl (h f) refl
+-- A test that holds only below a limit fails past it.
+past-no : (test : ℕ → Bool) (limit : ℕ) → ((x : ℕ) → test x ≡ true → x < limit) → (x : ℕ) → limit ≤ x → test x ≡ false
+past-no test limit below x past = at (test x) refl
   where
-    whole : f / 8 * 8 + f % 8 ≡ f
-    whole = omega arith
+    at : (b : Bool) → test x ≡ b → b ≡ false
+    at true e = absurd (omega (arith, below x e))
+    at false e = refl
 
-    at : (b : Bool) → ltb (f / 8) (vectorBytes frames) ≡ b → (c : Bool) → h f ≡ c → bit (f % 8) (getD (vectorOf frames h) (f / 8) 0) ≡ h f
-    at true e c q =
-        rw (vectorOf-byte frames h (f / 8) 0 (ltb-true (f / 8) (vectorBytes frames) e))
-        (byteOf-bit (λ j. h (f / 8 * 8 + j)) (f % 8) (omega arith) ∙ ap h whole)
-    at false e true q = absurd (omega (arith, below f q, ltb-false (f / 8) (vectorBytes frames) e))
-    at false e false q =
-        let past : length (vectorOf frames h) ≤ f / 8 = rw vectorOf-length (ltb-false (f / 8) (vectorBytes frames) e) in
-        rw (List·getD-eq-default (vectorOf frames h) 0 past) (bit-off (f % 8) 0 (rw zero-div) ∙ sym q)
+-- A table, read past its end too: there its function gives the default.
+table-read : (count : ℕ) (f : ℕ → ℕ) (p d : ℕ) → (count ≤ p → f p ≡ d) → getD (table count f) p d ≡ f p
+table-read count f p d past = at (ltb p count) refl
+  where
+    at : (b : Bool) → ltb p count ≡ b → getD (table count f) p d ≡ f p
+    at true e = getD-table count f p d (ltb-true p count e)
+    at false e =
+        let over : count ≤ p = ltb-false p count e in
+        List·getD-eq-default (table count f) d (rw length-table over) ∙ sym (past over)
+
+-- The start's vector excludes just the frames that a test holds of, also past F, if it holds of none there.
+excluded-is : (frames : ℕ) (test : ℕ → Bool) → ((f : ℕ) → test f ≡ true → f < frames) → (f : ℕ) → excludedIn (vectorOf frames test) f ≡ test f
+unfolding excludedIn vectorOf vectorBytes byteOf flag
+excluded-is frames test below f =
+    ap (bit (f % 8)) (table-read (vectorBytes frames) (λ i. byteOf (λ j. test (i * 8 + j))) (f / 8) 0 past)
+    ∙ byteOf-bit (λ j. test (f / 8 * 8 + j)) (f % 8) (omega arith)
+    ∙ ap test (omega arith)
+  where
+    past : vectorBytes frames ≤ f / 8 → byteOf (λ j. test (f / 8 * 8 + j)) ≡ 0
+    past over = byteOf-ext (λ j. test (f / 8 * 8 + j)) (λ j. false) (λ j l. past-no test frames below (f / 8 * 8 + j) (omega arith))
 
 -- The frame listed for a listed page is one of the frames, where there is one for each page.
 frameFor-listed : (ps fs : List ℕ) (page other : ℕ) → length ps ≡ length fs → member page ps ≡ true → member (frameFor ps fs page other) fs ≡ true
-unfolding frameFor
-frameFor-listed [] fs page other same listed = absurd (nobody page listed)
+unfolding frameFor member
+frameFor-listed [] fs page other same listed = absurd (false≢true listed)
 frameFor-listed (p ∷ ps) [] page other same listed = absurd (omega arith)
 frameFor-listed (p ∷ ps) (f ∷ fs) page other same listed =
     at (eqb page p) refl (λ m. frameFor-listed ps fs page other (suc-inj same) m)
@@ -64,6 +71,13 @@ frameFor-listed (p ∷ ps) (f ∷ fs) page other same listed =
 module _ (bytes : List ℕ) (s m x : ℕ) (accepted : firstNo (startAsks bytes (policyOf bytes) s m x) ≡ 0) where
   abbrev policy : Policy
   policy = policyOf bytes
+
+  -- Whether a page is listed, and its frame.
+  abbrev listed : ℕ → Bool
+  listed p = member p (policy .listed)
+
+  abbrev frame : ℕ → ℕ
+  frame p = frameFor (policy .listed) (policy .backing) p none
 
   passed : Passed policy s m x
   passed = start-passed bytes policy s m x accepted
@@ -86,93 +100,58 @@ module _ (bytes : List ℕ) (s m x : ℕ) (accepted : firstNo (startAsks bytes (
         below = λ f e. allBelow-member (policy .frames) f (policy .backing) (passed .backing-below) e;
       }
 
+  -- The frame of a listed page is named in the policy, so it is not 65535. No page past V is listed.
+  listed-named : (p : ℕ) → listed p ≡ true → named policy (frame p) ≡ true
+  unfolding named
+  listed-named p e = frameFor-listed (policy .listed) (policy .backing) p none (listed-length ∙ sym backing-length) e
+
+  listed-small : (p : ℕ) → listed p ≡ true → frame p < 4096
+  listed-small p e = omega (arith, sound .below (frame p) (listed-named p e), passed .frames-high)
+
+  past-unlisted : (p : ℕ) → policy .pages ≤ p → listed p ≡ false
+  past-unlisted = past-no listed (policy .pages) (λ p e. allBelow-member (policy .pages) p (policy .listed) (passed .listed-below) e)
+
   -- The map's number and the shadow entry of a page, by whether it is listed.
-  first-approval : (p : ℕ) (b : Bool) → member p (policy .listed) ≡ b → approvalFor policy p ≡ cond b (frameFor (policy .listed) (policy .backing) p none) none
+  first-approval : (p : ℕ) (b : Bool) → listed p ≡ b → approvalFor policy p ≡ cond b (frame p) none
   unfolding approvalFor
   first-approval p true e = refl
   first-approval p false e = frameFor-unlisted (policy .listed) (policy .backing) p none e
 
-  listed-named : (p : ℕ) → member p (policy .listed) ≡ true → named policy (frameFor (policy .listed) (policy .backing) p none) ≡ true
-  unfolding named
-  listed-named p e = frameFor-listed (policy .listed) (policy .backing) p none (listed-length ∙ sym backing-length) e
-
-  listed-small : (p : ℕ) → member p (policy .listed) ≡ true → frameFor (policy .listed) (policy .backing) p none < 4096
-  unfolding framesInRange
-  listed-small p e =
-      omega (
-        arith,
-        sound .below (frameFor (policy .listed) (policy .backing) p none) (listed-named p e),
-        within-high 1 4096 (policy .frames) (sound .frames),
-      )
-
-  first-entry : (p : ℕ) (b : Bool) → member p (policy .listed) ≡ b
-      → firstEntry (approvalFor policy p) ≡ cond b (approved false (frameFor (policy .listed) (policy .backing) p none)) 0
+  first-entry : (p : ℕ) (b : Bool) → listed p ≡ b → firstEntry (approvalFor policy p) ≡ cond b (approved false (frame p)) 0
   unfolding firstEntry
-  first-entry p true e =
-      rw (first-approval p true e, ne-eqb (frameFor (policy .listed) (policy .backing) p none) none (λ k. omega (arith, listed-small p e))) refl
-  first-entry p false e = rw (first-approval p false e) refl
-
-  unlisted-past : (p : ℕ) → policy .pages ≤ p → member p (policy .listed) ≡ false
-  unlisted-past p past = at (member p (policy .listed)) refl
-    where
-      at : (b : Bool) → member p (policy .listed) ≡ b → b ≡ false
-      at true e = absurd (omega (arith, allBelow-member (policy .pages) p (policy .listed) (passed .listed-below) e))
-      at false e = refl
+  first-entry p true e = rw (first-approval p true e, ne-eqb (frame p) none (λ k. omega (arith, listed-small p e)))
+  first-entry p false e = rw (first-approval p false e)
 
   -- The tables of the start show the one-page guards as they begin.
   pub first-pages : pageOf (startGuard policy) ≡ firstPage policy
   unfolding startGuard startState inUser firstPage
   first-pages =
-      fun-ext λ p.
-      let listed : Bool = member p (policy .listed) in
-      λ i.
+      fun-ext λ p i.
       record {
         user = false;
-        entry = (at-entry p (ltb p (policy .pages)) refl) i;
-        approval = (at-approval p (ltb p (policy .pages)) refl) i;
+        entry = (at-entry p ∙ first-entry p (listed p) refl) i;
+        approval = (at-approval p ∙ first-approval p (listed p) refl) i;
         excluded = (fun-ext (excluded-is (policy .frames) (named policy) (sound .below))) i;
       }
     where
-      shadow : List ℕ
-      shadow = table (policy .pages) (λ p. firstEntry (approvalFor policy p))
+      at-approval : (p : ℕ) → getD (table (policy .pages) (approvalFor policy)) p none ≡ approvalFor policy p
+      at-approval p = table-read (policy .pages) (approvalFor policy) p none (λ past. first-approval p false (past-unlisted p past))
 
-      map : List ℕ
-      map = table (policy .pages) (approvalFor policy)
-
-      at-entry : (p : ℕ) (b : Bool) → ltb p (policy .pages) ≡ b
-          → getD shadow p 0 ≡ cond (member p (policy .listed)) (approved false (frameFor (policy .listed) (policy .backing) p none)) 0
-      at-entry p true e =
-          getD-table (policy .pages) (λ p. firstEntry (approvalFor policy p)) p 0 (ltb-true p (policy .pages) e)
-          ∙ first-entry p (member p (policy .listed)) refl
-      at-entry p false e =
-          let past : policy .pages ≤ p = ltb-false p (policy .pages) e in
-          rw (unlisted-past p past) (List·getD-eq-default shadow 0 (rw length-table past))
-
-      at-approval : (p : ℕ) (b : Bool) → ltb p (policy .pages) ≡ b
-          → getD map p none ≡ cond (member p (policy .listed)) (frameFor (policy .listed) (policy .backing) p none) none
-      at-approval p true e =
-          getD-table (policy .pages) (approvalFor policy) p none (ltb-true p (policy .pages) e) ∙ first-approval p (member p (policy .listed)) refl
-      at-approval p false e =
-          let past : policy .pages ≤ p = ltb-false p (policy .pages) e in
-          rw (unlisted-past p past) (List·getD-eq-default map none (rw length-table past))
+      at-entry : (p : ℕ) → getD (table (policy .pages) (λ q. firstEntry (approvalFor policy q))) p 0 ≡ firstEntry (approvalFor policy p)
+      at-entry p = table-read (policy .pages) (λ q. firstEntry (approvalFor policy q)) p 0 (λ past. first-entry p false (past-unlisted p past))
 
   first-good : (p : ℕ) → Good (named policy) (firstPage policy p)
   unfolding firstPage
-  first-good p = at (member p (policy .listed)) refl
+  first-good p = at (listed p) refl
     where
-      at : (b : Bool) → member p (policy .listed) ≡ b
+      at : (b : Bool) → listed p ≡ b
           → Good (named policy)
-          (record {
-            user = false;
-            entry = cond b (approved false (frameFor (policy .listed) (policy .backing) p none)) 0;
-            approval = cond b (frameFor (policy .listed) (policy .backing) p none) none;
-            excluded = named policy;
-          })
-      at true e = good-approved (named policy) (firstPage policy p) (frameFor (policy .listed) (policy .backing) p none) (listed-named p e) (listed-small p e)
+          (record { user = false; entry = cond b (approved false (frame p)) 0; approval = cond b (frame p) none; excluded = named policy })
+      at true e = good-approved (named policy) (firstPage policy p) (frame p) (listed-named p e) (listed-small p e)
       at false e = good-absent (named policy) (firstPage policy p) none (λ k. absurd (true≢false k))
 
   pub start-kept : Kept policy (named policy) (startGuard policy)
-  unfolding startGuard startState vectorOf running
+  unfolding startGuard startState running
   start-kept =
       record {
         pages = refl;
