@@ -10,11 +10,27 @@ use Rattle.model.specs.Bits.{present, noExecute, frameOf}
 use Rattle.model.specs.Questions.{View, firstNo, inOrder, syncPageAsks, syncAllAsks, fetchPermitted, fetchAsks, free, everyTouched, writeAsks, enterAsks, leaveAsks, deviceWriteAsks}
 use Rattle.model.proofs.AskLaws.{asked, numbered, all-yes, both-first, both-second}
 
-module _ (v : View) where
-  pub syncPage-kernel : (n page : ℕ) → firstNo (syncPageAsks v n page) ≡ 0 → n ≡ v .pages
-  unfolding syncPageAsks asked numbered both either inOrder
-  syncPage-kernel n page h = eqb-true n (v .pages) (both-first _ _ (both-first _ _ (all-yes 7 (syncPageAsks v n page) refl h)))
+-- A test of each of the numbers from first on, and of every page (or frame) that an access touches: it holds of that of each of its bytes.
+every-at : (test : ℕ → Bool) (first count p : ℕ) → everyFrom test first count ≡ true → first ≤ p → p < first + count → test p ≡ true
+unfolding everyFrom
+every-at test first zero p h l m = absurd (omega arith)
+every-at test first (suc count) p h l m =
+    at (eqb p first) refl (λ k. every-at test (suc first) count p (both-second (test first) (everyFrom test (suc first) count) h) k (omega arith))
+  where
+    at : (b : Bool) → eqb p first ≡ b → (suc first ≤ p → test p ≡ true) → test p ≡ true
+    at true e rest = rw (eqb-true p first e) (both-first (test first) (everyFrom test (suc first) count) h)
+    at false e rest =
+        let other = eqb-false p first e in
+        rest (omega arith)
 
+every-byte : (test : ℕ → Bool) (address length a : ℕ) → everyTouched test address length ≡ true → address ≤ a → a < address + length
+    → test (a / pageBytes) ≡ true
+unfolding everyTouched touched lastPage lastByte
+every-byte test address length a h l m =
+    every-at test (address / pageBytes) (touched address length) (a / pageBytes) h (omega arith) (omega arith)
+
+module _ (v : View) where
+  -- The page, the entry page and the kernel table's length.
   pub syncPage-page : (n page : ℕ) → firstNo (syncPageAsks v n page) ≡ 0 → page < v .pages
   unfolding syncPageAsks asked numbered both either
   syncPage-page n page h = ltb-true page (v .pages) (both-first _ _ (all-yes 9 (syncPageAsks v n page) refl h))
@@ -27,14 +43,6 @@ module _ (v : View) where
   unfolding fetchAsks asked numbered both either
   fetch-page page h = ltb-true page (v .pages) (both-first _ _ (all-yes 9 (fetchAsks v page) refl h))
 
-  pub fetch-there : (page : ℕ) → firstNo (fetchAsks v page) ≡ 0 → present (v .shadow page) ≡ true
-  unfolding fetchAsks asked numbered both either
-  fetch-there page h = both-first _ _ (all-yes 11 (fetchAsks v page) refl h)
-
-  pub fetch-executable : (page : ℕ) → firstNo (fetchAsks v page) ≡ 0 → noExecute (v .shadow page) ≡ false
-  unfolding fetchAsks fetchPermitted asked numbered both either
-  fetch-executable page h = not-true _ (both-first _ _ (both-first _ _ (all-yes 12 (fetchAsks v page) refl h)))
-
   pub enter-page : (index : ℕ) → firstNo (enterAsks v index) ≡ 0 → v .entry index < v .pages
   unfolding enterAsks asked numbered both either
   enter-page index h =
@@ -45,21 +53,14 @@ module _ (v : View) where
   unfolding leaveAsks asked numbered both either
   leave-page page h = ltb-true page (v .pages) (both-first _ _ (all-yes 9 (leaveAsks v page) refl h))
 
-  -- A test of every page that an access touches holds of the page of each of its bytes.
-  every-at : (test : ℕ → Bool) (first count p : ℕ) → everyFrom test first count ≡ true → first ≤ p → p < first + count → test p ≡ true
-  unfolding everyFrom
-  every-at test first zero p h l m = absurd (omega arith)
-  every-at test first (suc count) p h l m = at (eqb p first) refl (λ k. every-at test (suc first) count p (both-second (test first) (everyFrom test (suc first) count) h) k (omega arith))
-    where
-      at : (b : Bool) → eqb p first ≡ b → (suc first ≤ p → test p ≡ true) → test p ≡ true
-      at true e rest = rw (eqb-true p first e) (both-first (test first) (everyFrom test (suc first) count) h)
-      at false e rest = rest (let other = eqb-false p first e in omega arith)
+  -- What a fetch finds there, and what a write or device write may cover.
+  pub fetch-there : (page : ℕ) → firstNo (fetchAsks v page) ≡ 0 → present (v .shadow page) ≡ true
+  unfolding fetchAsks asked numbered both either
+  fetch-there page h = both-first _ _ (all-yes 11 (fetchAsks v page) refl h)
 
-  every-byte : (test : ℕ → Bool) (address length a : ℕ) → everyTouched test address length ≡ true → address ≤ a → a < address + length
-      → test (a / pageBytes) ≡ true
-  unfolding everyTouched touched lastPage lastByte
-  every-byte test address length a h l m =
-      every-at test (address / pageBytes) (touched address length) (a / pageBytes) h (omega arith) (omega arith)
+  pub fetch-executable : (page : ℕ) → firstNo (fetchAsks v page) ≡ 0 → noExecute (v .shadow page) ≡ false
+  unfolding fetchAsks fetchPermitted asked numbered both either
+  fetch-executable page h = not-true _ (both-first _ _ (both-first _ _ (all-yes 12 (fetchAsks v page) refl h)))
 
   pub write-free : (address length a : ℕ) → firstNo (writeAsks v address length) ≡ 0 → address ≤ a → a < address + length
       → free v (frameOf (v .shadow (a / pageBytes))) ≡ true

@@ -19,6 +19,7 @@ use Rattle.model.specs.Questions.{firstNo, syncPageAsks, syncAllAsks}
 use Rattle.model.specs.Calls.{rulesOf, pageSynced, allSynced, switchTo}
 use Rattle.model.specs.Lists.{Call, syncPage, syncAll, fetch, write, enter, leave, deviceWrite, withSynced, withMoved, withSwitched, withReply}
 use Rattle.model.specs.OnePage.{synchronised, nothing, seenBy, settled, stepped, turned, told, news}
+use Rattle.model.specs.Claim.{protectedAfter}
 use Rattle.model.proofs.AskLaws.{within-high}
 use Rattle.model.proofs.ClaimPages.{Good, told-good}
 use Rattle.model.proofs.RunLaws.{run-shadow-length, run-map-length, run-shadow-at, run-map-at}
@@ -152,8 +153,8 @@ module _ (policy : Policy) (protected : ℕ → Bool) (g : Guard) (sound : Sound
       }
 
   -- Every accepted call keeps what always holds.
-  pub kept : (call : Call) → settled policy (pageOf g) g call ≡ 0 → Kept policy protected ((acceptedOf g call) .guard)
-  unfolding settled acceptedOf withSynced withMoved withSwitched withReply pageSynced allSynced switchTo inMode running inUser
+  pub kept : (call : Call) → settled policy (pageOf g) g call ≡ 0 → Kept policy (protectedAfter 0 call protected) ((acceptedOf g call) .guard)
+  unfolding protectedAfter settled acceptedOf withSynced withMoved withSwitched withReply pageSynced allSynced switchTo inMode running inUser
   kept (syncPage kernel page) passed =
       kept-with (g .state .mode) _ _ (h .runs) (length-set (g .shadow) page _ ∙ h .shadowLength) (length-set (g .map) page _ ∙ h .mapLength)
       (good-after (syncPage kernel page) passed)

@@ -29,6 +29,11 @@ accepted-number g (enter index) = refl
 accepted-number g (leave page) = refl
 accepted-number g (deviceWrite address size) = refl
 
+-- A refused call changes no protected frame.
+protected-refused : (n : ℕ) (call : Call) (protected : ℕ → Bool) → protectedAfter (suc n) call protected ≡ protected
+unfolding protectedAfter
+protected-refused n call protected = refl
+
 agree : (policy : Policy) (protected : ℕ → Bool) (g : Guard) → Kept policy protected g → Agree policy g (pageOf g)
 agree policy protected g h =
     record {
@@ -40,29 +45,34 @@ agree policy protected g h =
       approval = λ p l. refl;
     }
 
+-- What always holds gives the whole of the claim, for any list.
 always : (policy : Policy) → Sound policy → (calls : List Call) (protected : ℕ → Bool) (g : Guard) → Kept policy protected g
     → Always policy protected g (pageOf g) calls
-unfolding protectedAfter pagesAfter
+unfolding pagesAfter
 always policy sound [] protected g h = agree policy protected g h
-always policy sound (call ∷ calls) protected g h = by-number (settled policy (pageOf g) g call) refl (always policy sound calls protected)
+always policy sound (call ∷ calls) protected g h = by-number (settled policy (pageOf g) g call) refl (always policy sound calls)
   where
-    by-number : (n : ℕ) → settled policy (pageOf g) g call ≡ n → ((after : Guard) → Kept policy protected after → Always policy protected after (pageOf after) calls)
+    number : ℕ
+    number = settled policy (pageOf g) g call
+
+    by-number : (n : ℕ) → number ≡ n
+        → ((still : ℕ → Bool) (after : Guard) → Kept policy still after → Always policy still after (pageOf after) calls)
         → Always policy protected g (pageOf g) (call ∷ calls)
     by-number zero e rest =
         let outcome : answer g call ≡ acceptedOf g call =
         answered policy protected g sound h call ∙ settle-accepted (acceptedOf g call) (refusedOf g) e in
-        let pages : pagesAfter policy (settled policy (pageOf g) g call) call (pageOf g) ≡ pageOf ((acceptedOf g call) .guard) =
+        let pages : pagesAfter policy number call (pageOf g) ≡ pageOf ((acceptedOf g call) .guard) =
         fun-ext (λ p. settle-accepted _ _ e ∙ commutes policy protected g sound h call e p) in (
           agree policy protected g h,
           rw (outcome, e) (accepted-number g call),
           (λ _. rw outcome (safe policy protected g h call e)),
-          rw (outcome, pages) (rest ((acceptedOf g call) .guard) (kept policy protected g sound h call e)),
+          rw (outcome, pages, e) (rest _ _ (kept policy protected g sound h call e)),
         )
     by-number (suc n) e rest =
         let outcome : answer g call ≡ refusedOf g (suc n) =
         answered policy protected g sound h call ∙ settle-refused n (acceptedOf g call) (refusedOf g) e in
-        let pages : pagesAfter policy (settled policy (pageOf g) g call) call (pageOf g) ≡ pageOf g = fun-ext (λ p. settle-refused n _ _ e) in
-        (agree policy protected g h, rw (outcome, e) refl, (λ z. absurd (omega arith)), rw (outcome, pages) (rest g h))
+        let pages : pagesAfter policy number call (pageOf g) ≡ pageOf g = fun-ext (λ p. settle-refused n _ _ e) in
+        (agree policy protected g h, rw (outcome, e) refl, (λ z. absurd (omega arith)), rw (outcome, pages, e, protected-refused) (rest protected g h))
 
 pub claim : Claim
 unfolding startOf
