@@ -61,58 +61,67 @@ module _ (user : Bool) (f : ℕ) where
   unfolding frameOf approved approvedNoExecute
   frameOf-approved h = omega (arith, flag-is user 63)
 
--- An ordinary entry: bits below 10, the frame, and bit 63 by its own rule. It has no approved mark.
-below-mark : (l f : ℕ) (b : Bool) → l < 2 ^ 10 → bit 10 (l + f * 2 ^ 12 + flag b 63) ≡ false
-unfolding flag
-below-mark l f true h = bit-off 10 (l + f * 2 ^ 12 + 2 ^ 63) (omega arith)
-below-mark l f false h = bit-off 10 (l + f * 2 ^ 12 + 0) (omega arith)
-
-below-frame : (l f : ℕ) (b : Bool) → l < 2 ^ 12 → f < 2 ^ 40 → (l + f * 2 ^ 12 + flag b 63) / 2 ^ 12 % 2 ^ 40 ≡ f
-unfolding flag
-below-frame l f true h k = omega arith
-below-frame l f false h k = omega arith
-
-module _ (user : Bool) (x : Fields) where
-  pub present-ordinary : present (ordinary user x) ≡ true
-  unfolding present ordinary
-  present-ordinary =
-      bit-on 0 (ordinary user x)
-      (omega (arith, flag-is (x .writable) 1, flag-is (x .user) 2, flag-is (x .noexec) 9, flag-is (ordinaryNoExecute user (x .noexec) (x .user)) 63))
-
+-- An ordinary entry: bit 0, three flags below bit 10, the frame, and bit 63 by its own rule. It has no approved mark.
+module _ (a b c : Bool) where
   low : ℕ
-  low = 2 ^ 0 + flag (x .writable) 1 + flag (x .user) 2 + flag (x .noexec) 9
+  low = 2 ^ 0 + flag a 1 + flag b 2 + flag c 9
 
   low-lt : low < 2 ^ 10
   unfolding low
-  low-lt = omega (arith, flag-is (x .writable) 1, flag-is (x .user) 2, flag-is (x .noexec) 9)
+  low-lt = omega (arith, flag-is a 1, flag-is b 2, flag-is c 9)
+
+  low-present : (d : Bool) (f : ℕ) → bit 0 (low + f * 2 ^ 12 + flag d 63) ≡ true
+  unfolding low
+  low-present d f = bit-on 0 (low + f * 2 ^ 12 + flag d 63) (omega (arith, flag-is a 1, flag-is b 2, flag-is c 9, flag-is d 63))
+
+  low-writable : (d : Bool) (f : ℕ) → bit 1 (low + f * 2 ^ 12 + flag d 63) ≡ a
+  unfolding low
+  low-writable d f = bit-is 1 (low + f * 2 ^ 12 + flag d 63) a (omega (arith, flag-is a 1, flag-is b 2, flag-is c 9, flag-is d 63))
+
+above-low : (l f : ℕ) (d : Bool) → l < 2 ^ 10 → bit 10 (l + f * 2 ^ 12 + flag d 63) ≡ false
+unfolding flag
+above-low l f true h = bit-off 10 (l + f * 2 ^ 12 + 2 ^ 63) (omega arith)
+above-low l f false h = bit-off 10 (l + f * 2 ^ 12 + 0) (omega arith)
+
+frame-of : (l f : ℕ) (d : Bool) → l < 2 ^ 10 → f < 2 ^ 40 → (l + f * 2 ^ 12 + flag d 63) / 2 ^ 12 % 2 ^ 40 ≡ f
+unfolding flag
+frame-of l f true h k = omega arith
+frame-of l f false h k = omega arith
+
+module _ (user : Bool) (x : Fields) where
+  abbrev flags : ℕ
+  flags = low (x .writable) (x .user) (x .noexec)
+
+  pub present-ordinary : present (ordinary user x) ≡ true
+  unfolding present ordinary low
+  present-ordinary = low-present (x .writable) (x .user) (x .noexec) _ (x .frame)
 
   pub writable-ordinary : writable (ordinary user x) ≡ x .writable
-  unfolding writable ordinary
-  writable-ordinary =
-      bit-is 1 (ordinary user x) (x .writable)
-      (omega (arith, flag-is (x .writable) 1, flag-is (x .user) 2, flag-is (x .noexec) 9, flag-is (ordinaryNoExecute user (x .noexec) (x .user)) 63))
+  unfolding writable ordinary low
+  writable-ordinary = low-writable (x .writable) (x .user) (x .noexec) _ (x .frame)
 
   pub approvedMark-ordinary : approvedMark (ordinary user x) ≡ false
   unfolding approvedMark ordinary low
-  approvedMark-ordinary = below-mark low (x .frame) (ordinaryNoExecute user (x .noexec) (x .user)) low-lt
-
-  pub noExecute-ordinary : x .frame < 2 ^ 40 → noExecute (ordinary user x) ≡ ordinaryNoExecute user (x .noexec) (x .user)
-  unfolding noExecute ordinary low
-  noExecute-ordinary h = bit-flag (ordinaryNoExecute user (x .noexec) (x .user)) (low + x .frame * 2 ^ 12) (omega (arith, low-lt))
+  approvedMark-ordinary = above-low flags (x .frame) _ (low-lt (x .writable) (x .user) (x .noexec))
 
   pub frameOf-ordinary : x .frame < 2 ^ 40 → frameOf (ordinary user x) ≡ x .frame
   unfolding frameOf ordinary low
-  frameOf-ordinary h = below-frame low (x .frame) (ordinaryNoExecute user (x .noexec) (x .user)) (omega (arith, low-lt)) h
+  frameOf-ordinary h = frame-of flags (x .frame) _ (low-lt (x .writable) (x .user) (x .noexec)) h
+
+  pub noExecute-ordinary : x .frame < 2 ^ 40 → noExecute (ordinary user x) ≡ ordinaryNoExecute user (x .noexec) (x .user)
+  unfolding noExecute ordinary low
+  noExecute-ordinary h =
+      bit-flag (ordinaryNoExecute user (x .noexec) (x .user)) (flags + x .frame * 2 ^ 12) (omega (arith, low-lt (x .writable) (x .user) (x .noexec)))
 
 -- A mode switch: the frame and every bit but 63 are kept.
 switched-kept : (user : Bool) (entry k : ℕ) → ((b : Bool) → (entry % 2 ^ 63 + flag b 63) / 2 ^ k % 2 ≡ entry / 2 ^ k % 2)
     → bit k (switched user entry) ≡ bit k entry
 unfolding switched
-switched-kept user entry k h = at (present entry)
+switched-kept user entry k h = at (present entry) _
   where
-    at : (b : Bool) → bit k (cond b (entry % 2 ^ 63 + flag (noExecuteIn user entry) 63) entry) ≡ bit k entry
-    at true = bit-same k (entry % 2 ^ 63 + flag (noExecuteIn user entry) 63) entry (h (noExecuteIn user entry))
-    at false = refl
+    at : (b c : Bool) → bit k (cond b (entry % 2 ^ 63 + flag c 63) entry) ≡ bit k entry
+    at true c = bit-same k (entry % 2 ^ 63 + flag c 63) entry (h c)
+    at false c = refl
 
 pub present-switched : (user : Bool) (entry : ℕ) → present (switched user entry) ≡ present entry
 unfolding present
@@ -128,11 +137,11 @@ approvedMark-switched user entry = switched-kept user entry 10 (λ b. omega (ari
 
 pub frameOf-switched : (user : Bool) (entry : ℕ) → frameOf (switched user entry) ≡ frameOf entry
 unfolding frameOf switched
-frameOf-switched user entry = at (present entry)
+frameOf-switched user entry = at (present entry) _
   where
-    at : (b : Bool) → cond b (entry % 2 ^ 63 + flag (noExecuteIn user entry) 63) entry / 2 ^ 12 % 2 ^ 40 ≡ entry / 2 ^ 12 % 2 ^ 40
-    at true = omega (arith, flag-is (noExecuteIn user entry) 63)
-    at false = refl
+    at : (b c : Bool) → cond b (entry % 2 ^ 63 + flag c 63) entry / 2 ^ 12 % 2 ^ 40 ≡ entry / 2 ^ 12 % 2 ^ 40
+    at true c = omega (arith, flag-is c 63)
+    at false c = refl
 
 pub noExecute-switched : (user : Bool) (entry : ℕ) → present entry ≡ true → noExecute (switched user entry) ≡ noExecuteIn user entry
 unfolding noExecute switched

@@ -58,26 +58,28 @@ module _ (policy : Policy) (protected : ℕ → Bool) (g : Guard) (sound : Sound
       let empty : step (rulesOf (g .state) (g .exclusion)) k (getD (g .map) p none) ≡ place 0 none = rw (absent, was) (step-nothing _ none) in
       stepped-at shadow map p k (rw empty (List·getD-eq-default shadow 0 (omega arith))) (rw empty (List·getD-eq-default map none (omega arith)))
 
-  syncPage-commutes : (kernel : List ℕ) (page : ℕ) → firstNo (syncPageAsks (seenBy policy (pageOf g)) (length kernel) page) ≡ 0 → (p : ℕ)
-      → told policy (pageOf g p) (news p (syncPage kernel page)) ≡ pageOf ((acceptedOf g (syncPage kernel page)) .guard) p
-  unfolding news told acceptedOf withSynced pageSynced
-  syncPage-commutes kernel page passed p = at (eqb p page) refl
-    where
-      after : Place
-      after = step (rulesOf (g .state) (g .exclusion)) (getD kernel page 0) (getD (g .map) page none)
+  -- The page of a synchronise, and every other page.
+  syncPage-here : (kernel : List ℕ) (page : ℕ) → page < policy .pages
+      → stepped policy (pageOf g page) (getD kernel page 0) ≡ pageOf ((acceptedOf g (syncPage kernel page)) .guard) page
+  unfolding acceptedOf withSynced pageSynced
+  syncPage-here kernel page below =
+      let after : Guard = (acceptedOf g (syncPage kernel page)) .guard in
+      stepped-at (after .shadow) (after .map) page (getD kernel page 0) (getD-set-same (g .shadow) page _ 0 (omega (arith, h .shadowLength)))
+      (getD-set-same (g .map) page _ none (omega (arith, h .mapLength)))
 
+  syncPage-other : (kernel : List ℕ) (page p : ℕ) → (p ≡ page → ⊥) → pageOf g p ≡ pageOf ((acceptedOf g (syncPage kernel page)) .guard) p
+  unfolding acceptedOf withSynced pageSynced
+  syncPage-other kernel page p other = rw (getD-set-other (g .shadow) page p _ 0 other, getD-set-other (g .map) page p _ none other)
+
+  syncPage-commutes : (kernel : List ℕ) (page : ℕ) → page < policy .pages → (p : ℕ)
+      → told policy (pageOf g p) (news p (syncPage kernel page)) ≡ pageOf ((acceptedOf g (syncPage kernel page)) .guard) p
+  unfolding news told
+  syncPage-commutes kernel page below p = at (eqb p page) refl
+    where
       at : (b : Bool) → eqb p page ≡ b
           → told policy (pageOf g p) (cond b (synchronised (getD kernel p 0)) nothing) ≡ pageOf ((acceptedOf g (syncPage kernel page)) .guard) p
-      at true e =
-          let same : p ≡ page = eqb-true p page e in
-          let below : page < policy .pages = syncPage-page (seenBy policy (pageOf g)) (length kernel) page passed in
-          rw same
-          (stepped-at (set (g .shadow) page (after .entry)) (set (g .map) page (after .approval)) page (getD kernel page 0)
-          (getD-set-same (g .shadow) page (after .entry) 0 (omega (arith, h .shadowLength)))
-          (getD-set-same (g .map) page (after .approval) none (omega (arith, h .mapLength))))
-      at false e =
-          rw (getD-set-other (g .shadow) page p (after .entry) 0 (eqb-false p page e), getD-set-other (g .map) page p (after .approval) none (eqb-false p page e))
-          refl
+      at true e = rw (eqb-true p page e) (syncPage-here kernel page below)
+      at false e = syncPage-other kernel page p (eqb-false p page e)
 
   syncAll-commutes : (kernel : List ℕ) → firstNo (syncAllAsks (seenBy policy (pageOf g)) (length kernel)) ≡ 0 → (p : ℕ)
       → told policy (pageOf g p) (news p (syncAll kernel)) ≡ pageOf ((acceptedOf g (syncAll kernel)) .guard) p
@@ -116,7 +118,7 @@ module _ (policy : Policy) (protected : ℕ → Bool) (g : Guard) (sound : Sound
   pub commutes : (call : Call) → settled policy (pageOf g) g call ≡ 0 → (p : ℕ)
       → told policy (pageOf g p) (news p call) ≡ pageOf ((acceptedOf g call) .guard) p
   unfolding news told settled acceptedOf withMoved withSwitched withReply switchTo inMode inUser turned
-  commutes (syncPage kernel page) passed p = syncPage-commutes kernel page passed p
+  commutes (syncPage kernel page) passed p = syncPage-commutes kernel page (syncPage-page (seenBy policy (pageOf g)) (length kernel) page passed) p
   commutes (syncAll kernel) passed p = syncAll-commutes kernel passed p
   commutes (fetch page) passed p = rw inUser-modeOf
   commutes (write address size) passed p = refl

@@ -5,7 +5,7 @@ use mathlib.Core.Bool.{Bool, true, false, not, cond, true≢false, false≢true}
 use mathlib.Core.Path.{_≡_, refl, sym, _∙_}
 use lib.Dec.{leb, eqb}
 use native.Mathlib.Omega.{arith}
-use borrow.Author.Tests.{leb-false, ne-eqb}
+use borrow.Author.Tests.{leb-false, ne-eqb, not-true}
 use Rattle.model.specs.declared.Entry.the-variants.{Absent, Present}
 use Rattle.model.specs.declared.Fields.{Fields}
 use Rattle.model.specs.Edges.{bit}
@@ -70,7 +70,13 @@ module _ (code : ℕ → Bool) (page : Page) where
         executable = λ u p q. both-ways _ (noExecute-ordinary (page .user) x (omega arith) ∙ (rw u refl)) q;
       }
 
--- Steps 1 to 5 leave one of these: a step's place has a property if each of the five has it.
+-- A choice has a property if each of the two has it where it is chosen.
+cond-cases : {A : Type 0} (P : A → Type 0) (b : Bool) {x y : A} → (b ≡ true → P x) → (b ≡ false → P y) → P (cond b x y)
+cond-cases P true p q = p refl
+cond-cases P false p q = q refl
+
+-- Steps 1 to 5: the place that a step gives has a property if an absent entry has it, an approved one with the map's frame, an approved one
+-- with an excluded frame, and an ordinary one.
 pub step-cases : (P : Place → Type 0) (rules : Rules) (k a : ℕ)
     → P (place 0 a)
     → (eqb a none ≡ false → P (place (approved (rules .user) a) a))
@@ -78,29 +84,15 @@ pub step-cases : (P : Place → Type 0) (rules : Rules) (k a : ℕ)
     → (frameOf k < rules .frames → rules .excluded (frameOf k) ≡ false → P (place (ordinary (rules .user) (fieldsOf k)) a))
     → P (step rules k a)
 unfolding step takenApart fieldsOf stepOf
-step-cases P rules k a absent kept joins plain = one (present k)
+step-cases P rules k a absent mapped joins plain = by (present k)
   where
-    four : (b : Bool) → rules .excluded (frameOf k) ≡ b → frameOf k < rules .frames
-        → P (cond b (place (approved (rules .user) (frameOf k)) (frameOf k)) (place (ordinary (rules .user) (fieldsOf k)) a))
-    four true e l = joins l e
-    four false e l = plain l e
-
-    three : (b : Bool) → leb (rules .frames) (frameOf k) ≡ b
-        → P (cond b (place 0 a)
-        (cond (rules .excluded (frameOf k)) (place (approved (rules .user) (frameOf k)) (frameOf k)) (place (ordinary (rules .user) (fieldsOf k)) a)))
-    three true e = absent
-    three false e = four (rules .excluded (frameOf k)) refl (leb-false (rules .frames) (frameOf k) e)
-
-    two : (b : Bool) → eqb a none ≡ b
-        → P (cond (not b) (place (approved (rules .user) a) a)
-        (cond (leb (rules .frames) (frameOf k)) (place 0 a)
-        (cond (rules .excluded (frameOf k)) (place (approved (rules .user) (frameOf k)) (frameOf k)) (place (ordinary (rules .user) (fieldsOf k)) a))))
-    two true e = three (leb (rules .frames) (frameOf k)) refl
-    two false e = kept e
-
-    one : (b : Bool) → P (stepOf rules (cond b (Present (fieldsOf k)) Absent) a)
-    one true = two (eqb a none) refl
-    one false = absent
+    by : (b : Bool) → P (stepOf rules (cond b (Present (fieldsOf k)) Absent) a)
+    by true =
+        cond-cases P (not (eqb a none)) (λ e. mapped (not-true (eqb a none) e)) (λ e.
+        cond-cases P (leb (rules .frames) (frameOf k)) (λ e. absent) (λ e.
+        let below : frameOf k < rules .frames = leb-false (rules .frames) (frameOf k) e in
+        cond-cases P (rules .excluded (frameOf k)) (joins below) (plain below)))
+    by false = absent
 
 -- A synchronisation keeps a page good, if code is below F and every excluded frame is code.
 pub stepped-good : (policy : Policy) (code : ℕ → Bool) (page : Page) (k : ℕ) → policy .frames ≤ 4096
