@@ -35,7 +35,7 @@ pageOf g p =
       excluded = excludedIn (g .exclusion);
     }
 
--- What holds of the guard after the start and after every call. Later calls that change the excluded frames change `excluded` and `code`.
+-- What holds of the guard after the start and after every call. What a later call excludes changes `excluded` and `code` alone.
 pub record Kept (policy : Policy) (protected : ℕ → Bool) (g : Guard) : Type 0 where
   -- the state's sizes and entry pages are the policy's, and the running page is one of its pages
   pub pages : g .state .pages ≡ policy .pages
@@ -52,6 +52,34 @@ pub record Kept (policy : Policy) (protected : ℕ → Bool) (g : Guard) : Type 
   pub code : (f : ℕ) → protected f ≡ true → named policy f ≡ true
   -- every page is good
   pub good : (p : ℕ) → Good (named policy) (pageOf g p)
+
+-- What an accepted call gives.
+unfoldable pub acceptedOf : Guard → Call → Outcome
+acceptedOf g (syncPage kernel page) =
+    withSynced g (pageSynced (g .shadow) (g .map) page (step (rulesOf (g .state) (g .exclusion)) (getD kernel page 0) (getD (g .map) page none)))
+acceptedOf g (syncAll kernel) = withSynced g (allSynced (runOver (step (rulesOf (g .state) (g .exclusion))) kernel (g .shadow) (g .map)))
+acceptedOf g (fetch page) =
+    withMoved g
+    (record {
+      reply = accepted (frameOf (getD (g .shadow) page 0)) (frameOf (getD (g .shadow) page 0));
+      state = inMode (g .state) (modeOf (inUser (g .state .mode)) page);
+    })
+acceptedOf g (write address size) =
+    withReply g
+    (accepted (frameOf (getD (g .shadow) (address / pageBytes) 0)) (frameOf (getD (g .shadow) (lastPage address size) 0)))
+acceptedOf g (enter index) = withSwitched g (switchTo (g .state) (g .shadow) (Kernel (getD (g .state .entry) index 0)))
+acceptedOf g (leave page) = withSwitched g (switchTo (g .state) (g .shadow) (User page))
+acceptedOf g (deviceWrite address size) = withReply g (accepted (address / pageBytes) (lastPage address size))
+
+-- A refused call: its number, and nothing changed.
+abbrev pub refusedOf : Guard → ℕ → Outcome
+refusedOf g n = record { reply = refused n; guard = g }
+
+-- What is made of a settled outcome is settled by the same number.
+settle-map : {A B : Type 0} (f : A → B) {m : ℕ} (n : ℕ) (done : A) (refusal : ℕ → A) → n ≡ m → f (settle n done refusal) ≡ settle m (f done) (λ k. f (refusal k))
+unfolding settle
+settle-map f zero done refusal e = rw (← e) refl
+settle-map f (suc n) done refusal e = rw (← e) refl
 
 module _ (policy : Policy) (protected : ℕ → Bool) (g : Guard) (sound : Sound policy) (h : Kept policy protected g) where
   state-fits : stateInOrder (g .state) ≡ true
@@ -78,48 +106,13 @@ module _ (policy : Policy) (protected : ℕ → Bool) (g : Guard) (sound : Sound
         exclusionFits = (eq-eqb (length (g .exclusion)) (vectorBytes (g .state .frames)) (h .exclusionLength ∙ sym (ap vectorBytes (h .frames)))) i;
       }
 
--- What an accepted call gives.
-unfoldable pub acceptedOf : Guard → Call → Outcome
-acceptedOf g (syncPage kernel page) =
-    withSynced g (pageSynced (g .shadow) (g .map) page (step (rulesOf (g .state) (g .exclusion)) (getD kernel page 0) (getD (g .map) page none)))
-acceptedOf g (syncAll kernel) = withSynced g (allSynced (runOver (step (rulesOf (g .state) (g .exclusion))) kernel (g .shadow) (g .map)))
-acceptedOf g (fetch page) =
-    withMoved g
-    (record {
-      reply = accepted (frameOf (getD (g .shadow) page 0)) (frameOf (getD (g .shadow) page 0));
-      state = inMode (g .state) (modeOf (inUser (g .state .mode)) page);
-    })
-acceptedOf g (write address length) =
-    withReply g
-    (accepted (frameOf (getD (g .shadow) (address / pageBytes) 0)) (frameOf (getD (g .shadow) (lastPage address length) 0)))
-acceptedOf g (enter index) = withSwitched g (switchTo (g .state) (g .shadow) (Kernel (getD (g .state .entry) index 0)))
-acceptedOf g (leave page) = withSwitched g (switchTo (g .state) (g .shadow) (User page))
-acceptedOf g (deviceWrite address length) = withReply g (accepted (address / pageBytes) (lastPage address length))
-
--- A refused call: its number, and nothing changed.
-abbrev pub refusedOf : Guard → ℕ → Outcome
-refusedOf g n = record { reply = refused n; guard = g }
-
-settle-map : {A B : Type 0} (f : A → B) {m : ℕ} (n : ℕ) (done : A) (refusal : ℕ → A) → n ≡ m → f (settle n done refusal) ≡ settle m (f done) (λ k. f (refusal k))
-unfolding settle
-settle-map f zero done refusal e = rw (← e) refl
-settle-map f (suc n) done refusal e = rw (← e) refl
-
--- The guard's outcome, by the number that the one-page guards settle.
-pub answered : (policy : Policy) (protected : ℕ → Bool) (g : Guard) → Sound policy → Kept policy protected g → (call : Call)
-    → answer g call ≡ settle (settled policy (pageOf g) g call) (acceptedOf g call) (refusedOf g)
-unfolding answer settled acceptedOf withSynced withMoved withSwitched withReply syncPageOf syncAllOf fetchOf writeOf enterOf leaveOf deviceWriteOf syncPageAsks syncAllAsks fetchAsks writeAsks enterAsks leaveAsks deviceWriteAsks free
-answered policy protected g sound h (syncPage kernel page) =
-    settle-map (withSynced g) _ _ _ (ap (λ v. firstNo (syncPageAsks v (length kernel) page)) (same-view policy protected g sound h))
-answered policy protected g sound h (syncAll kernel) =
-    settle-map (withSynced g) _ _ _ (ap (λ v. firstNo (syncAllAsks v (length kernel))) (same-view policy protected g sound h))
-answered policy protected g sound h (fetch page) =
-    settle-map (withMoved g) _ _ _ (ap (λ v. firstNo (fetchAsks v page)) (same-view policy protected g sound h))
-answered policy protected g sound h (write address length) =
-    settle-map (withReply g) _ _ _ (ap (λ v. firstNo (writeAsks v address length)) (same-view policy protected g sound h))
-answered policy protected g sound h (enter index) =
-    settle-map (withSwitched g) _ _ _ (ap (λ v. firstNo (enterAsks v index)) (same-view policy protected g sound h))
-answered policy protected g sound h (leave page) =
-    settle-map (withSwitched g) _ _ _ (ap (λ v. firstNo (leaveAsks v page)) (same-view policy protected g sound h))
-answered policy protected g sound h (deviceWrite address length) =
-    settle-map (withReply g) _ _ _ (ap (λ v. firstNo (deviceWriteAsks v address length)) (same-view policy protected g sound h))
+  -- The guard's outcome, by the number that the one-page guards settle.
+  pub answered : (call : Call) → answer g call ≡ settle (settled policy (pageOf g) g call) (acceptedOf g call) (refusedOf g)
+  unfolding answer settled acceptedOf withSynced withMoved withSwitched withReply syncPageOf syncAllOf fetchOf writeOf enterOf leaveOf deviceWriteOf syncPageAsks syncAllAsks fetchAsks writeAsks enterAsks leaveAsks deviceWriteAsks free
+  answered (syncPage kernel page) = settle-map (withSynced g) _ _ _ (ap (λ v. firstNo (syncPageAsks v (length kernel) page)) same-view)
+  answered (syncAll kernel) = settle-map (withSynced g) _ _ _ (ap (λ v. firstNo (syncAllAsks v (length kernel))) same-view)
+  answered (fetch page) = settle-map (withMoved g) _ _ _ (ap (λ v. firstNo (fetchAsks v page)) same-view)
+  answered (write address size) = settle-map (withReply g) _ _ _ (ap (λ v. firstNo (writeAsks v address size)) same-view)
+  answered (enter index) = settle-map (withSwitched g) _ _ _ (ap (λ v. firstNo (enterAsks v index)) same-view)
+  answered (leave page) = settle-map (withSwitched g) _ _ _ (ap (λ v. firstNo (leaveAsks v page)) same-view)
+  answered (deviceWrite address size) = settle-map (withReply g) _ _ _ (ap (λ v. firstNo (deviceWriteAsks v address size)) same-view)

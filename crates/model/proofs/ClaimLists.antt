@@ -34,6 +34,7 @@ protected-refused : (n : ℕ) (call : Call) (protected : ℕ → Bool) → prote
 unfolding protectedAfter
 protected-refused n call protected = refl
 
+-- The tables agree with the one-page guards that they show.
 agree : (policy : Policy) (protected : ℕ → Bool) (g : Guard) → Kept policy protected g → Agree policy g (pageOf g)
 agree policy protected g h =
     record {
@@ -74,6 +75,7 @@ always policy sound (call ∷ calls) protected g h = by-number (settled policy (
         let pages : pagesAfter policy number call (pageOf g) ≡ pageOf g = fun-ext (λ p. settle-refused n _ _ e) in
         (agree policy protected g h, rw (outcome, e) refl, (λ z. absurd (omega arith)), rw (outcome, pages, e, protected-refused) (rest protected g h))
 
+-- The start is settled first: a refused one has a number, and the list of an accepted one begins with what always holds.
 pub claim : Claim
 unfolding startOf
 claim bytes shadow map exclusion calls accepted = by-number (firstNo (startAsks bytes (policyOf bytes) (length shadow) (length map) (length exclusion))) refl
