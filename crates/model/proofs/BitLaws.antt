@@ -61,57 +61,60 @@ module _ (user : Bool) (f : ℕ) where
   unfolding frameOf approved approvedNoExecute
   frameOf-approved h = omega (arith, flag-is user 63)
 
--- An ordinary entry: bit 0, three flags below bit 10, the frame, and bit 63 by its own rule. It has no approved mark.
-module _ (a b c : Bool) where
-  low : ℕ
-  low = 2 ^ 0 + flag a 1 + flag b 2 + flag c 9
-
-  low-lt : low < 2 ^ 10
-  unfolding low
-  low-lt = omega (arith, flag-is a 1, flag-is b 2, flag-is c 9)
-
-  low-present : (d : Bool) (f : ℕ) → bit 0 (low + f * 2 ^ 12 + flag d 63) ≡ true
-  unfolding low
-  low-present d f = bit-on 0 (low + f * 2 ^ 12 + flag d 63) (omega (arith, flag-is a 1, flag-is b 2, flag-is c 9, flag-is d 63))
-
-  low-writable : (d : Bool) (f : ℕ) → bit 1 (low + f * 2 ^ 12 + flag d 63) ≡ a
-  unfolding low
-  low-writable d f = bit-is 1 (low + f * 2 ^ 12 + flag d 63) a (omega (arith, flag-is a 1, flag-is b 2, flag-is c 9, flag-is d 63))
+-- Bit 0, three flags below bit 10, a frame, and a flag at bit 63.
+frame-of : (l f : ℕ) (d : Bool) → l < 2 ^ 10 → f < 2 ^ 40 → (l + f * 2 ^ 12 + flag d 63) / 2 ^ 12 % 2 ^ 40 ≡ f
+unfolding flag
+frame-of l f true h k = omega arith
+frame-of l f false h k = omega arith
 
 above-low : (l f : ℕ) (d : Bool) → l < 2 ^ 10 → bit 10 (l + f * 2 ^ 12 + flag d 63) ≡ false
 unfolding flag
 above-low l f true h = bit-off 10 (l + f * 2 ^ 12 + 2 ^ 63) (omega arith)
 above-low l f false h = bit-off 10 (l + f * 2 ^ 12 + 0) (omega arith)
 
-frame-of : (l f : ℕ) (d : Bool) → l < 2 ^ 10 → f < 2 ^ 40 → (l + f * 2 ^ 12 + flag d 63) / 2 ^ 12 % 2 ^ 40 ≡ f
-unfolding flag
-frame-of l f true h k = omega arith
-frame-of l f false h k = omega arith
+module _ (a b c d : Bool) (f : ℕ) where
+  abbrev low : ℕ
+  low = 2 ^ 0 + flag a 1 + flag b 2 + flag c 9
 
+  low-lt : low < 2 ^ 10
+  low-lt = omega (arith, flag-is a 1, flag-is b 2, flag-is c 9)
+
+  bit0-is : bit 0 (low + f * 2 ^ 12 + flag d 63) ≡ true
+  bit0-is = bit-on 0 (low + f * 2 ^ 12 + flag d 63) (omega (arith, flag-is a 1, flag-is b 2, flag-is c 9, flag-is d 63))
+
+  bit1-is : bit 1 (low + f * 2 ^ 12 + flag d 63) ≡ a
+  bit1-is = bit-is 1 (low + f * 2 ^ 12 + flag d 63) a (omega (arith, flag-is a 1, flag-is b 2, flag-is c 9, flag-is d 63))
+
+  bit10-is : bit 10 (low + f * 2 ^ 12 + flag d 63) ≡ false
+  bit10-is = above-low low f d low-lt
+
+  bit63-is : f < 2 ^ 40 → bit 63 (low + f * 2 ^ 12 + flag d 63) ≡ d
+  bit63-is h = bit-flag d (low + f * 2 ^ 12) (omega (arith, low-lt))
+
+  frame-is : f < 2 ^ 40 → (low + f * 2 ^ 12 + flag d 63) / 2 ^ 12 % 2 ^ 40 ≡ f
+  frame-is h = frame-of low f d low-lt h
+
+-- An ordinary entry has these: no approved mark, and bit 63 by its own rule.
 module _ (user : Bool) (x : Fields) where
-  abbrev flags : ℕ
-  flags = low (x .writable) (x .user) (x .noexec)
-
   pub present-ordinary : present (ordinary user x) ≡ true
-  unfolding present ordinary low
-  present-ordinary = low-present (x .writable) (x .user) (x .noexec) _ (x .frame)
+  unfolding present ordinary
+  present-ordinary = bit0-is _ _ _ _ (x .frame)
 
   pub writable-ordinary : writable (ordinary user x) ≡ x .writable
-  unfolding writable ordinary low
-  writable-ordinary = low-writable (x .writable) (x .user) (x .noexec) _ (x .frame)
+  unfolding writable ordinary
+  writable-ordinary = bit1-is _ _ _ _ (x .frame)
 
   pub approvedMark-ordinary : approvedMark (ordinary user x) ≡ false
-  unfolding approvedMark ordinary low
-  approvedMark-ordinary = above-low flags (x .frame) _ (low-lt (x .writable) (x .user) (x .noexec))
-
-  pub frameOf-ordinary : x .frame < 2 ^ 40 → frameOf (ordinary user x) ≡ x .frame
-  unfolding frameOf ordinary low
-  frameOf-ordinary h = frame-of flags (x .frame) _ (low-lt (x .writable) (x .user) (x .noexec)) h
+  unfolding approvedMark ordinary
+  approvedMark-ordinary = bit10-is _ _ _ _ (x .frame)
 
   pub noExecute-ordinary : x .frame < 2 ^ 40 → noExecute (ordinary user x) ≡ ordinaryNoExecute user (x .noexec) (x .user)
-  unfolding noExecute ordinary low
-  noExecute-ordinary h =
-      bit-flag (ordinaryNoExecute user (x .noexec) (x .user)) (flags + x .frame * 2 ^ 12) (omega (arith, low-lt (x .writable) (x .user) (x .noexec)))
+  unfolding noExecute ordinary
+  noExecute-ordinary h = bit63-is _ _ _ _ (x .frame) h
+
+  pub frameOf-ordinary : x .frame < 2 ^ 40 → frameOf (ordinary user x) ≡ x .frame
+  unfolding frameOf ordinary
+  frameOf-ordinary h = frame-is _ _ _ _ (x .frame) h
 
 -- A mode switch: the frame and every bit but 63 are kept.
 switched-kept : (user : Bool) (entry k : ℕ) → ((b : Bool) → (entry % 2 ^ 63 + flag b 63) / 2 ^ k % 2 ≡ entry / 2 ^ k % 2)
