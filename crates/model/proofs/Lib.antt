@@ -1,5 +1,7 @@
 -- Laws about the definitions, each stated once. Code crates cite them.
 pub mod AskLaws
 pub mod VectorLaws
+pub mod CallLaws
 pub mod TouchLaws
 pub mod RunLaws
+pub mod SwitchLaws
