@@ -5,6 +5,7 @@ pub mod TableLaws
 pub mod PolicyLaws
 mod Computed
 pub mod VectorLaws
+pub mod CallLaws
 pub mod TouchLaws
 pub mod RunLaws
 pub mod ClaimPages
@@ -14,3 +15,4 @@ pub mod ClaimCalls
 pub mod ClaimSafe
 pub mod ClaimStart
 pub mod ClaimLists
+pub mod SwitchLaws
