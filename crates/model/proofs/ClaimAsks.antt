@@ -1,33 +1,21 @@
 -- Demand 3: what the questions of an accepted call, each looked up by its number, say of what the call names. They hold of any view.
-use Prim.Native.Nat.{ℕ, zero, suc, _+_, _/_, _≤_, _<_}
+use Prim.Native.Nat.{ℕ, _+_, _/_, _≤_, _<_}
 use mathlib.Core.Bool.{Bool, true, false}
 use mathlib.Core.Path.{_≡_, refl}
-use lib.Dec.{ltb, eqb}
+use lib.Dec.{ltb}
 use native.Mathlib.Omega.{arith}
-use borrow.Author.Tests.{ltb-true, eqb-true, eqb-false, not-true}
-use Rattle.model.specs.Edges.{pageBytes, both, either, everyFrom, lastByte, lastPage, touched}
+use borrow.Author.Tests.{ltb-true, eqb-true, not-true}
+use Rattle.model.specs.Edges.{pageBytes, both, either, lastByte, lastPage}
 use Rattle.model.specs.Bits.{present, noExecute, frameOf}
 use Rattle.model.specs.Questions.{View, firstNo, inOrder, syncPageAsks, syncAllAsks, fetchPermitted, fetchAsks, free, everyTouched, writeAsks, enterAsks, leaveAsks, deviceWriteAsks}
 use Rattle.model.proofs.AskLaws.{asked, numbered, all-yes, both-first, both-second}
+use Rattle.model.proofs.TouchLaws.{touched-at}
 
--- A test of each of the numbers from first on, and of every page (or frame) that an access touches: it holds of that of each of its bytes.
-every-at : (test : ℕ → Bool) (first count p : ℕ) → everyFrom test first count ≡ true → first ≤ p → p < first + count → test p ≡ true
-unfolding everyFrom
-every-at test first zero p h l m = absurd (omega arith)
-every-at test first (suc count) p h l m =
-    at (eqb p first) refl (λ k. every-at test (suc first) count p (both-second (test first) (everyFrom test (suc first) count) h) k (omega arith))
-  where
-    at : (b : Bool) → eqb p first ≡ b → (suc first ≤ p → test p ≡ true) → test p ≡ true
-    at true e rest = rw (eqb-true p first e) (both-first (test first) (everyFrom test (suc first) count) h)
-    at false e rest =
-        let other = eqb-false p first e in
-        rest (omega arith)
-
+-- A test of every page (or frame) that an access touches holds of that of each of its bytes.
 every-byte : (test : ℕ → Bool) (address length a : ℕ) → everyTouched test address length ≡ true → address ≤ a → a < address + length
     → test (a / pageBytes) ≡ true
-unfolding everyTouched touched lastPage lastByte
-every-byte test address length a h l m =
-    every-at test (address / pageBytes) (touched address length) (a / pageBytes) h (omega arith) (omega arith)
+unfolding lastPage lastByte
+every-byte test address length a h l m = touched-at test address length (a / pageBytes) h (omega arith) (omega arith)
 
 module _ (v : View) where
   -- The page, the entry page and the kernel table's length.

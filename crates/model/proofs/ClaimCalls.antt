@@ -3,7 +3,7 @@ use Prim.Native.Nat.{ℕ, _≤_, _<_}
 use mathlib.Core.Bool.{Bool, true, false, cond}
 use mathlib.Core.List.{List}
 use mathlib.Core.Path.{_≡_, refl, sym, subst, _∙_}
-use lib.ListN.{length, getD, set, length-set, length-map, List·getD-map, List·getD-eq-default}
+use lib.ListN.{length, getD, length-set, List·getD-eq-default}
 use lib.Seq.{getD-set-same, getD-set-other}
 use lib.Dec.{ltb, eqb}
 use native.Mathlib.Omega.{arith}
@@ -13,9 +13,9 @@ use Rattle.model.specs.declared.Mode.the-variants.{Kernel, User}
 use Rattle.model.specs.Edges.{bit, framesInRange}
 use Rattle.model.specs.Keeps.{none, Guard, inUser, running, modeOf, inMode}
 use Rattle.model.specs.Policy.{Policy, named}
-use Rattle.model.specs.Bits.{present, takenApart, switched}
+use Rattle.model.specs.Bits.{present, takenApart}
 use Rattle.model.specs.Sync.{Rules, Place, place, step, stepOf, Run, switchedAll, runOver}
-use Rattle.model.specs.Questions.{firstNo, syncPageAsks, syncAllAsks}
+use Rattle.model.specs.Questions.{firstNo, syncAllAsks}
 use Rattle.model.specs.Calls.{rulesOf, pageSynced, allSynced, switchTo}
 use Rattle.model.specs.Lists.{Call, syncPage, syncAll, fetch, write, enter, leave, deviceWrite, withSynced, withMoved, withSwitched, withReply}
 use Rattle.model.specs.OnePage.{synchronised, nothing, seenBy, settled, stepped, turned, told, news}
@@ -23,6 +23,7 @@ use Rattle.model.specs.Claim.{protectedAfter}
 use Rattle.model.proofs.AskLaws.{within-high}
 use Rattle.model.proofs.ClaimPages.{Good, told-good}
 use Rattle.model.proofs.RunLaws.{run-shadow-length, run-map-length, run-shadow-at, run-map-at}
+use Rattle.model.proofs.SwitchLaws.{length-switched, switched-at}
 use Rattle.model.proofs.ClaimAsks.{syncPage-page, syncAll-kernel, fetch-page, enter-page, leave-page}
 use Rattle.model.proofs.ClaimKept.{Sound, Kept, pageOf, acceptedOf}
 
@@ -106,14 +107,6 @@ module _ (policy : Policy) (protected : ℕ → Bool) (g : Guard) (sound : Sound
           stepped-past (after .shadow) (after .map) p (getD kernel p 0) past (List·getD-eq-default kernel 0 (omega (arith, whole)))
           (run-shadow-length f kernel (g .shadow) (g .map) ∙ h .shadowLength) (run-map-length f kernel (g .shadow) (g .map) ∙ h .mapLength)
 
-  switch-commutes : (user : Bool) (p : ℕ) → switched user (getD (g .shadow) p 0) ≡ getD (switchedAll user (g .shadow)) p 0
-  unfolding switchedAll switched present bit
-  switch-commutes user p = sym (List·getD-map (switched user) (g .shadow) p 0)
-
-  switched-length : (user : Bool) → length (switchedAll user (g .shadow)) ≡ policy .pages
-  unfolding switchedAll
-  switched-length user = length-map (g .shadow) (switched user) ∙ h .shadowLength
-
   -- Each accepted call, as the one-page guards are told of it.
   pub commutes : (call : Call) → settled policy (pageOf g) g call ≡ 0 → (p : ℕ)
       → told policy (pageOf g p) (news p call) ≡ pageOf ((acceptedOf g call) .guard) p
@@ -122,8 +115,8 @@ module _ (policy : Policy) (protected : ℕ → Bool) (g : Guard) (sound : Sound
   commutes (syncAll kernel) passed p = syncAll-commutes kernel passed p
   commutes (fetch page) passed p = rw inUser-modeOf
   commutes (write address size) passed p = refl
-  commutes (enter index) passed p = rw (switch-commutes false p)
-  commutes (leave page) passed p = rw (switch-commutes true p)
+  commutes (enter index) passed p = rw switched-at
+  commutes (leave page) passed p = rw switched-at
   commutes (deviceWrite address size) passed p = refl
 
   -- Every page stays good.
@@ -169,8 +162,8 @@ module _ (policy : Policy) (protected : ℕ → Bool) (g : Guard) (sound : Sound
   kept (write address size) passed = h
   kept (enter index) passed =
       kept-with (Kernel (getD (g .state .entry) index 0)) (switchedAll false (g .shadow)) (g .map)
-      (rw (h .entry) (enter-page (seenBy policy (pageOf g)) index passed)) (switched-length false) (h .mapLength) (good-after (enter index) passed)
+      (rw (h .entry) (enter-page (seenBy policy (pageOf g)) index passed)) (length-switched false (g .shadow) ∙ h .shadowLength) (h .mapLength) (good-after (enter index) passed)
   kept (leave page) passed =
-      kept-with (User page) (switchedAll true (g .shadow)) (g .map) (leave-page (seenBy policy (pageOf g)) page passed) (switched-length true)
+      kept-with (User page) (switchedAll true (g .shadow)) (g .map) (leave-page (seenBy policy (pageOf g)) page passed) (length-switched true (g .shadow) ∙ h .shadowLength)
       (h .mapLength) (good-after (leave page) passed)
   kept (deviceWrite address size) passed = h

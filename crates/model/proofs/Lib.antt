@@ -8,6 +8,7 @@ pub mod VectorLaws
 pub mod CallLaws
 pub mod TouchLaws
 pub mod RunLaws
+pub mod SwitchLaws
 pub mod ClaimPages
 pub mod ClaimKept
 pub mod ClaimAsks
@@ -15,4 +16,3 @@ pub mod ClaimCalls
 pub mod ClaimSafe
 pub mod ClaimStart
 pub mod ClaimLists
-pub mod SwitchLaws
