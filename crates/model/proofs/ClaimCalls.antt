@@ -12,14 +12,14 @@ use Rattle.model.specs.declared.Mode.{Mode}
 use Rattle.model.specs.declared.Mode.the-variants.{Kernel, User}
 use Rattle.model.specs.Edges.{bit, framesInRange}
 use Rattle.model.specs.Keeps.{none, Guard, inUser, running, modeOf, inMode}
-use Rattle.model.specs.Policy.{Policy, named}
+use Rattle.model.specs.Policy.{Policy}
 use Rattle.model.specs.Bits.{present, takenApart}
 use Rattle.model.specs.Sync.{Rules, Place, place, step, stepOf, Run, switchedAll, runOver}
 use Rattle.model.specs.Questions.{firstNo, syncAllAsks}
 use Rattle.model.specs.Calls.{rulesOf, pageSynced, allSynced, switchTo}
 use Rattle.model.specs.Lists.{Call, syncPage, syncAll, fetch, write, enter, leave, deviceWrite, withSynced, withMoved, withSwitched, withReply}
 use Rattle.model.specs.OnePage.{synchronised, nothing, seenBy, settled, stepped, turned, told, news}
-use Rattle.model.specs.Claim.{protectedAfter}
+use Rattle.model.specs.Claim.{Carried, carriedAfter}
 use Rattle.model.proofs.AskLaws.{within-high}
 use Rattle.model.proofs.ClaimPages.{Good, told-good}
 use Rattle.model.proofs.RunLaws.{run-shadow-length, run-map-length, run-shadow-at, run-map-at}
@@ -42,7 +42,7 @@ step-nothing : (rules : Rules) (a : ℕ) → step rules 0 a ≡ place 0 a
 unfolding step takenApart present bit stepOf
 step-nothing rules a = refl
 
-module _ (policy : Policy) (protected : ℕ → Bool) (g : Guard) (sound : Sound policy) (h : Kept policy protected g) where
+module _ (policy : Policy) (carried : Carried) (g : Guard) (sound : Sound policy) (h : Kept policy carried g) where
   -- A synchronised page is as its one-page guard is told, if the tables have the step's place at it.
   stepped-at : (shadow map : List ℕ) (p k : ℕ)
       → getD shadow p 0 ≡ (step (rulesOf (g .state) (g .exclusion)) k (getD (g .map) p none)) .entry
@@ -120,17 +120,17 @@ module _ (policy : Policy) (protected : ℕ → Bool) (g : Guard) (sound : Sound
   commutes (deviceWrite address size) passed p = refl
 
   -- Every page stays good.
-  good-after : (call : Call) → settled policy (pageOf g) g call ≡ 0 → (p : ℕ) → Good (named policy) (pageOf ((acceptedOf g call) .guard) p)
+  good-after : (call : Call) → settled policy (pageOf g) g call ≡ 0 → (p : ℕ) → Good (carried .code) (pageOf ((acceptedOf g call) .guard) p)
   unfolding framesInRange
   good-after call passed p =
-      subst (Good (named policy)) (commutes call passed p)
-      (told-good policy (named policy) (pageOf g p) (news p call) (within-high 1 4096 (policy .frames) (sound .frames)) (sound .below)
+      subst (Good (carried .code)) (commutes call passed p)
+      (told-good policy (carried .code) (pageOf g p) (news p call) (within-high 1 4096 (policy .frames) (sound .frames)) (h .below)
       (λ f e. h .code f (sym (h .excluded f) ∙ e)) (h .good p))
 
   -- What always holds is kept by another mode on a page below V and by tables of the same lengths, if every page stays good.
   kept-with : (mode : Mode) (shadow map : List ℕ) → running mode < policy .pages → length shadow ≡ policy .pages → length map ≡ policy .pages
       → let after : Guard = record { state = inMode (g .state) mode; shadow = shadow; map = map; exclusion = g .exclusion } in
-      ((p : ℕ) → Good (named policy) (pageOf after p)) → Kept policy protected after
+      ((p : ℕ) → Good (carried .code) (pageOf after p)) → Kept policy carried after
   unfolding inMode
   kept-with mode shadow map runs shadowLength mapLength good =
       record {
@@ -144,12 +144,13 @@ module _ (policy : Policy) (protected : ℕ → Bool) (g : Guard) (sound : Sound
         exclusionLength = h .exclusionLength;
         excluded = h .excluded;
         code = h .code;
+        below = h .below;
         good = good;
       }
 
   -- Every accepted call keeps what always holds.
-  pub kept : (call : Call) → settled policy (pageOf g) g call ≡ 0 → Kept policy (protectedAfter 0 call protected) ((acceptedOf g call) .guard)
-  unfolding protectedAfter settled acceptedOf withSynced withMoved withSwitched withReply pageSynced allSynced switchTo inMode running inUser
+  pub kept : (call : Call) → settled policy (pageOf g) g call ≡ 0 → Kept policy (carriedAfter 0 call (pageOf g) carried) ((acceptedOf g call) .guard)
+  unfolding carriedAfter settled acceptedOf withSynced withMoved withSwitched withReply pageSynced allSynced switchTo inMode running inUser
   kept (syncPage kernel page) passed =
       kept-with (g .state .mode) _ _ (h .runs) (length-set (g .shadow) page _ ∙ h .shadowLength) (length-set (g .map) page _ ∙ h .mapLength)
       (good-after (syncPage kernel page) passed)

@@ -15,6 +15,7 @@ use Rattle.model.specs.Questions.{firstNo, seen, stateInOrder, syncPageA
 use Rattle.model.specs.Calls.{Outcome, refused, accepted, settle, rulesOf, pageSynced, syncPageOf, allSynced, syncAllOf, fetchOf, writeOf, switchTo, enterOf, leaveOf, deviceWriteOf}
 use Rattle.model.specs.Lists.{Call, syncPage, syncAll, fetch, write, enter, leave, deviceWrite, withSynced, withMoved, withSwitched, withReply, answer}
 use Rattle.model.specs.OnePage.{Page, seenBy, settled}
+use Rattle.model.specs.Claim.{Carried}
 use Rattle.model.proofs.AskLaws.{both-yes}
 use Rattle.model.proofs.ClaimPages.{Good}
 
@@ -36,7 +37,7 @@ pageOf g p =
     }
 
 -- What holds of the guard after the start and after every call. What a later call excludes changes `excluded` and `code` alone.
-pub record Kept (policy : Policy) (protected : ℕ → Bool) (g : Guard) : Type 0 where
+pub record Kept (policy : Policy) (carried : Carried) (g : Guard) : Type 0 where
   -- the state's sizes and entry pages are the policy's, and the running page is one of its pages
   pub pages : g .state .pages ≡ policy .pages
   pub frames : g .state .frames ≡ policy .frames
@@ -47,11 +48,12 @@ pub record Kept (policy : Policy) (protected : ℕ → Bool) (g : Guard) : Type 
   pub shadowLength : length (g .shadow) ≡ policy .pages
   pub mapLength : length (g .map) ≡ policy .pages
   pub exclusionLength : length (g .exclusion) ≡ vectorBytes (policy .frames)
-  -- the excluded frames are the protected ones, and all of them are named in the policy
-  pub excluded : (f : ℕ) → excludedIn (g .exclusion) f ≡ protected f
-  pub code : (f : ℕ) → protected f ≡ true → named policy f ≡ true
+  -- the excluded frames are the protected ones, and all of them are frames of code, which are below F
+  pub excluded : (f : ℕ) → excludedIn (g .exclusion) f ≡ carried .protected f
+  pub code : (f : ℕ) → carried .protected f ≡ true → carried .code f ≡ true
+  pub below : (f : ℕ) → carried .code f ≡ true → f < policy .frames
   -- every page is good
-  pub good : (p : ℕ) → Good (named policy) (pageOf g p)
+  pub good : (p : ℕ) → Good (carried .code) (pageOf g p)
 
 -- What an accepted call gives.
 unfoldable pub acceptedOf : Guard → Call → Outcome
@@ -81,7 +83,7 @@ unfolding settle
 settle-map f zero done refusal e = rw (← e) refl
 settle-map f (suc n) done refusal e = rw (← e) refl
 
-module _ (policy : Policy) (protected : ℕ → Bool) (g : Guard) (sound : Sound policy) (h : Kept policy protected g) where
+module _ (policy : Policy) (carried : Carried) (g : Guard) (sound : Sound policy) (h : Kept policy carried g) where
   state-fits : stateInOrder (g .state) ≡ true
   unfolding stateInOrder
   state-fits =

@@ -1,21 +1,22 @@
 -- Demand 3: an accepted start leaves what always holds, and its tables show the one-page guards as they begin.
-use Prim.Native.Nat.{ℕ, _+_, _*_, _/_, _%_, _≤_, _<_}
+use Prim.Native.Nat.{ℕ, suc, _+_, _*_, _/_, _%_, _≤_, _<_}
 use mathlib.Core.Bool.{Bool, true, false, cond, true≢false, false≢true}
 use mathlib.Core.List.{List, [], _∷_}
 use mathlib.Core.Logic.{_⊎_, inl, inr}
 use mathlib.Core.Path.{_≡_, refl, sym, ap, subst, fun-ext, _∙_}
-use lib.Dec.{ltb, eqb}
+use lib.Dec.{leb, ltb, eqb}
 use lib.ListN.{length, getD, List·getD-eq-default}
 use native.Mathlib.Nat.{suc-inj}
 use native.Mathlib.Omega.{arith}
-use borrow.Author.Tests.{ltb-true, ltb-false, ne-eqb}
-use Rattle.model.specs.Edges.{pagesInRange, framesInRange, table, member, bit}
+use borrow.Author.Tests.{leb-true, ltb-true, ltb-false, eqb-true, ne-eqb}
+use Rattle.model.specs.Edges.{both, either, pagesInRange, framesInRange, table, member, bit}
 use Rattle.model.specs.Keeps.{none, vectorBytes, excludedIn, flag, byteOf, vectorOf, inUser, running}
 use Rattle.model.specs.Policy.{Policy, policyOf, frameFor, approvalFor, named, firstEntry, startState, startGuard}
 use Rattle.model.specs.Bits.{approved}
-use Rattle.model.specs.Questions.{firstNo, startAsks}
-use Rattle.model.specs.OnePage.{Page, firstPage}
-use Rattle.model.proofs.AskLaws.{within-yes}
+use Rattle.model.specs.Questions.{firstNo, startAsks, rising}
+use Rattle.model.specs.OnePage.{Page, placeIn, firstPage}
+use Rattle.model.specs.Claim.{carriedFirst}
+use Rattle.model.proofs.AskLaws.{both-first, both-second, within-yes}
 use Rattle.model.proofs.TableLaws.{length-table, getD-table}
 use Rattle.model.proofs.PolicyLaws.{Passed, start-passed, length-numbersAt, allBelow-getD, allBelow-member, member-here, member-there, member-later, frameFor-unlisted, frameFor-member}
 use Rattle.model.proofs.VectorLaws.{byteOf-bit, byteOf-ext, vectorOf-length}
@@ -68,11 +69,36 @@ frameFor-listed (p ∷ ps) (f ∷ fs) page other same listed =
     at true e rest = rw e (here (frameFor ps fs page f) (frameFor-member ps fs page f))
     at false e rest = rw e (member-later (frameFor ps fs page other) f fs (rest (sym (member-there page p ps e) ∙ listed)))
 
+-- A page below all that a rising array still lists is not listed there.
+rising-unlisted : (pages least : ℕ) (ps : List ℕ) (page : ℕ) → rising pages least ps ≡ true → page < least → member page ps ≡ false
+unfolding rising member either
+rising-unlisted pages least [] page up low = refl
+rising-unlisted pages least (p ∷ ps) page up low =
+    let above : least ≤ p = leb-true least p (both-first _ _ (both-first _ _ up)) in
+    rw (ne-eqb page p (λ e. omega arith)) (rising-unlisted pages (suc p) ps page (both-second (both (leb least p) (ltb p pages)) (rising pages (suc p) ps) up) (omega arith))
+
+-- Of rising pages with a frame each, the frame that the start gives a listed page is the one at the page's own place.
+frameFor-placed : (pages least : ℕ) (ps fs : List ℕ) (page other : ℕ) → length ps ≡ length fs → rising pages least ps ≡ true → member page ps ≡ true
+    → frameFor ps fs page other ≡ getD fs (placeIn page ps) 0
+unfolding frameFor member placeIn rising
+frameFor-placed pages least [] fs page other same up there = absurd (false≢true there)
+frameFor-placed pages least (p ∷ ps) [] page other same up there = absurd (omega arith)
+frameFor-placed pages least (p ∷ ps) (f ∷ fs) page other same up there =
+    at (eqb page p) refl (λ m. frameFor-placed pages (suc p) ps fs page other (suc-inj same) later m)
+  where
+    later : rising pages (suc p) ps ≡ true
+    later = both-second (both (leb least p) (ltb p pages)) (rising pages (suc p) ps) up
+
+    at : (b : Bool) → eqb page p ≡ b → (member page ps ≡ true → frameFor ps fs page other ≡ getD fs (placeIn page ps) 0)
+        → frameFor ps fs page (cond (eqb page p) f other) ≡ getD (f ∷ fs) (cond (eqb page p) 0 (suc (placeIn page ps))) 0
+    at true e rest = rw e (frameFor-unlisted ps fs page f (rising-unlisted pages (suc p) ps page later (omega (arith, eqb-true page p e))))
+    at false e rest = rw e (rest (sym (member-there page p ps e) ∙ there))
+
 module _ (bytes : List ℕ) (s m x : ℕ) (accepted : firstNo (startAsks bytes (policyOf bytes) s m x) ≡ 0) where
   abbrev policy : Policy
   policy = policyOf bytes
 
-  -- Whether a page is listed, and its frame.
+  -- Whether a page is listed, and the frame that the start gives it.
   abbrev listed : ℕ → Bool
   listed p = member p (policy .listed)
 
@@ -111,15 +137,28 @@ module _ (bytes : List ℕ) (s m x : ℕ) (accepted : firstNo (startAsks bytes (
   past-unlisted : (p : ℕ) → policy .pages ≤ p → listed p ≡ false
   past-unlisted = past-no listed (policy .pages) (λ p e. allBelow-member (policy .pages) p (policy .listed) (passed .listed-below) e)
 
+  -- The number at a page's own place of the second array.
+  abbrev placed : ℕ → ℕ
+  placed p = getD (policy .backing) (placeIn p (policy .listed)) 0
+
+  frame-placed : (p : ℕ) → listed p ≡ true → frame p ≡ placed p
+  frame-placed p e = frameFor-placed (policy .pages) 0 (policy .listed) (policy .backing) p none (listed-length ∙ sym backing-length) (passed .listed-rising) e
+
   -- The map's number and the shadow entry of a page, by whether it is listed.
-  first-approval : (p : ℕ) (b : Bool) → listed p ≡ b → approvalFor policy p ≡ cond b (frame p) none
+  first-approval : (p : ℕ) (b : Bool) → listed p ≡ b → approvalFor policy p ≡ cond b (placed p) none
   unfolding approvalFor
-  first-approval p true e = refl
+  first-approval p true e = frame-placed p e
   first-approval p false e = frameFor-unlisted (policy .listed) (policy .backing) p none e
 
-  first-entry : (p : ℕ) (b : Bool) → listed p ≡ b → firstEntry (approvalFor policy p) ≡ cond b (approved false (frame p)) 0
+  placed-named : (p : ℕ) → listed p ≡ true → named policy (placed p) ≡ true
+  placed-named p e = rw (← (frame-placed p e)) (listed-named p e)
+
+  placed-small : (p : ℕ) → listed p ≡ true → placed p < 4096
+  placed-small p e = rw (← (frame-placed p e)) (listed-small p e)
+
+  first-entry : (p : ℕ) (b : Bool) → listed p ≡ b → firstEntry (approvalFor policy p) ≡ cond b (approved false (placed p)) 0
   unfolding firstEntry
-  first-entry p true e = rw (first-approval p true e, ne-eqb (frame p) none (λ k. omega (arith, listed-small p e)))
+  first-entry p true e = rw (first-approval p true e, ne-eqb (placed p) none (λ k. omega (arith, placed-small p e)))
   first-entry p false e = rw (first-approval p false e)
 
   -- The tables of the start show the one-page guards as they begin.
@@ -146,12 +185,12 @@ module _ (bytes : List ℕ) (s m x : ℕ) (accepted : firstNo (startAsks bytes (
     where
       at : (b : Bool) → listed p ≡ b
           → Good (named policy)
-          (record { user = false; entry = cond b (approved false (frame p)) 0; approval = cond b (frame p) none; excluded = named policy })
-      at true e = good-approved (named policy) (firstPage policy p) (frame p) (listed-named p e) (listed-small p e)
+          (record { user = false; entry = cond b (approved false (placed p)) 0; approval = cond b (placed p) none; excluded = named policy })
+      at true e = good-approved (named policy) (firstPage policy p) (placed p) (placed-named p e) (placed-small p e)
       at false e = good-absent (named policy) (firstPage policy p) none (λ k. absurd (true≢false k))
 
-  pub start-kept : Kept policy (named policy) (startGuard policy)
-  unfolding startGuard startState running
+  pub start-kept : Kept policy (carriedFirst policy) (startGuard policy)
+  unfolding startGuard startState running carriedFirst
   start-kept =
       record {
         pages = refl;
@@ -164,5 +203,6 @@ module _ (bytes : List ℕ) (s m x : ℕ) (accepted : firstNo (startAsks bytes (
         exclusionLength = vectorOf-length (policy .frames) (named policy);
         excluded = excluded-is (policy .frames) (named policy) (sound .below);
         code = λ f e. e;
+        below = sound .below;
         good = λ p. subst (λ (ps : ℕ → Page). Good (named policy) (ps p)) (sym first-pages) (first-good p);
       }

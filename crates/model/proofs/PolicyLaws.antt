@@ -173,6 +173,7 @@ pub record Passed (policy : Policy) (shadow map exclusion : ℕ) : Type 0 where
   pub entries-low : 1 ≤ policy .entries
   pub entries-listed : policy .entries ≤ policy .count
   pub entries-high : policy .entries ≤ 16
+  pub listed-rising : rising (policy .pages) 0 (policy .listed) ≡ true
   pub listed-below : allBelow (policy .pages) (policy .listed) ≡ true
   pub backing-below : allBelow (policy .frames) (policy .backing) ≡ true
   pub shadow-fits : shadow ≡ policy .pages
@@ -233,6 +234,7 @@ module _ (bytes : List ℕ) (policy : Policy) (shadow map exclusion : ℕ) (h : 
         entries-low = within-low 1 (min (policy .count) 16) (policy .entries) entries-yes;
         entries-listed = omega (arith, within-high 1 (min (policy .count) 16) (policy .entries) entries-yes);
         entries-high = omega (arith, within-high 1 (min (policy .count) 16) (policy .entries) entries-yes);
+        listed-rising = rises-yes;
         listed-below = rising-below (policy .pages) 0 (policy .listed) rises-yes;
         backing-below = below-yes;
         shadow-fits = eqb-true _ _ (both-first _ _ lengths-yes);
