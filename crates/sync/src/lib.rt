@@ -94,8 +94,8 @@ pub fn sync_at(
     ensures { λ r. ⌜ (run (now (shadow .exit)) (now (map .exit)) (r .changed) (r .joined) ≡ stepAt (Sync.step (rules user frames (now (exclusion .entry)))) entry (now (shadow .entry)) (now (map .entry)) i) × (r .changed ≤ 1) × (r .joined ≤ 1) ⌝ }
 {
     let place = step(user, frames, exclusion, entry, map[i]);
-    let changed = put_entry(shadow, i, place.entry);
     let joined = put_approval(map, i, place.approval);
+    let changed = put_entry(shadow, i, place.entry);
     Counts { changed, joined }
 }
 
