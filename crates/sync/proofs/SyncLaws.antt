@@ -3,6 +3,7 @@ use Prim.Native.Nat.{ℕ, _+_, _≤_, _<_}
 use mathlib.Core.Bool.{Bool, true, false, not}
 use mathlib.Core.List.{List, [], _∷_}
 use mathlib.Core.Path.{_≡_, refl, sym, ap, _∙_}
+use native.Mathlib.Nat.{zero-add}
 use native.Mathlib.Omega.{arith}
 use lib.Dec.{ltb, eqb}
 use lib.ListN.{length, getD, set, length-set}
@@ -51,32 +52,30 @@ module _ (r : Rules) (k a : ℕ) (e : Entry) (apart : e ≡ takenApart k) where
 pub kept : (l : List ℕ) (i v : ℕ) → getD l i 0 ≡ v → l ≡ set l i v
 kept l i v p = rw (← p) (sym (set-getD l i 0))
 
-pub same-counts : (a b : ℕ) → a ≡ b → 0 ≡ differs a b
+pub same-counts : (n a b : ℕ) → a ≡ b → n ≡ n + differs a b
 unfolding differs
-same-counts a b p = rw (eq-eqb a b p)
+same-counts n a b p = rw (eq-eqb a b p) (omega arith)
 
-pub other-counts : (a b : ℕ) → (a ≡ b → ⊥) → 1 ≡ differs a b
+pub other-counts : (n a b : ℕ) → (a ≡ b → ⊥) → n + 1 ≡ n + differs a b
 unfolding differs
-other-counts a b p = rw (ne-eqb a b p)
+other-counts n a b p = rw (ne-eqb a b p)
 
 -- A page's place stored in both tables.
-pub stored-step : (f : ℕ → ℕ → Place) (k i e a x y : ℕ) (shadow map shadow′ map′ : List ℕ) → place e a ≡ f k (getD map i 0)
-    → shadow′ ≡ set shadow i e → map′ ≡ set map i a → x ≡ differs (getD shadow i 0) e → y ≡ differs (getD map i 0) a
-    → run shadow′ map′ x y ≡ stepAt f k shadow map i
+pub stored-step : (f : ℕ → ℕ → Place) (k i e a changed joined x y : ℕ) (shadow map shadow′ map′ : List ℕ) → place e a ≡ f k (getD map i 0)
+    → shadow′ ≡ set shadow i e → map′ ≡ set map i a → x ≡ changed + differs (getD shadow i 0) e → y ≡ joined + differs (getD map i 0) a
+    → run shadow′ map′ x y ≡ stepAt f k i (run shadow map changed joined)
 unfolding stepAt
-stored-step f k i e a x y shadow map shadow′ map′ p ps pm px py = rw (← p, ps, pm, px, py)
+stored-step f k i e a changed joined x y shadow map shadow′ map′ p ps pm px py = rw (← p, ps, pm, px, py)
 
--- A run page by page: at its start, after page i, and at its end.
-module _ (f : ℕ → ℕ → Place) (kernel : List ℕ) where
-  pub run-more : (i : ℕ) (shadow map shadow′ map′ : List ℕ) (changed joined x y : ℕ) (all : Run)
-      → whole f kernel i (run shadow map changed joined) ≡ all → i < length kernel → length shadow ≡ length kernel → length map ≡ length kernel
-      → run shadow′ map′ x y ≡ stepAt f (getD kernel i 0) shadow map i
-      → whole f kernel (i + 1) (run shadow′ map′ (changed + x) (joined + y)) ≡ all
-  unfolding stepAt
-  run-more i shadow map shadow′ map′ changed joined x y all inv l ls lm p =
-      let q : Place = f (getD kernel i 0) (getD map i 0) in
-      rw (ap (λ r. r .shadow) p, ap (λ r. r .map) p)
-      (whole-more f kernel i shadow map changed joined (q .entry) (q .approval) x y all inv l (omega arith) (omega arith) refl (ap (λ r. r .changed) p) (ap (λ r. r .joined) p))
+-- A run page by page: after page i.
+pub run-more : (f : ℕ → ℕ → Place) (kernel : List ℕ) (i : ℕ) (shadow map shadow′ map′ : List ℕ) (changed joined x y : ℕ) (all : Run)
+    → whole f kernel i (run shadow map changed joined) ≡ all → i < length kernel → length shadow ≡ length kernel → length map ≡ length kernel
+    → run shadow′ map′ x y ≡ stepAt f (getD kernel i 0) i (run shadow map changed joined)
+    → whole f kernel (i + 1) (run shadow′ map′ x y) ≡ all
+unfolding stepAt
+run-more f kernel i shadow map shadow′ map′ changed joined x y all inv l ls lm p =
+    let q : Place = f (getD kernel i 0) (getD map i 0) in
+    rw p (whole-more f kernel i shadow map changed joined (q .entry) (q .approval) _ _ all inv l (omega arith) (omega arith) refl refl refl)
 
 -- What question 7 looks at, of lengths that may be any numbers.
 abbrev inOrderOf : State → ℕ → ℕ → ℕ → ℕ → Bool
@@ -142,7 +141,7 @@ module _ (s : State) (kernel shadow map exclusion : List ℕ) (r : Bool)
           sym (settle-refused 8 _ _ (firstNo-yes 7 _ (sym asked ∙ not-false r answer) ∙ firstNo-no 9 [] (sym exists ∙ not-true b p)))
 
       pub page-accepted : (u : Bool) (shadow′ map′ : List ℕ) (x y : ℕ) → not b ≡ false → u ≡ inUser (s .mode)
-          → run shadow′ map′ x y ≡ stepAt (step (rules u (s .frames) exclusion)) (getD kernel page 0) shadow map page
+          → run shadow′ map′ x y ≡ stepAt (step (rules u (s .frames) exclusion)) (getD kernel page 0) page (run shadow map 0 0)
           → syncedBy (Done x y) shadow′ map′ ≡ syncPageOf s kernel shadow map exclusion page
       unfolding syncPageOf syncPageAsks pageSynced allSynced stepAt syncedBy replyOf
       page-accepted u shadow′ map′ x y there q p =
@@ -150,6 +149,6 @@ module _ (s : State) (kernel shadow map exclusion : List ℕ) (r : Bool)
           let z : Place = step (rulesOf s exclusion) (getD kernel page 0) (getD map page none) in
           let e
           : run shadow′ map′ x y ≡ run (set shadow page (z .entry)) (set map page (z .approval)) (differs (getD shadow page 0) (z .entry)) (differs (getD map page none) (z .approval))
-          = rw (q, getD-inside map page 0 none inside) at p in
+          = simp zero-add at (rw (q, getD-inside map page 0 none inside) at p) in
           ap allSynced e
           ∙ sym (settle-accepted _ _ (firstNo-yes 7 _ (sym asked ∙ not-false r answer) ∙ firstNo-yes 9 [] (sym exists ∙ not-false b there) ∙ none-left))

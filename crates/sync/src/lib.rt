@@ -5,7 +5,7 @@ use model::Answer;
 use model::Entry;
 use model::State;
 ghost use mathlib.Core.Path.{_≡_};
-ghost use Prim.Native.Nat.{_<_, _≤_};
+ghost use Prim.Native.Nat.{_+_, _<_, _≤_};
 ghost use lib.ListN.{length, getD, set};
 ghost use Rattle.model.specs.Sync;
 ghost use Rattle.model.specs.Sync.{place, differs, run, runOver};
@@ -50,37 +50,39 @@ pub fn step(user: bool, frames: u16, exclusion: &[u8], entry: u64, approval: u16
     }
 }
 
-// Stores a page's shadow entry where its value changed, and counts that. An entry that stays is not written.
-fn put_entry(shadow: &mut [u64], i: usize, entry: u64) -> u64
-    requires { ⌜ i < length (now shadow) ⌝ }
-    ensures { λ r. ⌜ (now (shadow .exit) ≡ set (now (shadow .entry)) i entry) × (r ≡ differs (getD (now (shadow .entry)) i 0) entry) × (r ≤ 1) ⌝ }
-{
-    if shadow[i] == entry {
-        return 0;
-    }
-    shadow[i] = entry;
-    1
-}
-
-// The same of a page's number in the map: a number that changed is that of a page that joined.
-fn put_approval(map: &mut [u16], i: usize, approval: u16) -> u64
-    requires { ⌜ i < length (now map) ⌝ }
-    ensures { λ r. ⌜ (now (map .exit) ≡ set (now (map .entry)) i approval) × (r ≡ differs (getD (now (map .entry)) i 0) approval) × (r ≤ 1) ⌝ }
-{
-    if map[i] == approval {
-        return 0;
-    }
-    map[i] = approval;
-    1
-}
-
 // The shadow entries whose value changed, and the pages that joined the map.
 pub struct Counts {
     pub changed: u64,
     pub joined: u64,
 }
 
-// The step of page i on its kernel entry, stored in both tables. It asks that both have the page, which every caller has settled.
+// Stores a page's shadow entry where its value changed, and counts that. No more entries are counted than pages lie before this one.
+fn put_entry(shadow: &mut [u64], i: usize, entry: u64, changed: u64) -> u64
+    requires { ⌜ (i < length (now shadow)) × (changed ≤ i) ⌝ }
+    ensures { λ r. ⌜ (now (shadow .exit) ≡ set (now (shadow .entry)) i entry) × (r ≡ changed + differs (getD (now (shadow .entry)) i 0) entry) × (r ≤ changed + 1) ⌝ }
+{
+    if shadow[i] == entry {
+        return changed;
+    }
+    shadow[i] = entry;
+    changed + 1
+}
+
+// The same of a page's number in the map: a number that changed is that of a page that joined.
+fn put_approval(map: &mut [u16], i: usize, approval: u16, joined: u64) -> u64
+    requires { ⌜ (i < length (now map)) × (joined ≤ i) ⌝ }
+    ensures { λ r. ⌜ (now (map .exit) ≡ set (now (map .entry)) i approval) × (r ≡ joined + differs (getD (now (map .entry)) i 0) approval) × (r ≤ joined + 1) ⌝ }
+{
+    if map[i] == approval {
+        return joined;
+    }
+    map[i] = approval;
+    joined + 1
+}
+
+// The step of page i on its kernel entry, stored in both tables and counted. It asks that both tables have the page, which every
+// caller has settled, and that no more pages were counted than lie before it. The map's number is settled before an entry is written,
+// so that it is read once.
 pub fn sync_at(
     user: bool,
     frames: u16,
@@ -89,13 +91,14 @@ pub fn sync_at(
     shadow: &mut [u64],
     map: &mut [u16],
     i: usize,
+    counts: Counts,
 ) -> Counts
-    requires { ⌜ (i < length (now shadow)) × (i < length (now map)) ⌝ }
-    ensures { λ r. ⌜ (run (now (shadow .exit)) (now (map .exit)) (r .changed) (r .joined) ≡ stepAt (Sync.step (rules user frames (now (exclusion .entry)))) entry (now (shadow .entry)) (now (map .entry)) i) × (r .changed ≤ 1) × (r .joined ≤ 1) ⌝ }
+    requires { ⌜ (i < length (now shadow)) × (i < length (now map)) × (counts .changed ≤ i) × (counts .joined ≤ i) ⌝ }
+    ensures { λ r. ⌜ (run (now (shadow .exit)) (now (map .exit)) (r .changed) (r .joined) ≡ stepAt (Sync.step (rules user frames (now (exclusion .entry)))) entry i (run (now (shadow .entry)) (now (map .entry)) (counts .changed) (counts .joined))) × (r .changed ≤ counts .changed + 1) × (r .joined ≤ counts .joined + 1) ⌝ }
 {
     let place = step(user, frames, exclusion, entry, map[i]);
-    let joined = put_approval(map, i, place.approval);
-    let changed = put_entry(shadow, i, place.entry);
+    let joined = put_approval(map, i, place.approval, counts.joined);
+    let changed = put_entry(shadow, i, place.entry, counts.changed);
     Counts { changed, joined }
 }
 
@@ -111,16 +114,16 @@ pub fn sync_pages(
     requires { ⌜ (length (now shadow) ≡ length (now kernel)) × (length (now map) ≡ length (now kernel)) ⌝ }
     ensures { λ r. ⌜ run (now (shadow .exit)) (now (map .exit)) (r .changed) (r .joined) ≡ runOver (Sync.step (rules user frames (now (exclusion .entry)))) (now (kernel .entry)) (now (shadow .entry)) (now (map .entry)) ⌝ }
 {
-    let mut changed = 0;
-    let mut joined = 0;
+    let mut counts = Counts {
+        changed: 0,
+        joined: 0,
+    };
     let mut i = 0;
     while i < kernel.len() {
-        let page = sync_at(user, frames, exclusion, kernel[i], shadow, map, i);
-        changed += page.changed;
-        joined += page.joined;
+        counts = sync_at(user, frames, exclusion, kernel[i], shadow, map, i, counts);
         i += 1;
     }
-    Counts { changed, joined }
+    counts
 }
 
 // Synchronise one page.
@@ -142,6 +145,10 @@ pub fn sync_page(
     }
     let i = page as usize;
     let mode = s.mode;
+    let none = Counts {
+        changed: 0,
+        joined: 0,
+    };
     let counts = sync_at(
         questions::in_user(mode),
         s.frames,
@@ -150,6 +157,7 @@ pub fn sync_page(
         shadow,
         map,
         i,
+        none,
     );
     Answer::Done(counts.changed, counts.joined)
 }

@@ -13,4 +13,4 @@ pub put-approval-spec : {M : Type 1} → statement M
 put-approval-spec =
     tie.close
     (tie.spec (λ c. search needs) (λ c. search needs) returns (λ c. search needs) (λ c. search needs) (λ c. search needs)
-    returns-2)
+    (λ c. search needs) returns-2)

@@ -23,6 +23,8 @@ sync-at-requires : tie.Need-sync-at-requires
 sync-at-requires c κs = (
   page-in-shadow _ _ _ _ _ _ (c .before .before .before .before .before .before .before .sync-in-order .ensures) (c .before .before .before .before .before .before .if1 .left) _ _ (c .before .before .before .before .before .page-exists .ensures) (c .before .before .before .before .if2 .left),
   page-in-map _ _ _ _ _ _ (c .before .before .before .before .before .before .before .sync-in-order .ensures) (c .before .before .before .before .before .before .if1 .left) _ _ (c .before .before .before .before .before .page-exists .ensures) (c .before .before .before .before .if2 .left),
+  search needs,
+  search needs,
 )
 
 returns-3 : tie.Need-returns-3
