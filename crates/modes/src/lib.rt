@@ -2,13 +2,14 @@
 // Each call goes down its questions in order, and switches the mode where none refuses it.
 
 ghost use mathlib.Core.Path.{_≡_};
-ghost use mathlib.Core.Bool.{not};
-ghost use Prim.Native.Nat.{_≤_};
+ghost use mathlib.Core.Bool.{true};
+ghost use Prim.Native.Nat.{_≤_, _<_};
+ghost use lib.ListN.{length, getD};
 ghost use Rattle.model.specs.Sync;
 ghost use Rattle.model.specs.Sync.{switchedAll};
 ghost use Rattle.model.specs.Questions.{firstNo, leavePermitted};
 ghost use Rattle.model.specs.Calls.{switchedBy, enterOf, leaveOf};
-ghost use Rattle.modes.specs.Rest.{enterRest, leaveRest};
+ghost use Rattle.modes.specs.Switches.{switchPermitted, switchAsks};
 use model::Answer;
 use model::Called;
 use model::Mode;
@@ -38,17 +39,41 @@ pub fn switch_table(user: bool, shadow: &mut [u64]) -> u64
     changed
 }
 
-// The number of the question from 10 on that refuses to enter a page by its shadow entry, or 0.
-fn enter_refusal(user: bool, entry: u64) -> u64
-    ensures { λ r. ⌜ r ≡ firstNo (enterRest user entry) ⌝ }
+// Question 12 of leaving to a page.
+fn leave_permitted(entry: u64) -> bool
+    ensures { λ r. ⌜ r ≡ leavePermitted entry ⌝ }
 {
-    if !user {
+    both(entry::user_bit(entry), !entry::kernel_no_execute(entry))
+}
+
+// Question 12 of entering a page, or of leaving to it.
+fn permitted(enters: bool, entry: u64) -> bool
+    ensures { λ r. ⌜ r ≡ switchPermitted enters entry ⌝ }
+{
+    if enters {
+        entry::approved_mark(entry)
+    } else {
+        leave_permitted(entry)
+    }
+}
+
+// The number of the question from 9 on that refuses to enter a page, or to leave to it, or 0.
+// It asks for what question 7 has settled of a page that exists.
+fn refusal(exists: bool, suits: bool, enters: bool, shadow: &[u64], page: u64) -> u64
+    requires { ⌜ (exists ≡ true → page < length (now shadow)) ⌝ }
+    ensures { λ r. ⌜ r ≡ firstNo (switchAsks exists suits enters (getD (now (shadow .entry)) page 0)) ⌝ }
+{
+    if !exists {
+        return 9;
+    }
+    if !suits {
         return 10;
     }
+    let entry = shadow[page as usize];
     if !entry::present(entry) {
         return 11;
     }
-    if !entry::approved_mark(entry) {
+    if !permitted(enters, entry) {
         return 12;
     }
     0
@@ -63,15 +88,11 @@ pub fn enter(s: State, shadow: &mut [u64], index: u64) -> Called
             state: s,
         };
     }
-    if !questions::entry_exists(s, index) {
-        return Called {
-            answer: Answer::Refused(9),
-            state: s,
-        };
-    }
-    let page = questions::entry_page(s, index);
     let mode = s.mode;
-    let number = enter_refusal(questions::in_user(mode), shadow[page as usize]);
+    let user = questions::in_user(mode);
+    let exists = questions::entry_exists(s, index);
+    let page = questions::entry_page(s, index);
+    let number = refusal(exists, user, true, shadow, page as u64);
     if number != 0 {
         return Called {
             answer: Answer::Refused(number),
@@ -86,29 +107,6 @@ pub fn enter(s: State, shadow: &mut [u64], index: u64) -> Called
     }
 }
 
-// Question 12 of leaving to a page.
-fn leave_permitted(entry: u64) -> bool
-    ensures { λ r. ⌜ r ≡ leavePermitted entry ⌝ }
-{
-    both(entry::user_bit(entry), !entry::kernel_no_execute(entry))
-}
-
-// The number of the question from 10 on that refuses to leave to a page by its shadow entry, or 0.
-fn leave_refusal(user: bool, entry: u64) -> u64
-    ensures { λ r. ⌜ r ≡ firstNo (leaveRest user entry) ⌝ }
-{
-    if user {
-        return 10;
-    }
-    if !entry::present(entry) {
-        return 11;
-    }
-    if !leave_permitted(entry) {
-        return 12;
-    }
-    0
-}
-
 pub fn leave(s: State, shadow: &mut [u64], page: u64) -> Called
     ensures { λ r. ⌜ switchedBy r (now (shadow .exit)) ≡ leaveOf s (now (shadow .entry)) page ⌝ }
 {
@@ -118,14 +116,10 @@ pub fn leave(s: State, shadow: &mut [u64], page: u64) -> Called
             state: s,
         };
     }
-    if !questions::page_exists(page, s.pages) {
-        return Called {
-            answer: Answer::Refused(9),
-            state: s,
-        };
-    }
     let mode = s.mode;
-    let number = leave_refusal(questions::in_user(mode), shadow[page as usize]);
+    let user = questions::in_user(mode);
+    let exists = questions::page_exists(page, s.pages);
+    let number = refusal(exists, !user, false, shadow, page);
     if number != 0 {
         return Called {
             answer: Answer::Refused(number),
