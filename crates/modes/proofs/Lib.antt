@@ -1,2 +1,5 @@
--- Laws of enter and leave that only their proofs cite.
-mod ModeLaws
+-- Laws that the proofs of this crate cite.
+pub mod TableLaws
+pub mod SwitchAskLaws
+pub mod EnterLaws
+pub mod LeaveLaws

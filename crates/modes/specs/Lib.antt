@@ -1,2 +1,2 @@
--- The questions that enter and leave share.
-pub mod Going
+-- What the promises between the functions of this crate say.
+pub mod Switches
