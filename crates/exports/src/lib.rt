@@ -1,0 +1,151 @@
+// The guard's calls for C and Rust: numbers and lent runs in, a number out. include/guard.h documents them.
+// A state crosses as a lent run of 21 words, and a call's two numbers go to a lent run of two.
+
+ghost use mathlib.Core.Path.{_≡_};
+ghost use Prim.Native.Nat.{_<_};
+ghost use lib.ListN.{length, getD};
+ghost use lib.Seq.{sets};
+ghost use Rattle.model.specs.Edges.{table};
+ghost use lib.Dec.{eqb};
+ghost use Rattle.model.specs.Keeps.{modeOf};
+ghost use Rattle.exports.specs.Runs;
+ghost use Rattle.exports.specs.Runs.{stateWords, entryPages, stateIn, modeWord, wordsOf, withMode};
+use model::Mode;
+use model::State;
+
+// The layout of a state run. include/guard.h has the same constants, which tests/header compares.
+pub const STATE_WORDS: usize = 21;
+pub const STATE_PAGES: usize = 0;
+pub const STATE_FRAMES: usize = 1;
+pub const STATE_ENTRIES: usize = 2;
+pub const STATE_ENTRY: usize = 3;
+pub const STATE_MODE: usize = 19;
+pub const STATE_RUNNING: usize = 20;
+pub const MODE_KERNEL: u64 = 0;
+pub const MODE_USER: u64 = 1;
+
+// A word as a 16-bit field; a wider one as 65535.
+fn narrow(word: u64) -> u16
+    ensures { λ r. ⌜ r ≡ Runs.narrow word ⌝ }
+{
+    if word <= 65535 { word as u16 } else { 65535 }
+}
+
+// The field at a place of a run that reaches so far.
+fn field(run: &[u64], at: usize) -> u16
+    requires { ⌜ at < length (now run) ⌝ }
+    ensures { λ r. ⌜ r ≡ Runs.field (now (run .entry)) at ⌝ }
+{
+    narrow(run[at])
+}
+
+// Kernel or user, and the page that runs.
+fn mode_of(word: u64, page: u16) -> Mode
+    ensures { λ r. ⌜ r ≡ modeOf (eqb word 1) page ⌝ }
+{
+    if word == MODE_USER {
+        Mode::User(page)
+    } else {
+        Mode::Kernel(page)
+    }
+}
+
+fn mode_word(mode: Mode) -> u64
+    ensures { λ r. ⌜ r ≡ modeWord mode ⌝ }
+{
+    if questions::in_user(mode) {
+        MODE_USER
+    } else {
+        MODE_KERNEL
+    }
+}
+
+// The sixteen entry pages of a run that reaches so far.
+fn entry_pages(run: &[u64]) -> [u16; 16]
+    requires { ⌜ length (now run) ≡ stateWords ⌝ }
+    ensures { λ r. ⌜ r ≡ entryPages (now (run .entry)) ⌝ }
+{
+    [
+        field(run, STATE_ENTRY),
+        field(run, STATE_ENTRY + 1),
+        field(run, STATE_ENTRY + 2),
+        field(run, STATE_ENTRY + 3),
+        field(run, STATE_ENTRY + 4),
+        field(run, STATE_ENTRY + 5),
+        field(run, STATE_ENTRY + 6),
+        field(run, STATE_ENTRY + 7),
+        field(run, STATE_ENTRY + 8),
+        field(run, STATE_ENTRY + 9),
+        field(run, STATE_ENTRY + 10),
+        field(run, STATE_ENTRY + 11),
+        field(run, STATE_ENTRY + 12),
+        field(run, STATE_ENTRY + 13),
+        field(run, STATE_ENTRY + 14),
+        field(run, STATE_ENTRY + 15),
+    ]
+}
+
+// The state that a run holds. Its callers have asked for the length.
+fn state_in(run: &[u64]) -> State
+    requires { ⌜ length (now run) ≡ stateWords ⌝ }
+    ensures { λ r. ⌜ r ≡ stateIn (now (run .entry)) ⌝ }
+{
+    let pages = field(run, STATE_PAGES);
+    let frames = field(run, STATE_FRAMES);
+    let entries = field(run, STATE_ENTRIES);
+    let entry = entry_pages(run);
+    let mode = mode_of(run[STATE_MODE], field(run, STATE_RUNNING));
+    State {
+        pages,
+        frames,
+        entries,
+        entry,
+        mode,
+    }
+}
+
+// Writes the words of a mode into a run.
+fn put_mode(run: &mut [u64], mode: Mode)
+    requires { ⌜ length (now run) ≡ stateWords ⌝ }
+    ensures { λ _. ⌜ now (run .exit) ≡ withMode (now (run .entry)) mode ⌝ }
+{
+    run[STATE_MODE] = mode_word(mode);
+    run[STATE_RUNNING] = questions::running(mode) as u64;
+}
+
+fn put_entry_pages(run: &mut [u64], entry: [u16; 16])
+    requires { ⌜ length (now run) ≡ stateWords ⌝ }
+    ensures { λ _. ⌜ now (run .exit) ≡ sets (now (run .entry)) 3 (table 16 (λ i. getD entry i 0)) ⌝ }
+{
+    run[STATE_ENTRY] = entry[0] as u64;
+    run[STATE_ENTRY + 1] = entry[1] as u64;
+    run[STATE_ENTRY + 2] = entry[2] as u64;
+    run[STATE_ENTRY + 3] = entry[3] as u64;
+    run[STATE_ENTRY + 4] = entry[4] as u64;
+    run[STATE_ENTRY + 5] = entry[5] as u64;
+    run[STATE_ENTRY + 6] = entry[6] as u64;
+    run[STATE_ENTRY + 7] = entry[7] as u64;
+    run[STATE_ENTRY + 8] = entry[8] as u64;
+    run[STATE_ENTRY + 9] = entry[9] as u64;
+    run[STATE_ENTRY + 10] = entry[10] as u64;
+    run[STATE_ENTRY + 11] = entry[11] as u64;
+    run[STATE_ENTRY + 12] = entry[12] as u64;
+    run[STATE_ENTRY + 13] = entry[13] as u64;
+    run[STATE_ENTRY + 14] = entry[14] as u64;
+    run[STATE_ENTRY + 15] = entry[15] as u64;
+}
+
+// Writes all words of a state into a run. What was encoded decodes to the same state.
+fn put_state(run: &mut [u64], s: State)
+    requires { ⌜ length (now run) ≡ stateWords ⌝ }
+    ensures encoded { λ _. ⌜ now (run .exit) ≡ wordsOf s ⌝ }
+    ensures decoded { λ _. ⌜ stateIn (now (run .exit)) ≡ s ⌝ }
+{
+    let entry = s.entry;
+    let mode = s.mode;
+    run[STATE_PAGES] = s.pages as u64;
+    run[STATE_FRAMES] = s.frames as u64;
+    run[STATE_ENTRIES] = s.entries as u64;
+    put_entry_pages(run, entry);
+    put_mode(run, mode);
+}
