@@ -1,8 +1,18 @@
--- Laws of the runs that cross the boundary.
-use Prim.Native.Nat.{ℕ, _≤_, _<_}
-use mathlib.Core.Path.{_≡_, refl, sym}
+-- Laws of the runs that cross the boundary: a word as a 16-bit field, a table filled from the front, a run written word by word.
+use Prim.Native.Nat.{ℕ, _+_, _≤_, _<_}
+use mathlib.Core.Bool.{Bool, true, false}
+use mathlib.Core.List.{List}
+use mathlib.Core.Path.{_≡_, refl, sym, _∙_}
+use lib.ListN.{getD, set, length}
+use lib.Seq.{getD-set-same, getD-set-other, paste, paste-suc}
+use borrow.Author.Count.{below-more}
 use borrow.Author.Tests.{le-leb, lt-leb}
-use Rattle.exports.specs.Runs.{narrow}
+use native.Mathlib.Numerals.{add-one}
+use native.Mathlib.Omega.{arith}
+use Rattle.model.specs.declared.Mode.{Mode}
+use Rattle.model.specs.Keeps.{inUser}
+use Rattle.model.proofs.TableLaws.{is-table}
+use Rattle.exports.specs.Runs.{narrow, field, entryPages, modeWord}
 
 -- A word that fits 16 bits, and a wider one.
 pub narrow-fits : (word : ℕ) → word ≤ 65535 → word ≡ narrow word
@@ -12,3 +22,34 @@ narrow-fits word p = rw (le-leb word 65535 p) refl
 pub narrow-wide : (word : ℕ) → 65535 < word → 65535 ≡ narrow word
 unfolding narrow
 narrow-wide word p = rw (lt-leb word 65535 p) refl
+
+-- The mode word, by a test of the mode.
+pub mode-word-user : (mode : Mode) (b : Bool) → b ≡ inUser mode → b ≡ true → 1 ≡ modeWord mode
+unfolding modeWord
+mode-word-user mode b p q = rw (sym p ∙ q) refl
+
+pub mode-word-kernel : (mode : Mode) (b : Bool) → b ≡ inUser mode → b ≡ false → 0 ≡ modeWord mode
+unfolding modeWord
+mode-word-kernel mode b p q = rw (sym p ∙ q) refl
+
+-- The entry pages, read place by place: those below i have been read.
+pub entries-more : (run t : List ℕ) (i v : ℕ) → length t ≡ 16 → i < 16 → ((k : ℕ) → k < i → getD t k 0 ≡ field run (3 + k))
+    → v ≡ field run (3 + i) → (k : ℕ) → k < i + 1 → getD (set t i v) k 0 ≡ field run (3 + k)
+entries-more run t i v n h below e =
+    below-more (λ (k : ℕ). getD (set t i v) k 0 ≡ field run (3 + k)) i
+    (λ k l. getD-set-other t i k v 0 (λ q. omega arith) ∙ below k l)
+    (getD-set-same t i v 0 (omega arith) ∙ e)
+
+pub entries-over : (run t : List ℕ) (i : ℕ) → length t ≡ 16 → 16 ≤ i → ((k : ℕ) → k < i → getD t k 0 ≡ field run (3 + k))
+    → t ≡ entryPages run
+unfolding entryPages
+entries-over run t i n h below = is-table t 16 (λ k. field run (3 + k)) n (λ k l. below k (omega arith))
+
+-- The entry pages, written word by word.
+pub paste-more : (run₀ run entry : List ℕ) (i : ℕ) → length run₀ ≡ 21 → length entry ≡ 16 → i < 16 → run ≡ paste run₀ 3 entry i
+    → set run (3 + i) (getD entry i 0) ≡ paste run₀ 3 entry (i + 1)
+paste-more run₀ run entry i n m h e =
+    rw (e, add-one) (paste-suc run₀ 3 entry i 0 (omega arith) (omega arith))
+
+pub paste-over : (run₀ run entry : List ℕ) (i : ℕ) → i ≤ 16 → 16 ≤ i → run ≡ paste run₀ 3 entry i → run ≡ paste run₀ 3 entry 16
+paste-over run₀ run entry i p q e = let n : i ≡ 16 = omega arith in rw n at e

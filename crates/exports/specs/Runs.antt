@@ -62,8 +62,7 @@ stateIn run =
 -- The words that hold a state.
 unfoldable pub wordsOf : State → List ℕ
 wordsOf s =
-    s .pages ∷ s .frames ∷ s .entries
-    ∷ (table 16 (λ i. getD (s .entry) i 0) ++ (modeWord (s .mode) ∷ running (s .mode) ∷ []))
+    s .pages ∷ s .frames ∷ s .entries ∷ (s .entry ++ (modeWord (s .mode) ∷ running (s .mode) ∷ []))
 
 -- A run with another mode: words 19 and 20 alone.
 unfoldable pub withMode : List ℕ → Mode → List ℕ

@@ -3,25 +3,32 @@
 
 ghost use mathlib.Core.Path.{_≡_};
 ghost use Prim.Native.Nat.{_<_};
-ghost use lib.ListN.{length, getD};
-ghost use lib.Seq.{sets};
-ghost use Rattle.model.specs.Edges.{table};
+ghost use lib.ListN.{length};
+ghost use lib.Seq.{paste};
 ghost use lib.Dec.{eqb};
 ghost use Rattle.model.specs.Keeps.{modeOf};
 ghost use Rattle.exports.specs.Runs;
-ghost use Rattle.exports.specs.Runs.{stateWords, entryPages, stateIn, modeWord, wordsOf, withMode};
+ghost use Rattle.exports.specs.Runs.{stateWords, entryAt, entryPages, stateIn, modeWord, wordsOf, withMode};
 use model::Mode;
 use model::State;
 
 // The layout of a state run. include/guard.h has the same constants, which tests/header compares.
 pub const STATE_WORDS: usize = 21;
+
 pub const STATE_PAGES: usize = 0;
+
 pub const STATE_FRAMES: usize = 1;
+
 pub const STATE_ENTRIES: usize = 2;
+
 pub const STATE_ENTRY: usize = 3;
+
 pub const STATE_MODE: usize = 19;
+
 pub const STATE_RUNNING: usize = 20;
+
 pub const MODE_KERNEL: u64 = 0;
+
 pub const MODE_USER: u64 = 1;
 
 // A word as a 16-bit field; a wider one as 65535.
@@ -60,29 +67,18 @@ fn mode_word(mode: Mode) -> u64
     }
 }
 
-// The sixteen entry pages of a run that reaches so far.
+// The sixteen entry pages of a run.
 fn entry_pages(run: &[u64]) -> [u16; 16]
     requires { ⌜ length (now run) ≡ stateWords ⌝ }
     ensures { λ r. ⌜ r ≡ entryPages (now (run .entry)) ⌝ }
 {
-    [
-        field(run, STATE_ENTRY),
-        field(run, STATE_ENTRY + 1),
-        field(run, STATE_ENTRY + 2),
-        field(run, STATE_ENTRY + 3),
-        field(run, STATE_ENTRY + 4),
-        field(run, STATE_ENTRY + 5),
-        field(run, STATE_ENTRY + 6),
-        field(run, STATE_ENTRY + 7),
-        field(run, STATE_ENTRY + 8),
-        field(run, STATE_ENTRY + 9),
-        field(run, STATE_ENTRY + 10),
-        field(run, STATE_ENTRY + 11),
-        field(run, STATE_ENTRY + 12),
-        field(run, STATE_ENTRY + 13),
-        field(run, STATE_ENTRY + 14),
-        field(run, STATE_ENTRY + 15),
-    ]
+    let mut entry = [0u16; 16];
+    let mut i: usize = 0;
+    while i < 16 {
+        entry[i] = field(run, STATE_ENTRY + i);
+        i += 1;
+    }
+    entry
 }
 
 // The state that a run holds. Its callers have asked for the length.
@@ -115,24 +111,13 @@ fn put_mode(run: &mut [u64], mode: Mode)
 
 fn put_entry_pages(run: &mut [u64], entry: [u16; 16])
     requires { ⌜ length (now run) ≡ stateWords ⌝ }
-    ensures { λ _. ⌜ now (run .exit) ≡ sets (now (run .entry)) 3 (table 16 (λ i. getD entry i 0)) ⌝ }
+    ensures { λ _. ⌜ now (run .exit) ≡ paste (now (run .entry)) entryAt entry 16 ⌝ }
 {
-    run[STATE_ENTRY] = entry[0] as u64;
-    run[STATE_ENTRY + 1] = entry[1] as u64;
-    run[STATE_ENTRY + 2] = entry[2] as u64;
-    run[STATE_ENTRY + 3] = entry[3] as u64;
-    run[STATE_ENTRY + 4] = entry[4] as u64;
-    run[STATE_ENTRY + 5] = entry[5] as u64;
-    run[STATE_ENTRY + 6] = entry[6] as u64;
-    run[STATE_ENTRY + 7] = entry[7] as u64;
-    run[STATE_ENTRY + 8] = entry[8] as u64;
-    run[STATE_ENTRY + 9] = entry[9] as u64;
-    run[STATE_ENTRY + 10] = entry[10] as u64;
-    run[STATE_ENTRY + 11] = entry[11] as u64;
-    run[STATE_ENTRY + 12] = entry[12] as u64;
-    run[STATE_ENTRY + 13] = entry[13] as u64;
-    run[STATE_ENTRY + 14] = entry[14] as u64;
-    run[STATE_ENTRY + 15] = entry[15] as u64;
+    let mut i: usize = 0;
+    while i < 16 {
+        run[STATE_ENTRY + i] = entry[i] as u64;
+        i += 1;
+    }
 }
 
 // Writes all words of a state into a run. What was encoded decodes to the same state.
@@ -143,9 +128,10 @@ fn put_state(run: &mut [u64], s: State)
 {
     let entry = s.entry;
     let mode = s.mode;
+    put_entry_pages(run, entry);
     run[STATE_PAGES] = s.pages as u64;
     run[STATE_FRAMES] = s.frames as u64;
     run[STATE_ENTRIES] = s.entries as u64;
-    put_entry_pages(run, entry);
-    put_mode(run, mode);
+    run[STATE_MODE] = mode_word(mode);
+    run[STATE_RUNNING] = questions::running(mode) as u64;
 }
