@@ -1,18 +1,24 @@
 -- Laws of the runs that cross the boundary: a word as a 16-bit field, a table filled from the front, a run written word by word.
 use Prim.Native.Nat.{ℕ, _+_, _≤_, _<_}
-use mathlib.Core.Bool.{Bool, true, false}
-use mathlib.Core.List.{List}
+use mathlib.Core.Bool.{Bool, true, false, not}
+use mathlib.Core.List.{List, [], _∷_}
 use mathlib.Core.Path.{_≡_, refl, sym, _∙_}
 use lib.ListN.{getD, set, length}
 use lib.Seq.{getD-set-same, getD-set-other, paste, paste-suc}
 use borrow.Author.Count.{below-more}
-use borrow.Author.Tests.{le-leb, lt-leb}
+use lib.Dec.{leb, eqb}
+use borrow.Author.Tests.{le-leb, lt-leb, eqb-true, ne-eqb, not-true, not-false}
 use native.Mathlib.Numerals.{add-one}
 use native.Mathlib.Omega.{arith}
+use Rattle.model.specs.declared.Answer.{Answer}
+use Rattle.model.specs.declared.Answer.the-variants.{Done, Refused}
 use Rattle.model.specs.declared.Mode.{Mode}
+use Rattle.model.specs.Edges.{both}
 use Rattle.model.specs.Keeps.{inUser}
+use Rattle.model.specs.Calls.{replyOf}
+use Rattle.model.proofs.AskLaws.{both-no, both-first}
 use Rattle.model.proofs.TableLaws.{is-table}
-use Rattle.exports.specs.Runs.{narrow, field, entryPages, modeWord}
+use Rattle.exports.specs.Runs.{narrow, field, entryPages, modeWord, withNumbers, runsFit, lendable}
 
 -- A word that fits 16 bits, and a wider one.
 pub narrow-fits : (word : ℕ) → word ≤ 65535 → word ≡ narrow word
@@ -53,3 +59,43 @@ paste-more run₀ run entry i n m h e =
 
 pub paste-over : (run₀ run entry : List ℕ) (i : ℕ) → i ≤ 16 → 16 ≤ i → run ≡ paste run₀ 3 entry i → run ≡ paste run₀ 3 entry 16
 paste-over run₀ run entry i p q e = let n : i ≡ 16 = omega arith in rw n at e
+
+-- A numbers run of two words is written, and one of another length is not.
+pub numbers-written : (numbers : List ℕ) (a b : ℕ) → length numbers ≡ 2 → set (set numbers 0 a) 1 b ≡ withNumbers numbers a b
+unfolding withNumbers
+numbers-written [] a b p = absurd (omega arith)
+numbers-written (x ∷ []) a b p = absurd (omega arith)
+numbers-written (x ∷ y ∷ []) a b p = refl
+numbers-written (x ∷ y ∷ z ∷ rest) a b p = absurd (omega arith)
+
+pub numbers-left : (numbers : List ℕ) (a b : ℕ) → (length numbers ≡ 2 → ⊥) → numbers ≡ withNumbers numbers a b
+unfolding withNumbers
+numbers-left numbers a b p = rw (ne-eqb (length numbers) 2 p) refl
+
+-- What an answer says to the numbers run.
+pub says-done : (answer : Answer) (numbers after : List ℕ) (a b : ℕ) → answer ≡ Done a b → after ≡ withNumbers numbers a b
+    → after ≡ withNumbers numbers (replyOf answer .first) (replyOf answer .second)
+unfolding replyOf
+says-done answer numbers after a b p q = rw p q
+
+pub says-refused : (answer : Answer) (numbers after : List ℕ) (n : ℕ) → answer ≡ Refused n → after ≡ withNumbers numbers 0 0
+    → after ≡ withNumbers numbers (replyOf answer .first) (replyOf answer .second)
+unfolding replyOf
+says-refused answer numbers after n p q = rw p q
+
+-- The boundary's part of question 7, by the test of the lengths.
+pub lengths-wrong : (run numbers : List ℕ) (b : Bool) → b ≡ runsFit run numbers → not b ≡ true → false ≡ lendable run numbers
+unfolding lendable
+lengths-wrong run numbers b p q = sym (both-no (leb (getD run 19 0) 1) (sym p ∙ not-true b q))
+
+pub lengths-right : (run numbers : List ℕ) (b : Bool) → b ≡ runsFit run numbers → not b ≡ false → leb (getD run 19 0) 1 ≡ lendable run numbers
+unfolding lendable both
+lengths-right run numbers b p q = rw (sym p ∙ not-false b q) refl
+
+pub run-fits : (run numbers : List ℕ) (b : Bool) → b ≡ runsFit run numbers → not b ≡ false → length run ≡ 21
+unfolding runsFit
+run-fits run numbers b p q =
+    eqb-true (length run) 21 (both-first (eqb (length run) 21) (eqb (length numbers) 2) (sym p ∙ not-false b q))
+
+pub mode-inside : (run numbers : List ℕ) (b : Bool) → b ≡ runsFit run numbers → not b ≡ false → 19 < length run
+mode-inside run numbers b p q = let n : length run ≡ 21 = run-fits run numbers b p q in omega arith

@@ -9,7 +9,6 @@ use Rattle.model.specs.declared.State.{State}
 use Rattle.model.specs.declared.Mode.{Mode}
 use Rattle.model.specs.Edges.{both, table}
 use Rattle.model.specs.Keeps.{inUser, running, modeOf}
-use Rattle.model.specs.Calls.{Reply}
 
 -- The layout of a state run: V, F and e, the sixteen entry pages, kernel or user, the page now running.
 abbrev pub stateWords : ℕ
@@ -68,9 +67,9 @@ wordsOf s =
 unfoldable pub withMode : List ℕ → Mode → List ℕ
 withMode run mode = set (set run modeAt (modeWord mode)) runningAt (running mode)
 
--- A numbers run has two words. One of another length is never written.
-unfoldable pub withNumbers : List ℕ → Reply → List ℕ
-withNumbers numbers reply = cond (eqb (length numbers) 2) (reply .first ∷ reply .second ∷ []) numbers
+-- A numbers run has two words. One of another length is not written.
+unfoldable pub withNumbers : List ℕ → ℕ → ℕ → List ℕ
+withNumbers numbers first second = cond (eqb (length numbers) 2) (first ∷ second ∷ []) numbers
 
 -- The boundary's part of question 7. The start asks for the lengths of both runs; every other call also for a mode word of 0 or 1.
 unfoldable pub runsFit : List ℕ → List ℕ → Bool

@@ -1,8 +1,8 @@
--- `exports::field` meets its contract.
+-- `exports::runs::field` meets its contract.
 use borrow.Author.Needs.{needs}
 use Rattle.exports.specs.Runs.{field}
-use Rattle.exports.proofs.field.Statement.{statement}
-use Rattle.exports.proofs.field.Tie as tie
+use Rattle.exports.proofs.runs.field.Statement.{statement}
+use Rattle.exports.proofs.runs.field.Tie as tie
 
 returns : tie.Need-returns
 unfolding field

@@ -1,8 +1,8 @@
--- `exports::put_mode` meets its contract.
+-- `exports::runs::put_mode` meets its contract.
 use Rattle.exports.specs.Runs.{withMode}
 use borrow.Author.Needs.{needs}
-use Rattle.exports.proofs.put_mode.Statement.{statement}
-use Rattle.exports.proofs.put_mode.Tie as tie
+use Rattle.exports.proofs.runs.put_mode.Statement.{statement}
+use Rattle.exports.proofs.runs.put_mode.Tie as tie
 
 returns : tie.Need-returns
 unfolding withMode

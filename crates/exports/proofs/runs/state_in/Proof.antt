@@ -1,8 +1,8 @@
--- `exports::state_in` meets its contract.
+-- `exports::runs::state_in` meets its contract.
 use Rattle.exports.specs.Runs.{stateIn}
 use borrow.Author.Needs.{needs}
-use Rattle.exports.proofs.state_in.Statement.{statement}
-use Rattle.exports.proofs.state_in.Tie as tie
+use Rattle.exports.proofs.runs.state_in.Statement.{statement}
+use Rattle.exports.proofs.runs.state_in.Tie as tie
 
 returns : tie.Need-returns
 unfolding stateIn

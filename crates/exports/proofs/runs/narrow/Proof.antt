@@ -1,8 +1,8 @@
--- `exports::narrow` meets its contract.
+-- `exports::runs::narrow` meets its contract.
 use borrow.Author.Needs.{needs}
 use Rattle.exports.proofs.RunLaws.{narrow-fits, narrow-wide}
-use Rattle.exports.proofs.narrow.Statement.{statement}
-use Rattle.exports.proofs.narrow.Tie as tie
+use Rattle.exports.proofs.runs.narrow.Statement.{statement}
+use Rattle.exports.proofs.runs.narrow.Tie as tie
 
 returns : tie.Need-returns
 returns c = search (needs, narrow-fits)

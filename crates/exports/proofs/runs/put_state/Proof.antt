@@ -1,10 +1,10 @@
--- `exports::put_state` meets its contract.
+-- `exports::runs::put_state` meets its contract.
 use lib.ListN.{length-set}
 use native.Mathlib.Omega.{arith}
 use Rattle.exports.proofs.StateLaws.{words-written, written-decoded}
 use borrow.Author.Needs.{needs}
-use Rattle.exports.proofs.put_state.Statement.{statement}
-use Rattle.exports.proofs.put_state.Tie as tie
+use Rattle.exports.proofs.runs.put_state.Statement.{statement}
+use Rattle.exports.proofs.runs.put_state.Tie as tie
 
 slice-write-run-2 : tie.Need-slice-write-run-2
 slice-write-run-2 c = simp length-set (omega arith)

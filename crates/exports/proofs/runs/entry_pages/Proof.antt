@@ -1,4 +1,4 @@
--- `exports::entry_pages` meets its contract: below i, each place has its field.
+-- `exports::runs::entry_pages` meets its contract: below i, each place has its field.
 use Prim.Native.Nat.{ℕ, _+_, _-_, _<_, _≤_}
 use mathlib.Core.Path.{_≡_, refl}
 use lib.ListN.{length, getD, length-set}
@@ -7,8 +7,8 @@ use borrow.Author.Count.{below-none}
 use native.Mathlib.Omega.{arith}
 use Rattle.exports.specs.Runs.{field}
 use Rattle.exports.proofs.RunLaws.{entries-more, entries-over}
-use Rattle.exports.proofs.entry_pages.Statement.{statement}
-use Rattle.exports.proofs.entry_pages.Tie as tie
+use Rattle.exports.proofs.runs.entry_pages.Statement.{statement}
+use Rattle.exports.proofs.runs.entry_pages.Tie as tie
 
 abbrev Inv-loop : tie.InvT-loop
 Inv-loop run entry₀ i₀ entry i =

@@ -1,8 +1,8 @@
--- `exports::mode_word` meets its contract.
+-- `exports::runs::mode_word` meets its contract.
 use borrow.Author.Needs.{needs}
 use Rattle.exports.proofs.RunLaws.{mode-word-user, mode-word-kernel}
-use Rattle.exports.proofs.mode_word.Statement.{statement}
-use Rattle.exports.proofs.mode_word.Tie as tie
+use Rattle.exports.proofs.runs.mode_word.Statement.{statement}
+use Rattle.exports.proofs.runs.mode_word.Tie as tie
 
 returns : tie.Need-returns
 returns c = search (needs, mode-word-user)

@@ -1,8 +1,8 @@
--- `exports::mode_of` meets its contract.
+-- `exports::runs::mode_of` meets its contract.
 use borrow.Author.Tests.{eq-eqb, ne-eqb}
 use Rattle.model.specs.Keeps.{modeOf}
-use Rattle.exports.proofs.mode_of.Statement.{statement}
-use Rattle.exports.proofs.mode_of.Tie as tie
+use Rattle.exports.proofs.runs.mode_of.Statement.{statement}
+use Rattle.exports.proofs.runs.mode_of.Tie as tie
 
 returns : tie.Need-returns
 unfolding modeOf

@@ -1,4 +1,4 @@
--- `exports::put_entry_pages` meets its contract: i entry pages are copied.
+-- `exports::runs::put_entry_pages` meets its contract: i entry pages are copied.
 use Prim.Native.Nat.{ℕ, _+_, _-_, _<_, _≤_}
 use mathlib.Core.Path.{_≡_, refl}
 use lib.ListN.{length, length-set}
@@ -6,8 +6,8 @@ use lib.Seq.{paste, paste-zero}
 use borrow.Author.Needs.{needs}
 use native.Mathlib.Omega.{arith}
 use Rattle.exports.proofs.RunLaws.{paste-more, paste-over}
-use Rattle.exports.proofs.put_entry_pages.Statement.{statement}
-use Rattle.exports.proofs.put_entry_pages.Tie as tie
+use Rattle.exports.proofs.runs.put_entry_pages.Statement.{statement}
+use Rattle.exports.proofs.runs.put_entry_pages.Tie as tie
 
 abbrev Inv-loop : tie.InvT-loop
 Inv-loop run₀ entry i₀ run i = (i ≤ 16) × (length run ≡ length run₀) × (run ≡ paste run₀ 3 entry i)
