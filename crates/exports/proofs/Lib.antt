@@ -1,4 +1,4 @@
 -- Laws that the proofs of this crate cite.
-mod RunLaws
+mod WordLaws
 mod StateLaws
 mod BoundaryLaws

@@ -14,7 +14,7 @@ use Rattle.model.specs.declared.State.{State}
 use Rattle.model.specs.Keeps.{inUser, running, modeOf}
 use Rattle.model.proofs.TableLaws.{is-table}
 use Rattle.exports.specs.Runs.{narrow, field, entryPages, stateIn, modeWord, wordsOf}
-use Rattle.exports.proofs.RunLaws.{narrow-fits}
+use Rattle.exports.proofs.WordLaws.{narrow-fits}
 
 -- The two words behind the entry pages.
 tail-written : (e d : List ℕ) (m r : ℕ) → length e ≡ 16 → length d ≡ 2 → set (set (e ++ d) 16 m) 17 r ≡ e ++ (m ∷ r ∷ [])

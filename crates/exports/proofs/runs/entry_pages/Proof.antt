@@ -6,7 +6,7 @@ use borrow.Author.Needs.{needs}
 use borrow.Author.Count.{below-none}
 use native.Mathlib.Omega.{arith}
 use Rattle.exports.specs.Runs.{field}
-use Rattle.exports.proofs.RunLaws.{entries-more, entries-over}
+use Rattle.exports.proofs.WordLaws.{entries-more, entries-over}
 use Rattle.exports.proofs.runs.entry_pages.Statement.{statement}
 use Rattle.exports.proofs.runs.entry_pages.Tie as tie
 

@@ -1,6 +1,6 @@
 -- `exports::runs::lendable` meets its contract.
 use borrow.Author.Needs.{needs}
-use Rattle.exports.proofs.RunLaws.{lengths-wrong, lengths-right, mode-inside}
+use Rattle.exports.proofs.WordLaws.{lengths-wrong, lengths-right, mode-inside}
 use Rattle.exports.proofs.runs.lendable.Statement.{statement}
 use Rattle.exports.proofs.runs.lendable.Tie as tie
 

@@ -1,6 +1,6 @@
 -- `exports::runs::mode_word` meets its contract.
 use borrow.Author.Needs.{needs}
-use Rattle.exports.proofs.RunLaws.{mode-word-user, mode-word-kernel}
+use Rattle.exports.proofs.WordLaws.{mode-word-user, mode-word-kernel}
 use Rattle.exports.proofs.runs.mode_word.Statement.{statement}
 use Rattle.exports.proofs.runs.mode_word.Tie as tie
 

@@ -1,6 +1,6 @@
 -- `exports::runs::narrow` meets its contract.
 use borrow.Author.Needs.{needs}
-use Rattle.exports.proofs.RunLaws.{narrow-fits, narrow-wide}
+use Rattle.exports.proofs.WordLaws.{narrow-fits, narrow-wide}
 use Rattle.exports.proofs.runs.narrow.Statement.{statement}
 use Rattle.exports.proofs.runs.narrow.Tie as tie
 

@@ -5,7 +5,7 @@ use lib.ListN.{length, length-set}
 use lib.Seq.{paste, paste-zero}
 use borrow.Author.Needs.{needs}
 use native.Mathlib.Omega.{arith}
-use Rattle.exports.proofs.RunLaws.{paste-more, paste-over}
+use Rattle.exports.proofs.WordLaws.{paste-more, paste-over}
 use Rattle.exports.proofs.runs.put_entry_pages.Statement.{statement}
 use Rattle.exports.proofs.runs.put_entry_pages.Tie as tie
 

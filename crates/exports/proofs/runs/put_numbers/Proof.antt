@@ -1,6 +1,6 @@
 -- `exports::runs::put_numbers` meets its contract.
 use borrow.Author.Needs.{needs}
-use Rattle.exports.proofs.RunLaws.{numbers-written, numbers-left}
+use Rattle.exports.proofs.WordLaws.{numbers-written, numbers-left}
 use Rattle.exports.proofs.runs.put_numbers.Statement.{statement}
 use Rattle.exports.proofs.runs.put_numbers.Tie as tie
 

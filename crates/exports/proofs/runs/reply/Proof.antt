@@ -1,7 +1,7 @@
 -- `exports::runs::reply` meets its contract.
 use borrow.Author.Needs.{needs}
 use Rattle.model.specs.Calls.{replyOf}
-use Rattle.exports.proofs.RunLaws.{says-done, says-refused}
+use Rattle.exports.proofs.WordLaws.{says-done, says-refused}
 use Rattle.exports.proofs.runs.reply.Statement.{statement}
 use Rattle.exports.proofs.runs.reply.Tie as tie
 
