@@ -1,3 +1,48 @@
 // The guard's calls for C and Rust: numbers and lent runs in, a number out. include/guard.h documents them.
-// A state crosses as a lent run of 21 words, and a call's two numbers go to a lent run of two.
+// Each promises what the model answers on the decoded state, by one equation on all inputs.
+
+ghost use mathlib.Core.Path.{_≡_};
+ghost use mathlib.Core.List.{[], _∷_};
+ghost use Rattle.exports.specs.Boundary.{left, startAt, syncPageAt, syncAllAt, fetchAt, writeAt, enterAt, leaveAt, deviceWriteAt};
+use model::Answer;
+
 pub mod runs;
+
+// Synchronise one page.
+#[no_mangle]
+pub extern "C" fn guard_sync_page(
+    state: &[u64],
+    kernel: &[u64],
+    shadow: &mut [u64],
+    map: &mut [u16],
+    exclusion: &[u8],
+    page: u64,
+    numbers: &mut [u64],
+) -> u64
+    ensures { λ r. ⌜ left r (now (state .entry)) (now (numbers .exit)) (now (shadow .exit) ∷ now (map .exit) ∷ []) ≡ syncPageAt (now (state .entry)) (now (kernel .entry)) (now (shadow .entry)) (now (map .entry)) (now (exclusion .entry)) page (now (numbers .entry)) ⌝ }
+{
+    if !runs::lendable(state, numbers) {
+        return runs::reply(numbers, Answer::Refused(7));
+    }
+    let answer = sync::sync_page(runs::state_in(state), kernel, shadow, map, exclusion, page);
+    runs::reply(numbers, answer)
+}
+
+// Synchronise all pages.
+#[no_mangle]
+pub extern "C" fn guard_sync_all(
+    state: &[u64],
+    kernel: &[u64],
+    shadow: &mut [u64],
+    map: &mut [u16],
+    exclusion: &[u8],
+    numbers: &mut [u64],
+) -> u64
+    ensures { λ r. ⌜ left r (now (state .entry)) (now (numbers .exit)) (now (shadow .exit) ∷ now (map .exit) ∷ []) ≡ syncAllAt (now (state .entry)) (now (kernel .entry)) (now (shadow .entry)) (now (map .entry)) (now (exclusion .entry)) (now (numbers .entry)) ⌝ }
+{
+    if !runs::lendable(state, numbers) {
+        return runs::reply(numbers, Answer::Refused(7));
+    }
+    let answer = sync::sync_all(runs::state_in(state), kernel, shadow, map, exclusion);
+    runs::reply(numbers, answer)
+}
