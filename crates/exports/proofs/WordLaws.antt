@@ -7,7 +7,7 @@ use lib.ListN.{getD, set, length}
 use lib.Seq.{getD-set-same, getD-set-other, paste, paste-suc}
 use borrow.Author.Count.{below-more}
 use lib.Dec.{leb, eqb}
-use borrow.Author.Tests.{le-leb, lt-leb, eqb-true, ne-eqb, not-true, not-false}
+use borrow.Author.Tests.{le-leb, lt-leb, leb-true, leb-false, eqb-true, ne-eqb, not-true, not-false}
 use native.Mathlib.Numerals.{add-one}
 use native.Mathlib.Omega.{arith}
 use Rattle.model.specs.declared.Answer.{Answer}
@@ -99,3 +99,10 @@ run-fits run numbers b p q =
 
 pub mode-inside : (run numbers : List ℕ) (b : Bool) → b ≡ runsFit run numbers → not b ≡ false → 19 < length run
 mode-inside run numbers b p q = let n : length run ≡ 21 = run-fits run numbers b p q in omega arith
+
+pub narrow-below : (word : ℕ) → narrow word ≤ 65535
+narrow-below word = by (leb word 65535) refl
+  where
+    by : (b : Bool) → leb word 65535 ≡ b → narrow word ≤ 65535
+    by true e = rw (sym (narrow-fits word (leb-true word 65535 e))) (leb-true word 65535 e)
+    by false e = rw (sym (narrow-wide word (leb-false word 65535 e))) (omega arith)

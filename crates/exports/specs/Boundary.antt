@@ -1,10 +1,14 @@
 -- What each exported call returns and leaves, on every input: the model's answer on the decoded state, behind the boundary's part of question 7.
-use Prim.Native.Nat.{ℕ}
-use mathlib.Core.Bool.{cond}
+use Prim.Native.Nat.{ℕ, _<_}
+use mathlib.Core.Bool.{true, false, cond}
 use mathlib.Core.List.{List, [], _∷_}
+use mathlib.Core.Path.{_≡_}
+use lib.ListN.{getD}
 use Rattle.model.specs.declared.State.{State}
+use Rattle.model.specs.Edges.{member}
+use Rattle.model.specs.Questions.{stateInOrder}
 use Rattle.model.specs.Calls.{Reply, refused, settle, Moved, Switched, Synced, Outcome, startOf, syncPageOf, syncAllOf, fetchOf, writeOf, enterOf, leaveOf, deviceWriteOf}
-use Rattle.exports.specs.Runs.{stateIn, wordsOf, withMode, withNumbers, runsFit, lendable}
+use Rattle.exports.specs.Runs.{pagesAt, framesAt, entriesAt, runningAt, stateIn, wordsOf, withMode, withNumbers, runsFit, lendable}
 
 -- What a call returns, both runs at its exit, and the tables at its exit that it was lent to change, in the order of its parameters.
 pub record Left : Type 0 where
@@ -72,3 +76,10 @@ startAt bytes run shadow map exclusion numbers =
     (replied (r .reply) (wordsOf (r .guard .state)) numbers (r .guard .shadow ∷ r .guard .map ∷ r .guard .exclusion ∷ []))
     (replied (refused 7) run numbers tables))
     (λ n. replied (refused n) run numbers tables)
+
+-- Beside the length and the mode word, the runs need no test of their own: a word wider than its field, as V, F, e or the running page, makes
+-- a state that question 7 of every call refuses.
+unfoldable pub WideRefused : Type 0
+WideRefused =
+    (run : List ℕ) (at : ℕ) → 65535 < getD run at 0 → member at (pagesAt ∷ framesAt ∷ entriesAt ∷ runningAt ∷ []) ≡ true
+    → stateInOrder (stateIn run) ≡ false

@@ -3,10 +3,15 @@
 
 ghost use mathlib.Core.Path.{_≡_};
 ghost use mathlib.Core.List.{[], _∷_};
-ghost use Rattle.exports.specs.Boundary.{left, startAt, syncPageAt, syncAllAt, fetchAt, writeAt, enterAt, leaveAt, deviceWriteAt};
+ghost use Rattle.exports.specs.Boundary.{left, startAt, syncPageAt, syncAllAt, fetchAt, writeAt, enterAt, leaveAt, deviceWriteAt, WideRefused};
 use model::Answer;
 
 pub mod runs;
+
+// A word of the state run that is wider than its field is refused by question 7, with no test at the boundary.
+pub fn wide_words()
+    ensures { λ _. ⌜ WideRefused ⌝ }
+{}
 
 // Synchronise one page.
 #[no_mangle]
