@@ -10,9 +10,9 @@ use Rattle.model.specs.declared.Answer.{Answer}
 use Rattle.model.specs.declared.Answer.the-variants.{Refused}
 use Rattle.model.specs.declared.Called.{Called}
 use Rattle.model.specs.declared.State.{State}
-use Rattle.model.specs.Calls.{Reply, replyOf, settle, movedBy, switchedBy, syncedBy, fetchOf, writeOf, enterOf, leaveOf, deviceWriteOf, syncPageOf, syncAllOf}
+use Rattle.model.specs.Calls.{replyOf, settle, movedBy, switchedBy, syncedBy, fetchOf, writeOf, enterOf, leaveOf, deviceWriteOf, syncPageOf, syncAllOf}
 use Rattle.model.proofs.AskLaws.{settle-accepted, both-first}
-use Rattle.exports.specs.Runs.{stateIn, withMode, withNumbers, runsFit, lendable}
+use Rattle.exports.specs.Runs.{stateIn, withNumbers, runsFit, lendable}
 use Rattle.exports.specs.Boundary.{Left, left, replied, lent, runAfter, fetchAt, writeAt, enterAt, leaveAt, deviceWriteAt, syncPageAt, syncAllAt}
 use Rattle.exports.proofs.WordLaws.{run-fits}
 
@@ -21,18 +21,18 @@ unfolding settle
 settle-other zero done refusal p = absurd (p refl)
 settle-other (suc n) done refusal p = refl
 
--- The state run after a call that may move.
-pub after-accepted : (run after : List ℕ) (reply : Reply) (s : State) (n : ℕ) → n ≡ reply .number → n ≡ 0 → after ≡ withMode run (s .mode)
-    → after ≡ runAfter run reply s
-unfolding runAfter
-after-accepted run after reply s n p q e = e ∙ sym (settle-accepted (withMode run (s .mode)) (λ _. run) (sym p ∙ q))
+-- What a number in hand settles: an accepted call's part, a refused one's run as it was, or its number itself.
+pub settled-accepted : {A : Type 0} (n m : ℕ) (after done : A) (refusal : ℕ → A) → n ≡ m → n ≡ 0 → after ≡ done → after ≡ settle m done refusal
+settled-accepted n m after done refusal p q e = e ∙ sym (settle-accepted done refusal (sym p ∙ q))
 
-pub after-refused : (run : List ℕ) (reply : Reply) (s : State) (n : ℕ) → n ≡ reply .number → (n ≡ 0 → ⊥) → run ≡ runAfter run reply s
-unfolding runAfter
-after-refused run reply s n p q = sym (settle-other (reply .number) (withMode run (s .mode)) (λ _. run) (λ z. q (p ∙ z)))
+pub settled-refused : {A : Type 0} (n m : ℕ) (run done : A) → n ≡ m → (n ≡ 0 → ⊥) → run ≡ settle m done (λ _. run)
+settled-refused n m run done p q = sym (settle-other m done (λ _. run) (λ z. q (p ∙ z)))
+
+pub settled-number : (n m done : ℕ) → n ≡ m → (n ≡ 0 → ⊥) → n ≡ settle m done (λ k. k)
+settled-number n m done p q = p ∙ sym (settle-other m done (λ k. k) (λ z. q (p ∙ z)))
 
 -- What an answer returns and says to the numbers run.
-abbrev Says : Answer → ℕ → List ℕ → List ℕ → Type 0
+abbrev pub Says : Answer → ℕ → List ℕ → List ℕ → Type 0
 Says answer r numbers after =
     (r ≡ replyOf answer .number) × (after ≡ withNumbers numbers (replyOf answer .first) (replyOf answer .second))
 

@@ -2,3 +2,4 @@
 mod WordLaws
 mod StateLaws
 mod BoundaryLaws
+mod StartLaws

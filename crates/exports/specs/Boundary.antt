@@ -65,17 +65,17 @@ unfoldable pub deviceWriteAt : List ℕ → List ℕ → ℕ → ℕ → List �
 deviceWriteAt run exclusion address length numbers =
     lent run numbers [] (replied (deviceWriteOf (stateIn run) exclusion address length) run numbers [])
 
--- The start asks its own questions first, whose last is 7, and then for the lengths of both runs. The state run's contents are not read. A
--- refused start leaves the state run and the tables as they were.
+-- An accepted start writes every word of the state run. A refused one leaves the run as it was: the zero state of document 01 is not written.
+unfoldable pub runStarted : List ℕ → Reply → State → List ℕ
+runStarted run reply s = settle (reply .number) (wordsOf s) (λ _. run)
+
+-- The start asks its own questions first, whose last is 7, and then for the lengths of both runs. What the state run holds is not read.
 unfoldable pub startAt : List ℕ → List ℕ → List ℕ → List ℕ → List ℕ → List ℕ → Left
 startAt bytes run shadow map exclusion numbers =
     let r : Outcome = startOf bytes shadow map exclusion in
-    let tables : List (List ℕ) = shadow ∷ map ∷ exclusion ∷ [] in
-    settle (r .reply .number)
-    (cond (runsFit run numbers)
-    (replied (r .reply) (wordsOf (r .guard .state)) numbers (r .guard .shadow ∷ r .guard .map ∷ r .guard .exclusion ∷ []))
-    (replied (refused 7) run numbers tables))
-    (λ n. replied (refused n) run numbers tables)
+    cond (runsFit run numbers)
+    (replied (r .reply) (runStarted run (r .reply) (r .guard .state)) numbers (r .guard .shadow ∷ r .guard .map ∷ r .guard .exclusion ∷ []))
+    (replied (refused (settle (r .reply .number) 7 (λ n. n))) run numbers (shadow ∷ map ∷ exclusion ∷ []))
 
 -- Beside the length and the mode word, the runs need no test of their own: a word wider than its field, as V, F, e or the running page, makes
 -- a state that question 7 of every call refuses.

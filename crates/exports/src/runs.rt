@@ -9,7 +9,7 @@ ghost use lib.Seq.{paste};
 ghost use lib.Dec.{eqb};
 ghost use Rattle.model.specs.Keeps.{modeOf};
 ghost use Rattle.model.specs.Calls.{replyOf};
-ghost use Rattle.exports.specs.Boundary.{runAfter};
+ghost use Rattle.exports.specs.Boundary.{runAfter, runStarted};
 ghost use Rattle.exports.specs.Runs;
 ghost use Rattle.exports.specs.Runs.{stateWords, entryAt, entryPages, stateIn, modeWord, wordsOf, withMode, withNumbers, runsFit};
 use model::Answer;
@@ -201,6 +201,22 @@ pub(crate) fn put_called(run: &mut [u64], numbers: &mut [u64], called: Called) -
     let number = reply(numbers, answer);
     if number == 0 {
         put_mode(run, mode);
+    }
+    number
+}
+
+// What a start gave: its answer to the numbers run, and the state of an accepted one to the state run.
+pub(crate) fn put_started(run: &mut [u64], numbers: &mut [u64], called: Called) -> u64
+    requires { ⌜ length (now run) ≡ stateWords ⌝ }
+    ensures number { λ r. ⌜ r ≡ replyOf (called .answer) .number ⌝ }
+    ensures words { λ _. ⌜ now (run .exit) ≡ runStarted (now (run .entry)) (replyOf (called .answer)) (called .state) ⌝ }
+    ensures both { λ _. ⌜ now (numbers .exit) ≡ withNumbers (now (numbers .entry)) (replyOf (called .answer) .first) (replyOf (called .answer) .second) ⌝ }
+{
+    let answer = called.answer;
+    let after = called.state;
+    let number = reply(numbers, answer);
+    if number == 0 {
+        put_state(run, after);
     }
     number
 }

@@ -1,14 +1,17 @@
 -- `exports::runs::put_called` meets its contract.
 use borrow.Author.Needs.{needs}
-use Rattle.exports.proofs.BoundaryLaws.{after-accepted, after-refused}
+use Rattle.exports.specs.Boundary.{runAfter}
+use Rattle.exports.proofs.BoundaryLaws.{settled-accepted, settled-refused}
 use Rattle.exports.proofs.runs.put_called.Statement.{statement}
 use Rattle.exports.proofs.runs.put_called.Tie as tie
 
 returns : tie.Need-returns
-returns c = search (needs, after-accepted)
+unfolding runAfter
+returns c = search (needs, settled-accepted)
 
 returns-2 : tie.Need-returns-2
-returns-2 c = search (needs, after-refused)
+unfolding runAfter
+returns-2 c = search (needs, settled-refused)
 
 pub put-called-spec : {M : Type 1} → statement M
 put-called-spec =
