@@ -62,3 +62,54 @@ pub extern "C" fn guard_sync_all(
     let answer = sync::sync_all(runs::state_in(state), kernel, shadow, map, exclusion);
     runs::reply(numbers, answer)
 }
+
+#[no_mangle]
+pub extern "C" fn guard_fetch(
+    state: &mut [u64],
+    shadow: &[u64],
+    page: u64,
+    numbers: &mut [u64],
+) -> u64
+    ensures { λ r. ⌜ left r (now (state .exit)) (now (numbers .exit)) [] ≡ fetchAt (now (state .entry)) (now (shadow .entry)) page (now (numbers .entry)) ⌝ }
+{
+    if !runs::lendable(state, numbers) {
+        return runs::reply(numbers, Answer::Refused(7));
+    }
+    let called = access::fetch(runs::state_in(state), shadow, page);
+    runs::put_called(state, numbers, called)
+}
+
+#[no_mangle]
+pub extern "C" fn guard_write(
+    state: &[u64],
+    shadow: &[u64],
+    exclusion: &[u8],
+    address: u64,
+    length: u64,
+    numbers: &mut [u64],
+) -> u64
+    ensures { λ r. ⌜ left r (now (state .entry)) (now (numbers .exit)) [] ≡ writeAt (now (state .entry)) (now (shadow .entry)) (now (exclusion .entry)) address length (now (numbers .entry)) ⌝ }
+{
+    if !runs::lendable(state, numbers) {
+        return runs::reply(numbers, Answer::Refused(7));
+    }
+    let answer = access::write(runs::state_in(state), shadow, exclusion, address, length);
+    runs::reply(numbers, answer)
+}
+
+#[no_mangle]
+pub extern "C" fn guard_device_write(
+    state: &[u64],
+    exclusion: &[u8],
+    address: u64,
+    length: u64,
+    numbers: &mut [u64],
+) -> u64
+    ensures { λ r. ⌜ left r (now (state .entry)) (now (numbers .exit)) [] ≡ deviceWriteAt (now (state .entry)) (now (exclusion .entry)) address length (now (numbers .entry)) ⌝ }
+{
+    if !runs::lendable(state, numbers) {
+        return runs::reply(numbers, Answer::Refused(7));
+    }
+    let answer = access::device_write(runs::state_in(state), exclusion, address, length);
+    runs::reply(numbers, answer)
+}
