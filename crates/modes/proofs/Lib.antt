@@ -1,0 +1,4 @@
+-- Laws that the proofs of this crate cite.
+pub mod TableLaws
+pub mod EnterLaws
+pub mod LeaveLaws
