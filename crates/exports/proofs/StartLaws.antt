@@ -5,9 +5,10 @@ use mathlib.Core.List.{List, [], _∷_}
 use mathlib.Core.Path.{_≡_, refl, sym, ap, _∙_}
 use lib.ListN.{length}
 use lib.Dec.{eqb}
-use borrow.Author.Tests.{not-true}
+use borrow.Author.Tests.{not-true, not-false}
 use native.Mathlib.Omega.{arith}
 use Rattle.model.specs.declared.Answer.the-variants.{Refused}
+use Rattle.model.specs.declared.Called.{Called}
 use Rattle.model.specs.Keeps.{vectorBytes}
 use Rattle.model.specs.Policy.{policyOf}
 use Rattle.model.specs.Questions.{firstNo, inOrder, startAsks}
@@ -15,8 +16,9 @@ use Rattle.model.specs.Calls.{Outcome, replyOf, settle, startOf}
 use Rattle.model.proofs.AskLaws.{settle-accepted}
 use Rattle.policy.specs.Record.{recordAsks}
 use Rattle.policy.proofs.RecordLaws.{start-refused, start-asked}
+use Rattle.start.specs.Start.{startedBy}
 use Rattle.exports.specs.Runs.{withNumbers, runsFit}
-use Rattle.exports.specs.Boundary.{left, replied, startAt}
+use Rattle.exports.specs.Boundary.{left, replied, runStarted, startAt}
 use Rattle.exports.proofs.BoundaryLaws.{Says}
 
 -- The number of a start is that of its first no.
@@ -61,3 +63,11 @@ start-unfit bytes run shadow map exclusion numbers after r q b p short e says =
       says .0,
       says .1,
     ) refl
+
+pub started : (bytes run shadow map exclusion numbers after runs shadow′ map′ exclusion′ : List ℕ) (r : ℕ) (b : Bool) (called : Called)
+    → b ≡ runsFit run numbers → not b ≡ false → startedBy called shadow′ map′ exclusion′ ≡ startOf bytes shadow map exclusion
+    → Says (called .answer) r numbers after → runs ≡ runStarted run (replyOf (called .answer)) (called .state)
+    → left r runs after (shadow′ ∷ map′ ∷ exclusion′ ∷ []) ≡ startAt bytes run shadow map exclusion numbers
+unfolding startAt replied startedBy
+started bytes run shadow map exclusion numbers after runs shadow′ map′ exclusion′ r b called p fits e says kept =
+    rw (sym p ∙ not-false b fits, sym e, says .0, says .1, kept) refl

@@ -24,6 +24,25 @@ fn start_refusal(policy: &[u8]) -> u64
     if number == 0 { 7 } else { number }
 }
 
+#[no_mangle]
+pub extern "C" fn guard_start(
+    policy: &[u8],
+    state: &mut [u64],
+    shadow: &mut [u64],
+    map: &mut [u16],
+    exclusion: &mut [u8],
+    numbers: &mut [u64],
+) -> u64
+    ensures { λ r. ⌜ left r (now (state .exit)) (now (numbers .exit)) (now (shadow .exit) ∷ now (map .exit) ∷ now (exclusion .exit) ∷ []) ≡ startAt (now (policy .entry)) (now (state .entry)) (now (shadow .entry)) (now (map .entry)) (now (exclusion .entry)) (now (numbers .entry)) ⌝ }
+{
+    if !runs::runs_fit(state, numbers) {
+        let number = start_refusal(policy);
+        return runs::reply(numbers, Answer::Refused(number));
+    }
+    let called = start::start(policy, shadow, map, exclusion);
+    runs::put_started(state, numbers, called)
+}
+
 // Synchronise one page.
 #[no_mangle]
 pub extern "C" fn guard_sync_page(
@@ -95,6 +114,38 @@ pub extern "C" fn guard_write(
     }
     let answer = access::write(runs::state_in(state), shadow, exclusion, address, length);
     runs::reply(numbers, answer)
+}
+
+#[no_mangle]
+pub extern "C" fn guard_enter(
+    state: &mut [u64],
+    shadow: &mut [u64],
+    index: u64,
+    numbers: &mut [u64],
+) -> u64
+    ensures { λ r. ⌜ left r (now (state .exit)) (now (numbers .exit)) (now (shadow .exit) ∷ []) ≡ enterAt (now (state .entry)) (now (shadow .entry)) index (now (numbers .entry)) ⌝ }
+{
+    if !runs::lendable(state, numbers) {
+        return runs::reply(numbers, Answer::Refused(7));
+    }
+    let called = modes::enter(runs::state_in(state), shadow, index);
+    runs::put_called(state, numbers, called)
+}
+
+#[no_mangle]
+pub extern "C" fn guard_leave(
+    state: &mut [u64],
+    shadow: &mut [u64],
+    page: u64,
+    numbers: &mut [u64],
+) -> u64
+    ensures { λ r. ⌜ left r (now (state .exit)) (now (numbers .exit)) (now (shadow .exit) ∷ []) ≡ leaveAt (now (state .entry)) (now (shadow .entry)) page (now (numbers .entry)) ⌝ }
+{
+    if !runs::lendable(state, numbers) {
+        return runs::reply(numbers, Answer::Refused(7));
+    }
+    let called = modes::leave(runs::state_in(state), shadow, page);
+    runs::put_called(state, numbers, called)
 }
 
 #[no_mangle]
