@@ -1,0 +1,106 @@
+-- Laws of what an exported call returns and leaves: the runs not lendable, the call accepted, the call refused.
+use Prim.Native.Nat.{ℕ, zero, suc}
+use mathlib.Core.Bool.{Bool, true, false, not}
+use mathlib.Core.List.{List, [], _∷_}
+use mathlib.Core.Path.{_≡_, refl, sym, _∙_}
+use lib.ListN.{length, getD}
+use lib.Dec.{leb}
+use borrow.Author.Tests.{not-true, not-false}
+use Rattle.model.specs.declared.Answer.{Answer}
+use Rattle.model.specs.declared.Answer.the-variants.{Refused}
+use Rattle.model.specs.declared.Called.{Called}
+use Rattle.model.specs.declared.State.{State}
+use Rattle.model.specs.Calls.{replyOf, settle, movedBy, switchedBy, syncedBy, fetchOf, writeOf, enterOf, leaveOf, deviceWriteOf, syncPageOf, syncAllOf}
+use Rattle.model.proofs.AskLaws.{settle-accepted, both-first}
+use Rattle.exports.specs.Runs.{stateIn, withNumbers, runsFit, lendable}
+use Rattle.exports.specs.Boundary.{Left, left, replied, lent, runAfter, fetchAt, writeAt, enterAt, leaveAt, deviceWriteAt, syncPageAt, syncAllAt}
+use Rattle.exports.proofs.WordLaws.{run-fits}
+
+settle-other : {A : Type 0} (n : ℕ) (done : A) (refusal : ℕ → A) → (n ≡ 0 → ⊥) → settle n done refusal ≡ refusal n
+unfolding settle
+settle-other zero done refusal p = absurd (p refl)
+settle-other (suc n) done refusal p = refl
+
+-- What a number in hand settles: an accepted call's part, a refused one's run as it was, or its number itself.
+pub settled-accepted : {A : Type 0} (n m : ℕ) (after done : A) (refusal : ℕ → A) → n ≡ m → n ≡ 0 → after ≡ done → after ≡ settle m done refusal
+settled-accepted n m after done refusal p q e = e ∙ sym (settle-accepted done refusal (sym p ∙ q))
+
+pub settled-refused : {A : Type 0} (n m : ℕ) (run done : A) → n ≡ m → (n ≡ 0 → ⊥) → run ≡ settle m done (λ _. run)
+settled-refused n m run done p q = sym (settle-other m done (λ _. run) (λ z. q (p ∙ z)))
+
+pub settled-number : (n m done : ℕ) → n ≡ m → (n ≡ 0 → ⊥) → n ≡ settle m done (λ k. k)
+settled-number n m done p q = p ∙ sym (settle-other m done (λ k. k) (λ z. q (p ∙ z)))
+
+-- What an answer returns and says to the numbers run.
+abbrev pub Says : Answer → ℕ → List ℕ → List ℕ → Type 0
+Says answer r numbers after =
+    (r ≡ replyOf answer .number) × (after ≡ withNumbers numbers (replyOf answer .first) (replyOf answer .second))
+
+-- Question 7: a run cannot be lent.
+pub unlent : (run numbers after : List ℕ) (tables : List (List ℕ)) (call : Left) (r : ℕ) (b : Bool) → b ≡ lendable run numbers → not b ≡ true
+    → Says (Refused 7) r numbers after → left r run after tables ≡ lent run numbers tables call
+unfolding lent replied replyOf
+unlent run numbers after tables call r b p q e = rw (sym p ∙ not-true b q, e .0, e .1) refl
+
+-- The runs can be lent: the call's own answer.
+lent-replied : (run numbers runs after : List ℕ) (tables given : List (List ℕ)) (answer : Answer) (r : ℕ) (b : Bool)
+    → b ≡ lendable run numbers → not b ≡ false → Says answer r numbers after
+    → left r runs after given ≡ lent run numbers tables (replied (replyOf answer) runs numbers given)
+unfolding lent replied
+lent-replied run numbers runs after tables given answer r b p q e = rw (sym p ∙ not-false b q, e .0, e .1) refl
+
+pub run-lent : (run numbers : List ℕ) (b : Bool) → b ≡ lendable run numbers → not b ≡ false → length run ≡ 21
+unfolding lendable
+run-lent run numbers b p q =
+    run-fits run numbers true (sym (both-first (runsFit run numbers) (leb (getD run 19 0) 1) (sym p ∙ not-false b q))) refl
+
+-- Each call, in terms of what its function promises on the decoded state.
+module _ (run numbers after : List ℕ) (r : ℕ) (b : Bool) (s : State) (fits : b ≡ lendable run numbers) (yes : not b ≡ false) (in-run : s ≡ stateIn run) where
+  pub fetched : (runs shadow : List ℕ) (page : ℕ) (called : Called) → movedBy called ≡ fetchOf s shadow page
+      → Says (called .answer) r numbers after → runs ≡ runAfter run (replyOf (called .answer)) (called .state)
+      → left r runs after [] ≡ fetchAt run shadow page numbers
+  unfolding fetchAt movedBy
+  fetched runs shadow page called e says kept =
+      rw (sym (rw in-run at e), kept) (lent-replied run numbers _ after [] [] (called .answer) r b fits yes says)
+
+  pub entered : (runs shadow table : List ℕ) (index : ℕ) (called : Called) → switchedBy called table ≡ enterOf s shadow index
+      → Says (called .answer) r numbers after → runs ≡ runAfter run (replyOf (called .answer)) (called .state)
+      → left r runs after (table ∷ []) ≡ enterAt run shadow index numbers
+  unfolding enterAt switchedBy
+  entered runs shadow table index called e says kept =
+      rw (sym (rw in-run at e), kept) (lent-replied run numbers _ after (shadow ∷ []) (table ∷ []) (called .answer) r b fits yes says)
+
+  pub gone : (runs shadow table : List ℕ) (page : ℕ) (called : Called) → switchedBy called table ≡ leaveOf s shadow page
+      → Says (called .answer) r numbers after → runs ≡ runAfter run (replyOf (called .answer)) (called .state)
+      → left r runs after (table ∷ []) ≡ leaveAt run shadow page numbers
+  unfolding leaveAt switchedBy
+  gone runs shadow table page called e says kept =
+      rw (sym (rw in-run at e), kept) (lent-replied run numbers _ after (shadow ∷ []) (table ∷ []) (called .answer) r b fits yes says)
+
+  pub page-synced : (kernel shadow map exclusion shadow′ map′ : List ℕ) (page : ℕ) (answer : Answer)
+      → syncedBy answer shadow′ map′ ≡ syncPageOf s kernel shadow map exclusion page → Says answer r numbers after
+      → left r run after (shadow′ ∷ map′ ∷ []) ≡ syncPageAt run kernel shadow map exclusion page numbers
+  unfolding syncPageAt syncedBy
+  page-synced kernel shadow map exclusion shadow′ map′ page answer e says =
+      rw (sym (rw in-run at e)) (lent-replied run numbers run after (shadow ∷ map ∷ []) (shadow′ ∷ map′ ∷ []) answer r b fits yes says)
+
+  pub all-synced : (kernel shadow map exclusion shadow′ map′ : List ℕ) (answer : Answer)
+      → syncedBy answer shadow′ map′ ≡ syncAllOf s kernel shadow map exclusion → Says answer r numbers after
+      → left r run after (shadow′ ∷ map′ ∷ []) ≡ syncAllAt run kernel shadow map exclusion numbers
+  unfolding syncAllAt syncedBy
+  all-synced kernel shadow map exclusion shadow′ map′ answer e says =
+      rw (sym (rw in-run at e)) (lent-replied run numbers run after (shadow ∷ map ∷ []) (shadow′ ∷ map′ ∷ []) answer r b fits yes says)
+
+  pub written : (shadow exclusion : List ℕ) (address length : ℕ) (answer : Answer)
+      → replyOf answer ≡ writeOf s shadow exclusion address length → Says answer r numbers after
+      → left r run after [] ≡ writeAt run shadow exclusion address length numbers
+  unfolding writeAt
+  written shadow exclusion address length answer e says =
+      rw (sym (rw in-run at e)) (lent-replied run numbers run after [] [] answer r b fits yes says)
+
+  pub device-written : (exclusion : List ℕ) (address length : ℕ) (answer : Answer)
+      → replyOf answer ≡ deviceWriteOf s exclusion address length → Says answer r numbers after
+      → left r run after [] ≡ deviceWriteAt run exclusion address length numbers
+  unfolding deviceWriteAt
+  device-written exclusion address length answer e says =
+      rw (sym (rw in-run at e)) (lent-replied run numbers run after [] [] answer r b fits yes says)

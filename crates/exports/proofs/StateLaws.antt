@@ -1,0 +1,94 @@
+-- Laws of a state in a run: all words written, and what was written decodes to the same state.
+use Prim.Native.Nat.{ℕ, _+_, _≤_, _<_}
+use mathlib.Core.List.{List, [], _∷_, _++_}
+use mathlib.Core.Path.{_≡_, refl, sym, ap, _∙_}
+use lib.ListN.{length, getD, set, drop, length-append, length-drop, List·getD-append}
+use lib.Seq.{paste, take-all, set-at, getD-at, getD-drop, append-snoc}
+use lib.Dec.{eqb}
+use native.Mathlib.Omega.{arith}
+use mir.Syntax.{w16}
+use mir.Val.{Fits}
+use Rattle.model.specs.declared.Mode.{Mode}
+use Rattle.model.specs.declared.Mode.the-variants.{Kernel, User}
+use Rattle.model.specs.declared.State.{State}
+use Rattle.model.specs.Keeps.{inUser, running, modeOf}
+use Rattle.model.proofs.TableLaws.{is-table}
+use Rattle.exports.specs.Runs.{narrow, field, entryPages, stateIn, modeWord, wordsOf}
+use Rattle.exports.proofs.WordLaws.{narrow-fits}
+
+-- The two words behind the entry pages.
+tail-written : (e d : List ℕ) (m r : ℕ) → length e ≡ 16 → length d ≡ 2 → set (set (e ++ d) 16 m) 17 r ≡ e ++ (m ∷ r ∷ [])
+tail-written e [] m r p q = absurd (omega arith)
+tail-written e (u ∷ []) m r p q = absurd (omega arith)
+tail-written e (u ∷ v ∷ []) m r p q =
+    let longer : length (e ++ (m ∷ [])) ≡ 17 = simp length-append (omega arith) in
+    ap (λ (l : List ℕ). set l 17 r) (set-at e u (v ∷ []) m 16 p ∙ sym (append-snoc e m (v ∷ [])))
+    ∙ (set-at (e ++ (m ∷ [])) v [] r 17 longer ∙ append-snoc e m (r ∷ []))
+tail-written e (u ∷ v ∷ w ∷ d) m r p q = absurd (omega arith)
+
+-- All words of a state, written over a run of 21.
+pub words-written : (s : State) (run t : List ℕ) (m r : ℕ) → length run ≡ 21 → length (s .entry) ≡ 16 → t ≡ paste run 3 (s .entry) 16
+    → m ≡ modeWord (s .mode) → r ≡ running (s .mode)
+    → set (set (set (set (set t 0 (s .pages)) 1 (s .frames)) 2 (s .entries)) 19 m) 20 r ≡ wordsOf s
+unfolding wordsOf
+words-written s [] t m r n k e p q = absurd (omega arith)
+words-written s (x ∷ []) t m r n k e p q = absurd (omega arith)
+words-written s (x ∷ y ∷ []) t m r n k e p q = absurd (omega arith)
+words-written s (x ∷ y ∷ z ∷ rest) t m r n k e p q =
+    rw (e, take-all 16 (s .entry) (omega arith), p, q)
+    (ap (λ (l : List ℕ). s .pages ∷ s .frames ∷ s .entries ∷ l)
+    (tail-written (s .entry) (drop 16 rest) (modeWord (s .mode)) (running (s .mode)) k (simp length-drop (omega arith))))
+
+-- The mode, by its two words.
+mode-back : (mode : Mode) → modeOf (eqb (modeWord mode) 1) (running mode) ≡ mode
+unfolding modeOf modeWord running inUser
+mode-back (Kernel page) = refl
+mode-back (User page) = refl
+
+narrowed : (x : ℕ) → x < 65536 → narrow x ≡ x
+narrowed x h = sym (narrow-fits x (omega arith))
+
+-- A state is what its fields are.
+state-made : (s : State) (p f n : ℕ) (e : List ℕ) (m : Mode) → p ≡ s .pages → f ≡ s .frames → n ≡ s .entries → e ≡ s .entry → m ≡ s .mode
+    → record { pages = p; frames = f; entries = n; entry = e; mode = m } ≡ s
+state-made s p f n e m a b c d h = rw (a, b, c, d, h) refl
+
+-- The words of a state decode to it where each fits its field.
+module _ (s : State) (long : length (s .entry) ≡ 16) where
+  entry-word : (i : ℕ) → i < 16 → getD (wordsOf s) (3 + i) 0 ≡ getD (s .entry) i 0
+  unfolding wordsOf
+  entry-word i h =
+      sym (getD-drop 3 (wordsOf s) i 0) ∙ List·getD-append (s .entry) (modeWord (s .mode) ∷ running (s .mode) ∷ []) 0 i (omega arith)
+
+  mode-word-back : getD (wordsOf s) 19 0 ≡ modeWord (s .mode)
+  unfolding wordsOf
+  mode-word-back = getD-at (s .entry) (modeWord (s .mode)) (running (s .mode) ∷ []) 0 16 long
+
+  running-word-back : getD (wordsOf s) 20 0 ≡ running (s .mode)
+  unfolding wordsOf
+  running-word-back =
+      let longer : length (s .entry ++ (modeWord (s .mode) ∷ [])) ≡ 17 = simp length-append (omega arith) in
+      ap (λ (l : List ℕ). getD l 17 0) (sym (append-snoc (s .entry) (modeWord (s .mode)) (running (s .mode) ∷ [])))
+      ∙ getD-at (s .entry ++ (modeWord (s .mode) ∷ [])) (running (s .mode)) [] 0 17 longer
+
+  field-back : (at x : ℕ) → getD (wordsOf s) at 0 ≡ x → x < 65536 → field (wordsOf s) at ≡ x
+  unfolding field
+  field-back at x e h = ap narrow e ∙ narrowed x h
+
+  entries-back : ((i : ℕ) → Fits w16 (getD (s .entry) i 0)) → entryPages (wordsOf s) ≡ s .entry
+  unfolding entryPages
+  entries-back fits =
+      sym (is-table (s .entry) 16 (λ i. field (wordsOf s) (3 + i)) long
+      (λ i h. sym (field-back (3 + i) (getD (s .entry) i 0) (entry-word i h) (fits i .fits))))
+
+  words-decoded : s .pages < 65536 → s .frames < 65536 → s .entries < 65536 → ((i : ℕ) → Fits w16 (getD (s .entry) i 0))
+      → Fits w16 (running (s .mode)) → stateIn (wordsOf s) ≡ s
+  unfolding stateIn wordsOf
+  words-decoded p f n fits r =
+      state-made s _ _ _ _ _ (field-back 0 (s .pages) refl p) (field-back 1 (s .frames) refl f) (field-back 2 (s .entries) refl n)
+      (entries-back fits)
+      (rw (mode-word-back, field-back 20 (running (s .mode)) running-word-back (r .fits)) (mode-back (s .mode)))
+
+pub written-decoded : (s : State) (t : List ℕ) (r : ℕ) → t ≡ wordsOf s → length (s .entry) ≡ 16 → s .pages < 65536 → s .frames < 65536
+    → s .entries < 65536 → ((i : ℕ) → Fits w16 (getD (s .entry) i 0)) → Fits w16 r → r ≡ running (s .mode) → stateIn t ≡ s
+written-decoded s t r e long p f n fits h q = rw e (words-decoded s long p f n fits (rw (sym q) h))

@@ -1,0 +1,22 @@
+-- `exports::guard_device_write` meets its contract.
+use borrow.Author.Needs.{needs}
+use Rattle.exports.specs.Boundary.{deviceWriteAt}
+use Rattle.exports.proofs.BoundaryLaws.{unlent, run-lent, device-written}
+use Rattle.exports.proofs.guard_device_write.Statement.{statement}
+use Rattle.exports.proofs.guard_device_write.Tie as tie
+
+returns : tie.Need-returns
+unfolding deviceWriteAt
+returns c = search (needs, unlent)
+
+state-in-requires : tie.Need-state-in-requires
+state-in-requires c κs = search (needs, run-lent)
+
+returns-2 : tie.Need-returns-2
+returns-2 c = search (needs, device-written)
+
+pub guard-device-write-spec : {M : Type 1} → statement M
+guard-device-write-spec =
+    tie.close
+    (tie.spec (λ c κs. search needs) (λ c κs. search needs) (λ c. search needs) returns state-in-requires
+    (λ c κs. search needs) (λ c κs. search needs) (λ c. search needs) returns-2)

@@ -1,0 +1,22 @@
+-- `exports::guard_sync_page` meets its contract.
+use borrow.Author.Needs.{needs}
+use Rattle.exports.specs.Boundary.{syncPageAt}
+use Rattle.exports.proofs.BoundaryLaws.{unlent, run-lent, page-synced}
+use Rattle.exports.proofs.guard_sync_page.Statement.{statement}
+use Rattle.exports.proofs.guard_sync_page.Tie as tie
+
+returns : tie.Need-returns
+unfolding syncPageAt
+returns c = search (needs, unlent)
+
+state-in-requires : tie.Need-state-in-requires
+state-in-requires c κs = search (needs, run-lent)
+
+returns-2 : tie.Need-returns-2
+returns-2 c = search (needs, page-synced)
+
+pub guard-sync-page-spec : {M : Type 1} → statement M
+guard-sync-page-spec =
+    tie.close
+    (tie.spec (λ c κs. search needs) (λ c κs. search needs) (λ c. search needs) returns state-in-requires
+    (λ c κs. search needs) (λ c κs. search needs) (λ c. search needs) (λ c. search needs) (λ c. search needs) returns-2)

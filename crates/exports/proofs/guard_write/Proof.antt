@@ -1,0 +1,22 @@
+-- `exports::guard_write` meets its contract.
+use borrow.Author.Needs.{needs}
+use Rattle.exports.specs.Boundary.{writeAt}
+use Rattle.exports.proofs.BoundaryLaws.{unlent, run-lent, written}
+use Rattle.exports.proofs.guard_write.Statement.{statement}
+use Rattle.exports.proofs.guard_write.Tie as tie
+
+returns : tie.Need-returns
+unfolding writeAt
+returns c = search (needs, unlent)
+
+state-in-requires : tie.Need-state-in-requires
+state-in-requires c κs = search (needs, run-lent)
+
+returns-2 : tie.Need-returns-2
+returns-2 c = search (needs, written)
+
+pub guard-write-spec : {M : Type 1} → statement M
+guard-write-spec =
+    tie.close
+    (tie.spec (λ c κs. search needs) (λ c κs. search needs) (λ c. search needs) returns state-in-requires
+    (λ c κs. search needs) (λ c κs. search needs) (λ c. search needs) returns-2)

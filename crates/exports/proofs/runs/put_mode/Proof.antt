@@ -1,0 +1,15 @@
+-- `exports::runs::put_mode` meets its contract.
+use Rattle.exports.specs.Runs.{withMode}
+use borrow.Author.Needs.{needs}
+use Rattle.exports.proofs.runs.put_mode.Statement.{statement}
+use Rattle.exports.proofs.runs.put_mode.Tie as tie
+
+returns : tie.Need-returns
+unfolding withMode
+returns c = cc
+
+pub put-mode-spec : {M : Type 1} → statement M
+put-mode-spec =
+    tie.close
+    (tie.spec (λ c κs. search needs) (λ c. search needs) (λ c κs. search needs) (λ c. search needs) (λ c. search needs)
+    (λ c. search needs) returns)

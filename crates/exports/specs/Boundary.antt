@@ -1,0 +1,85 @@
+-- What each exported call returns and leaves, on every input: the model's answer on the decoded state, behind the boundary's part of question 7.
+use Prim.Native.Nat.{ℕ, _<_}
+use mathlib.Core.Bool.{true, false, cond}
+use mathlib.Core.List.{List, [], _∷_}
+use mathlib.Core.Path.{_≡_}
+use lib.ListN.{getD}
+use Rattle.model.specs.declared.State.{State}
+use Rattle.model.specs.Edges.{member}
+use Rattle.model.specs.Questions.{stateInOrder}
+use Rattle.model.specs.Calls.{Reply, refused, settle, Moved, Switched, Synced, Outcome, startOf, syncPageOf, syncAllOf, fetchOf, writeOf, enterOf, leaveOf, deviceWriteOf}
+use Rattle.exports.specs.Runs.{pagesAt, framesAt, entriesAt, runningAt, stateIn, wordsOf, withMode, withNumbers, runsFit, lendable}
+
+-- What a call returns, both runs at its exit, and the tables at its exit that it was lent to change, in the order of its parameters.
+pub record Left : Type 0 where
+  pub number : ℕ
+  pub state : List ℕ
+  pub numbers : List ℕ
+  pub tables : List (List ℕ)
+
+abbrev pub left : ℕ → List ℕ → List ℕ → List (List ℕ) → Left
+left number state numbers tables = record { number = number; state = state; numbers = numbers; tables = tables }
+
+-- A reply: its number is returned, and its two numbers go to the numbers run.
+unfoldable pub replied : Reply → List ℕ → List ℕ → List (List ℕ) → Left
+replied reply run numbers tables = left (reply .number) run (withNumbers numbers (reply .first) (reply .second)) tables
+
+-- Question 7 comes first: where a run cannot be lent, it refuses, and changes neither the state run nor a table.
+unfoldable pub lent : List ℕ → List ℕ → List (List ℕ) → Left → Left
+lent run numbers tables call = cond (lendable run numbers) call (replied (refused 7) run numbers tables)
+
+-- An accepted call that moves puts its mode into the state run. A refused one leaves the run as it was.
+unfoldable pub runAfter : List ℕ → Reply → State → List ℕ
+runAfter run reply s = settle (reply .number) (withMode run (s .mode)) (λ _. run)
+
+unfoldable pub syncPageAt : List ℕ → List ℕ → List ℕ → List ℕ → List ℕ → ℕ → List ℕ → Left
+syncPageAt run kernel shadow map exclusion page numbers =
+    let r : Synced = syncPageOf (stateIn run) kernel shadow map exclusion page in
+    lent run numbers (shadow ∷ map ∷ []) (replied (r .reply) run numbers (r .shadow ∷ r .map ∷ []))
+
+unfoldable pub syncAllAt : List ℕ → List ℕ → List ℕ → List ℕ → List ℕ → List ℕ → Left
+syncAllAt run kernel shadow map exclusion numbers =
+    let r : Synced = syncAllOf (stateIn run) kernel shadow map exclusion in
+    lent run numbers (shadow ∷ map ∷ []) (replied (r .reply) run numbers (r .shadow ∷ r .map ∷ []))
+
+unfoldable pub fetchAt : List ℕ → List ℕ → ℕ → List ℕ → Left
+fetchAt run shadow page numbers =
+    let r : Moved = fetchOf (stateIn run) shadow page in
+    lent run numbers [] (replied (r .reply) (runAfter run (r .reply) (r .state)) numbers [])
+
+unfoldable pub writeAt : List ℕ → List ℕ → List ℕ → ℕ → ℕ → List ℕ → Left
+writeAt run shadow exclusion address length numbers =
+    lent run numbers [] (replied (writeOf (stateIn run) shadow exclusion address length) run numbers [])
+
+unfoldable pub enterAt : List ℕ → List ℕ → ℕ → List ℕ → Left
+enterAt run shadow index numbers =
+    let r : Switched = enterOf (stateIn run) shadow index in
+    lent run numbers (shadow ∷ []) (replied (r .reply) (runAfter run (r .reply) (r .state)) numbers (r .shadow ∷ []))
+
+unfoldable pub leaveAt : List ℕ → List ℕ → ℕ → List ℕ → Left
+leaveAt run shadow page numbers =
+    let r : Switched = leaveOf (stateIn run) shadow page in
+    lent run numbers (shadow ∷ []) (replied (r .reply) (runAfter run (r .reply) (r .state)) numbers (r .shadow ∷ []))
+
+unfoldable pub deviceWriteAt : List ℕ → List ℕ → ℕ → ℕ → List ℕ → Left
+deviceWriteAt run exclusion address length numbers =
+    lent run numbers [] (replied (deviceWriteOf (stateIn run) exclusion address length) run numbers [])
+
+-- An accepted start writes every word of the state run. A refused one leaves the run as it was: the zero state of document 01 is not written.
+unfoldable pub runStarted : List ℕ → Reply → State → List ℕ
+runStarted run reply s = settle (reply .number) (wordsOf s) (λ _. run)
+
+-- The start asks its own questions first, whose last is 7, and then for the lengths of both runs. What the state run holds is not read.
+unfoldable pub startAt : List ℕ → List ℕ → List ℕ → List ℕ → List ℕ → List ℕ → Left
+startAt bytes run shadow map exclusion numbers =
+    let r : Outcome = startOf bytes shadow map exclusion in
+    cond (runsFit run numbers)
+    (replied (r .reply) (runStarted run (r .reply) (r .guard .state)) numbers (r .guard .shadow ∷ r .guard .map ∷ r .guard .exclusion ∷ []))
+    (replied (refused (settle (r .reply .number) 7 (λ n. n))) run numbers (shadow ∷ map ∷ exclusion ∷ []))
+
+-- Beside the length and the mode word, the runs need no test of their own: a word wider than its field, as V, F, e or the running page, makes
+-- a state that question 7 of every call refuses.
+unfoldable pub WideRefused : Type 0
+WideRefused =
+    (run : List ℕ) (at : ℕ) → 65535 < getD run at 0 → member at (pagesAt ∷ framesAt ∷ entriesAt ∷ runningAt ∷ []) ≡ true
+    → stateInOrder (stateIn run) ≡ false

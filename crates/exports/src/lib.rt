@@ -1,0 +1,166 @@
+// The guard's calls for C and Rust: numbers and lent runs in, a number out. include/guard.h documents them.
+// Each promises what the model answers on the decoded state, by one equation on all inputs.
+
+ghost use mathlib.Core.Path.{_≡_};
+ghost use mathlib.Core.List.{[], _∷_};
+ghost use Rattle.model.specs.Calls.{settle};
+ghost use Rattle.model.specs.Questions.{firstNo};
+ghost use Rattle.policy.specs.Record.{recordAsks};
+ghost use Rattle.exports.specs.Boundary.{left, startAt, syncPageAt, syncAllAt, fetchAt, writeAt, enterAt, leaveAt, deviceWriteAt, WideRefused};
+use model::Answer;
+
+pub mod runs;
+
+// A word of the state run that is wider than its field is refused by question 7, with no test at the boundary.
+pub fn wide_words()
+    ensures { λ _. ⌜ WideRefused ⌝ }
+{}
+
+// The refusal of a start whose runs do not fit: the record's questions come first.
+fn start_refusal(policy: &[u8]) -> u64
+    ensures { λ r. ⌜ r ≡ settle (firstNo (recordAsks (now (policy .entry)))) 7 (λ n. n) ⌝ }
+{
+    let number = policy::record_question(policy);
+    if number == 0 { 7 } else { number }
+}
+
+#[no_mangle]
+pub extern "C" fn guard_start(
+    policy: &[u8],
+    state: &mut [u64],
+    shadow: &mut [u64],
+    map: &mut [u16],
+    exclusion: &mut [u8],
+    numbers: &mut [u64],
+) -> u64
+    ensures { λ r. ⌜ left r (now (state .exit)) (now (numbers .exit)) (now (shadow .exit) ∷ now (map .exit) ∷ now (exclusion .exit) ∷ []) ≡ startAt (now (policy .entry)) (now (state .entry)) (now (shadow .entry)) (now (map .entry)) (now (exclusion .entry)) (now (numbers .entry)) ⌝ }
+{
+    if !runs::runs_fit(state, numbers) {
+        let number = start_refusal(policy);
+        return runs::reply(numbers, Answer::Refused(number));
+    }
+    let called = start::start(policy, shadow, map, exclusion);
+    runs::put_started(state, numbers, called)
+}
+
+// Synchronise one page.
+#[no_mangle]
+pub extern "C" fn guard_sync_page(
+    state: &[u64],
+    kernel: &[u64],
+    shadow: &mut [u64],
+    map: &mut [u16],
+    exclusion: &[u8],
+    page: u64,
+    numbers: &mut [u64],
+) -> u64
+    ensures { λ r. ⌜ left r (now (state .entry)) (now (numbers .exit)) (now (shadow .exit) ∷ now (map .exit) ∷ []) ≡ syncPageAt (now (state .entry)) (now (kernel .entry)) (now (shadow .entry)) (now (map .entry)) (now (exclusion .entry)) page (now (numbers .entry)) ⌝ }
+{
+    if !runs::lendable(state, numbers) {
+        return runs::reply(numbers, Answer::Refused(7));
+    }
+    let answer = sync::sync_page(runs::state_in(state), kernel, shadow, map, exclusion, page);
+    runs::reply(numbers, answer)
+}
+
+// Synchronise all pages.
+#[no_mangle]
+pub extern "C" fn guard_sync_all(
+    state: &[u64],
+    kernel: &[u64],
+    shadow: &mut [u64],
+    map: &mut [u16],
+    exclusion: &[u8],
+    numbers: &mut [u64],
+) -> u64
+    ensures { λ r. ⌜ left r (now (state .entry)) (now (numbers .exit)) (now (shadow .exit) ∷ now (map .exit) ∷ []) ≡ syncAllAt (now (state .entry)) (now (kernel .entry)) (now (shadow .entry)) (now (map .entry)) (now (exclusion .entry)) (now (numbers .entry)) ⌝ }
+{
+    if !runs::lendable(state, numbers) {
+        return runs::reply(numbers, Answer::Refused(7));
+    }
+    let answer = sync::sync_all(runs::state_in(state), kernel, shadow, map, exclusion);
+    runs::reply(numbers, answer)
+}
+
+#[no_mangle]
+pub extern "C" fn guard_fetch(
+    state: &mut [u64],
+    shadow: &[u64],
+    page: u64,
+    numbers: &mut [u64],
+) -> u64
+    ensures { λ r. ⌜ left r (now (state .exit)) (now (numbers .exit)) [] ≡ fetchAt (now (state .entry)) (now (shadow .entry)) page (now (numbers .entry)) ⌝ }
+{
+    if !runs::lendable(state, numbers) {
+        return runs::reply(numbers, Answer::Refused(7));
+    }
+    let called = access::fetch(runs::state_in(state), shadow, page);
+    runs::put_called(state, numbers, called)
+}
+
+#[no_mangle]
+pub extern "C" fn guard_write(
+    state: &[u64],
+    shadow: &[u64],
+    exclusion: &[u8],
+    address: u64,
+    length: u64,
+    numbers: &mut [u64],
+) -> u64
+    ensures { λ r. ⌜ left r (now (state .entry)) (now (numbers .exit)) [] ≡ writeAt (now (state .entry)) (now (shadow .entry)) (now (exclusion .entry)) address length (now (numbers .entry)) ⌝ }
+{
+    if !runs::lendable(state, numbers) {
+        return runs::reply(numbers, Answer::Refused(7));
+    }
+    let answer = access::write(runs::state_in(state), shadow, exclusion, address, length);
+    runs::reply(numbers, answer)
+}
+
+#[no_mangle]
+pub extern "C" fn guard_enter(
+    state: &mut [u64],
+    shadow: &mut [u64],
+    index: u64,
+    numbers: &mut [u64],
+) -> u64
+    ensures { λ r. ⌜ left r (now (state .exit)) (now (numbers .exit)) (now (shadow .exit) ∷ []) ≡ enterAt (now (state .entry)) (now (shadow .entry)) index (now (numbers .entry)) ⌝ }
+{
+    if !runs::lendable(state, numbers) {
+        return runs::reply(numbers, Answer::Refused(7));
+    }
+    let called = modes::enter(runs::state_in(state), shadow, index);
+    runs::put_called(state, numbers, called)
+}
+
+#[no_mangle]
+pub extern "C" fn guard_leave(
+    state: &mut [u64],
+    shadow: &mut [u64],
+    page: u64,
+    numbers: &mut [u64],
+) -> u64
+    ensures { λ r. ⌜ left r (now (state .exit)) (now (numbers .exit)) (now (shadow .exit) ∷ []) ≡ leaveAt (now (state .entry)) (now (shadow .entry)) page (now (numbers .entry)) ⌝ }
+{
+    if !runs::lendable(state, numbers) {
+        return runs::reply(numbers, Answer::Refused(7));
+    }
+    let called = modes::leave(runs::state_in(state), shadow, page);
+    runs::put_called(state, numbers, called)
+}
+
+#[no_mangle]
+pub extern "C" fn guard_device_write(
+    state: &[u64],
+    exclusion: &[u8],
+    address: u64,
+    length: u64,
+    numbers: &mut [u64],
+) -> u64
+    ensures { λ r. ⌜ left r (now (state .entry)) (now (numbers .exit)) [] ≡ deviceWriteAt (now (state .entry)) (now (exclusion .entry)) address length (now (numbers .entry)) ⌝ }
+{
+    if !runs::lendable(state, numbers) {
+        return runs::reply(numbers, Answer::Refused(7));
+    }
+    let answer = access::device_write(runs::state_in(state), exclusion, address, length);
+    runs::reply(numbers, answer)
+}

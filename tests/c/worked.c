@@ -1,0 +1,420 @@
+/*
+ * The worked example of document 01 through the C boundary, then refusals that only a caller of the library can provoke.
+ * After each call the returned number, both numbers, every state word and every table entry are compared with literals.
+ */
+#include <stdio.h>
+#include <string.h>
+
+#include "guard.h"
+
+enum { PAGES = 4, VECTOR = 1 };
+
+/* Every run that the caller of a guard holds. */
+struct guard {
+    uint64_t state[GUARD_STATE_WORDS];
+    uint64_t numbers[GUARD_NUMBERS];
+    uint64_t kernel[PAGES];
+    uint64_t shadow[PAGES];
+    uint16_t map[PAGES];
+    uint8_t exclusion[VECTOR];
+};
+
+static int passed;
+static int failed;
+
+/* A call is right where it returned what it should and left every run as it should. */
+static void check(const char *name, uint64_t number, uint64_t want_number, const struct guard *g, const struct guard *want)
+{
+    int right = number == want_number && memcmp(g->state, want->state, sizeof g->state) == 0 &&
+                memcmp(g->numbers, want->numbers, sizeof g->numbers) == 0 &&
+                memcmp(g->kernel, want->kernel, sizeof g->kernel) == 0 &&
+                memcmp(g->shadow, want->shadow, sizeof g->shadow) == 0 && memcmp(g->map, want->map, sizeof g->map) == 0 &&
+                memcmp(g->exclusion, want->exclusion, sizeof g->exclusion) == 0;
+    printf("%s %s\n", right ? "ok" : "WRONG", name);
+    if (right)
+        passed++;
+    else
+        failed++;
+}
+
+/* Numbers that no call leaves, so that a call that does not write them is seen. */
+static void forget(struct guard *g)
+{
+    g->numbers[0] = 77;
+    g->numbers[1] = 88;
+}
+
+static struct guard ready(const struct guard *before)
+{
+    struct guard g = *before;
+    forget(&g);
+    return g;
+}
+
+/* A refused call leaves 0 and 0, and everything else as it was before. The guard is then made ready for the next call. */
+static void refused(const char *name, uint64_t number, uint64_t want_number, struct guard *g, const struct guard *before)
+{
+    struct guard want = *before;
+    want.numbers[0] = 0;
+    want.numbers[1] = 0;
+    check(name, number, want_number, g, &want);
+    *g = ready(before);
+}
+
+static uint64_t start(struct guard *g, const uint8_t *policy, size_t length)
+{
+    return guard_start(policy, length, g->state, GUARD_STATE_WORDS, g->shadow, PAGES, g->map, PAGES, g->exclusion, VECTOR,
+                       g->numbers, GUARD_NUMBERS);
+}
+
+static uint64_t sync_page(struct guard *g, uint64_t page)
+{
+    return guard_sync_page(g->state, GUARD_STATE_WORDS, g->kernel, PAGES, g->shadow, PAGES, g->map, PAGES, g->exclusion, VECTOR,
+                           page, g->numbers, GUARD_NUMBERS);
+}
+
+static uint64_t sync_all(struct guard *g)
+{
+    return guard_sync_all(g->state, GUARD_STATE_WORDS, g->kernel, PAGES, g->shadow, PAGES, g->map, PAGES, g->exclusion, VECTOR,
+                          g->numbers, GUARD_NUMBERS);
+}
+
+static uint64_t fetch(struct guard *g, uint64_t page)
+{
+    return guard_fetch(g->state, GUARD_STATE_WORDS, g->shadow, PAGES, page, g->numbers, GUARD_NUMBERS);
+}
+
+static uint64_t write_bytes(struct guard *g, uint64_t address, uint64_t length)
+{
+    return guard_write(g->state, GUARD_STATE_WORDS, g->shadow, PAGES, g->exclusion, VECTOR, address, length, g->numbers,
+                       GUARD_NUMBERS);
+}
+
+static uint64_t enter(struct guard *g, uint64_t index)
+{
+    return guard_enter(g->state, GUARD_STATE_WORDS, g->shadow, PAGES, index, g->numbers, GUARD_NUMBERS);
+}
+
+static uint64_t leave(struct guard *g, uint64_t page)
+{
+    return guard_leave(g->state, GUARD_STATE_WORDS, g->shadow, PAGES, page, g->numbers, GUARD_NUMBERS);
+}
+
+static uint64_t device_write(struct guard *g, uint64_t address, uint64_t length)
+{
+    return guard_device_write(g->state, GUARD_STATE_WORDS, g->exclusion, VECTOR, address, length, g->numbers, GUARD_NUMBERS);
+}
+
+/* "Policy V 4, F 4, n 1, e 1, page 1, frame 2." */
+static const uint8_t policy[12] = {4, 0, 4, 0, 1, 0, 1, 0, 1, 0, 2, 0};
+
+/* Runs as they may be before a start: nothing of them is read. */
+static const struct guard unset = {
+    .state = {9, 9, 9, 9, 9, 9, 9, 9, 9, 9, 9, 9, 9, 9, 9, 9, 9, 9, 9, 9, 9},
+    .numbers = {77, 88},
+    .kernel = {0, 0, 0, 0},
+    .shadow = {5, 6, 7, 8},
+    .map = {1, 2, 3, 4},
+    .exclusion = {0xff},
+};
+
+/* The guard just started, in kernel mode on page 1. C1: "shadow of page 1 is 0x2401, exclusion byte 0x04". */
+static const struct guard started = {
+    .state = {4, 4, 1, 1, 0, 0, 0, 0, 0, 0, 0, 0, 0, 0, 0, 0, 0, 0, 0, GUARD_MODE_KERNEL, 1},
+    .numbers = {1, 1},
+    .kernel = {0, 0, 0, 0},
+    .shadow = {0, 0x2401, 0, 0},
+    .map = {65535, 2, 65535, 65535},
+    .exclusion = {0x04},
+};
+
+/* The guard at the end of the worked example, in user mode on page 3. */
+static const struct guard finished = {
+    .state = {4, 4, 1, 1, 0, 0, 0, 0, 0, 0, 0, 0, 0, 0, 0, 0, 0, 0, 0, GUARD_MODE_USER, 3},
+    .numbers = {0, 0},
+    .kernel = {0x2003, 0, 0, 0x3007},
+    .shadow = {0x8000000000002401, 0x8000000000002401, 0, 0x3007},
+    .map = {2, 2, 65535, 65535},
+    .exclusion = {0x04},
+};
+
+/* "S 0 1 1 K 1" to "7 13 0 0 U 3", a line of the document at a call. */
+static void worked_example(void)
+{
+    struct guard g = unset;
+    struct guard want = started;
+    uint64_t number = start(&g, policy, sizeof policy);
+    check("S 0 1 1 K 1", number, GUARD_ACCEPTED, &g, &want);
+
+    /* edit 0 to 0x2003: the caller's own kernel table; synchronise 0 */
+    g.kernel[0] = 0x2003;
+    forget(&g);
+    number = sync_page(&g, 0);
+    want.kernel[0] = 0x2003;
+    want.shadow[0] = 0x2401;
+    want.map[0] = 2;
+    want.numbers[0] = 1;
+    want.numbers[1] = 1;
+    check("1 0 1 1 K 1", number, GUARD_ACCEPTED, &g, &want);
+
+    forget(&g);
+    number = write_bytes(&g, 0, 1);
+    want.numbers[0] = 0;
+    want.numbers[1] = 0;
+    check("4 12 0 0 K 1", number, GUARD_NOT_PERMITTED, &g, &want);
+
+    /* edit 3 to 0x3007; synchronise 3 */
+    g.kernel[3] = 0x3007;
+    forget(&g);
+    number = sync_page(&g, 3);
+    want.kernel[3] = 0x3007;
+    want.shadow[3] = 0x8000000000003007;
+    want.numbers[0] = 1;
+    want.numbers[1] = 0;
+    check("1 0 1 0 K 1", number, GUARD_ACCEPTED, &g, &want);
+
+    forget(&g);
+    number = leave(&g, 3);
+    want = finished;
+    want.numbers[0] = 3;
+    want.numbers[1] = 0;
+    check("6 0 3 0 U 3", number, GUARD_ACCEPTED, &g, &want);
+
+    forget(&g);
+    number = device_write(&g, 8192, 1);
+    check("7 13 0 0 U 3", number, GUARD_EXCLUDED, &g, &finished);
+}
+
+/* Accepted calls that the worked example does not make. */
+static void other_calls(void)
+{
+    struct guard g = finished;
+    struct guard want = finished;
+    uint64_t number = fetch(&g, 3);
+    want.numbers[0] = 3;
+    want.numbers[1] = 3;
+    check("fetch of page 3 in user mode", number, GUARD_ACCEPTED, &g, &want);
+
+    forget(&g);
+    number = write_bytes(&g, 16383 - 15, 16);
+    check("write of the last 16 bytes", number, GUARD_ACCEPTED, &g, &want);
+
+    forget(&g);
+    number = enter(&g, 0);
+    want.state[GUARD_STATE_MODE] = GUARD_MODE_KERNEL;
+    want.state[GUARD_STATE_RUNNING] = 1;
+    want.shadow[0] = 0x2401;
+    want.shadow[1] = 0x2401;
+    want.shadow[3] = 0x8000000000003007;
+    want.numbers[0] = 3;
+    want.numbers[1] = 0;
+    check("enter by index 0", number, GUARD_ACCEPTED, &g, &want);
+
+    forget(&g);
+    number = fetch(&g, 0);
+    want.state[GUARD_STATE_RUNNING] = 0;
+    want.numbers[0] = 2;
+    want.numbers[1] = 2;
+    check("fetch of page 0 in kernel mode", number, GUARD_ACCEPTED, &g, &want);
+
+    /* from a kernel table with page 0 absent and page 2 on frame 2: both keep or get frame 2 */
+    g.kernel[0] = 0x2000;
+    g.kernel[2] = 0x2007;
+    forget(&g);
+    number = sync_all(&g);
+    want.kernel[0] = 0x2000;
+    want.kernel[2] = 0x2007;
+    want.shadow[0] = 0;
+    want.shadow[1] = 0;
+    want.shadow[2] = 0x2401;
+    want.map[2] = 2;
+    want.numbers[0] = 3;
+    want.numbers[1] = 1;
+    check("synchronise all", number, GUARD_ACCEPTED, &g, &want);
+
+    /* C9 */
+    forget(&g);
+    number = device_write(&g, 16383, 1);
+    want.numbers[0] = 3;
+    want.numbers[1] = 3;
+    check("device write of the last byte", number, GUARD_ACCEPTED, &g, &want);
+}
+
+/* Refusals by page, index, address and length: nothing is cut to fewer bits. */
+static void refused_arguments(void)
+{
+    const struct guard before = finished;
+    struct guard g = ready(&before);
+    refused("fetch of page 65537 gives 9", fetch(&g, 65537), GUARD_DOES_NOT_EXIST, &g, &before);
+    refused("fetch of page 2^32 + 3 gives 9", fetch(&g, 4294967299), GUARD_DOES_NOT_EXIST, &g, &before);
+    refused("synchronise page 65537 gives 9", sync_page(&g, 65537), GUARD_DOES_NOT_EXIST, &g, &before);
+    refused("leave to page 65539 gives 9", leave(&g, 65539), GUARD_DOES_NOT_EXIST, &g, &before);
+    refused("enter by index 65536 gives 9", enter(&g, 65536), GUARD_DOES_NOT_EXIST, &g, &before);
+    refused("enter by index 1 gives 9", enter(&g, 1), GUARD_DOES_NOT_EXIST, &g, &before);
+    refused("leave in user mode gives 10", leave(&g, 3), GUARD_WRONG_MODE, &g, &before);
+    refused("fetch of an absent page gives 11", fetch(&g, 2), GUARD_NOT_PRESENT, &g, &before);
+    refused("fetch of an approved page in user mode gives 12", fetch(&g, 1), GUARD_NOT_PERMITTED, &g, &before);
+    refused("write of 0 bytes gives 8", write_bytes(&g, 12288, 0), GUARD_LENGTH_OUT_OF_RANGE, &g, &before);
+    refused("write of 17 bytes gives 8", write_bytes(&g, 12288, 17), GUARD_LENGTH_OUT_OF_RANGE, &g, &before);
+    refused("write of 2^32 + 1 bytes gives 8", write_bytes(&g, 12288, 4294967297), GUARD_LENGTH_OUT_OF_RANGE, &g, &before);
+    refused("write at 2^64 - 1 gives 9", write_bytes(&g, UINT64_MAX, 16), GUARD_DOES_NOT_EXIST, &g, &before);
+    refused("write across into an absent page gives 11", write_bytes(&g, 8191, 2), GUARD_NOT_PRESENT, &g, &before);
+    refused("device write of 2 bytes at 16383 gives 9", device_write(&g, 16383, 2), GUARD_DOES_NOT_EXIST, &g, &before);
+    refused("device write at 2^64 - 1 gives 9", device_write(&g, UINT64_MAX, 1048576), GUARD_DOES_NOT_EXIST, &g, &before);
+    refused("device write of 1048577 bytes gives 8", device_write(&g, 0, 1048577), GUARD_LENGTH_OUT_OF_RANGE, &g, &before);
+}
+
+/* Refusals that no guard reaches by its calls, on tables that were made up. */
+static void refused_tables(void)
+{
+    struct guard before = finished;
+    before.shadow[2] = 0x2007;
+    struct guard g = ready(&before);
+    refused("write to an excluded frame gives 13", write_bytes(&g, 8192, 1), GUARD_EXCLUDED, &g, &before);
+    refused("write across into an excluded frame gives 13", write_bytes(&g, 12288 - 1, 2), GUARD_EXCLUDED, &g, &before);
+    before.shadow[2] = 0x4007;
+    g = ready(&before);
+    refused("write to a frame at F gives 13", write_bytes(&g, 8192, 1), GUARD_EXCLUDED, &g, &before);
+    before.shadow[1] = 0x2001;
+    g = ready(&before);
+    refused("enter to a page without the approved mark gives 12", enter(&g, 0), GUARD_NOT_PERMITTED, &g, &before);
+}
+
+/* A guard with one word of its state run replaced. */
+static struct guard with_word(size_t at, uint64_t word)
+{
+    struct guard g = finished;
+    g.state[at] = word;
+    return g;
+}
+
+/* Every call but the start gives 7 on a damaged state run. */
+static void damaged_state(const char *name, const struct guard *before)
+{
+    char full[80];
+    struct guard g = ready(before);
+    snprintf(full, sizeof full, "synchronise one: %s gives 7", name);
+    refused(full, sync_page(&g, 3), GUARD_STATE_OR_TABLE, &g, before);
+    snprintf(full, sizeof full, "synchronise all: %s gives 7", name);
+    refused(full, sync_all(&g), GUARD_STATE_OR_TABLE, &g, before);
+    snprintf(full, sizeof full, "fetch: %s gives 7", name);
+    refused(full, fetch(&g, 3), GUARD_STATE_OR_TABLE, &g, before);
+    snprintf(full, sizeof full, "write: %s gives 7", name);
+    refused(full, write_bytes(&g, 12288, 1), GUARD_STATE_OR_TABLE, &g, before);
+    snprintf(full, sizeof full, "enter: %s gives 7", name);
+    refused(full, enter(&g, 0), GUARD_STATE_OR_TABLE, &g, before);
+    snprintf(full, sizeof full, "leave: %s gives 7", name);
+    refused(full, leave(&g, 3), GUARD_STATE_OR_TABLE, &g, before);
+    snprintf(full, sizeof full, "device write: %s gives 7", name);
+    refused(full, device_write(&g, 0, 1), GUARD_STATE_OR_TABLE, &g, before);
+}
+
+static void refused_states(void)
+{
+    static const struct {
+        const char *name;
+        size_t at;
+        uint64_t word;
+    } damage[] = {
+        {"mode word 2", GUARD_STATE_MODE, 2},
+        {"mode word 2^32", GUARD_STATE_MODE, 4294967296},
+        {"V 65540", GUARD_STATE_PAGES, 65540},
+        {"F 65540", GUARD_STATE_FRAMES, 65540},
+        {"e 65537", GUARD_STATE_ENTRIES, 65537},
+        {"running page 65539", GUARD_STATE_RUNNING, 65539},
+        {"running page 4", GUARD_STATE_RUNNING, 4},
+    };
+    for (size_t i = 0; i < sizeof damage / sizeof damage[0]; i++) {
+        struct guard before = with_word(damage[i].at, damage[i].word);
+        damaged_state(damage[i].name, &before);
+    }
+
+    /* an entry page is asked for only by the call that names it */
+    struct guard before = with_word(GUARD_STATE_ENTRY, 65537);
+    struct guard g = ready(&before);
+    refused("enter to entry page 65537 gives 9", enter(&g, 0), GUARD_DOES_NOT_EXIST, &g, &before);
+    struct guard want = before;
+    want.numbers[0] = 3;
+    want.numbers[1] = 3;
+    check("fetch beside entry page 65537 is accepted", fetch(&g, 3), GUARD_ACCEPTED, &g, &want);
+}
+
+/* Runs of other lengths. */
+static void refused_lengths(void)
+{
+    const struct guard before = finished;
+    struct guard g = ready(&before);
+    refused("state run of 20 words gives 7",
+            guard_fetch(g.state, GUARD_STATE_WORDS - 1, g.shadow, PAGES, 3, g.numbers, GUARD_NUMBERS), GUARD_STATE_OR_TABLE, &g,
+            &before);
+    uint64_t longer[GUARD_STATE_WORDS + 1] = {4, 4, 1, 1, [GUARD_STATE_MODE] = 1, 3, 0};
+    refused("state run of 22 words gives 7",
+            guard_fetch(longer, GUARD_STATE_WORDS + 1, g.shadow, PAGES, 3, g.numbers, GUARD_NUMBERS), GUARD_STATE_OR_TABLE, &g,
+            &before);
+    refused("shadow table of 3 entries gives 7",
+            guard_leave(g.state, GUARD_STATE_WORDS, g.shadow, PAGES - 1, 3, g.numbers, GUARD_NUMBERS), GUARD_STATE_OR_TABLE, &g,
+            &before);
+    refused("exclusion vector of 0 bytes gives 7",
+            guard_device_write(g.state, GUARD_STATE_WORDS, g.exclusion, 0, 0, 1, g.numbers, GUARD_NUMBERS),
+            GUARD_STATE_OR_TABLE, &g, &before);
+
+    /* a numbers run of another length is not written */
+    const struct guard untold = ready(&before);
+    check("numbers run of 1 word gives 7",
+          guard_fetch(g.state, GUARD_STATE_WORDS, g.shadow, PAGES, 3, g.numbers, GUARD_NUMBERS - 1), GUARD_STATE_OR_TABLE, &g,
+          &untold);
+    uint64_t three[GUARD_NUMBERS + 1] = {77, 88, 99};
+    uint64_t number = guard_enter(g.state, GUARD_STATE_WORDS, g.shadow, PAGES, 0, three, GUARD_NUMBERS + 1);
+    check("numbers run of 3 words gives 7", number, GUARD_STATE_OR_TABLE, &g, &untold);
+    check("numbers run of 3 words is not written", three[0] + three[1] + three[2], 77 + 88 + 99, &g, &untold);
+}
+
+/* Refused starts: the state run stays as it was too. */
+static void refused_starts(void)
+{
+    const struct guard before = unset;
+    struct guard g = ready(&before);
+    refused("record of 7 bytes gives 1", start(&g, policy, 7), GUARD_RECORD_TOO_SHORT, &g, &before);
+    refused("record of 11 bytes gives 4", start(&g, policy, 11), GUARD_RECORD_LENGTH, &g, &before);
+    const uint8_t no_pages[12] = {0, 0, 4, 0, 1, 0, 1, 0, 1, 0, 2, 0};
+    refused("V 0 gives 2", start(&g, no_pages, sizeof no_pages), GUARD_SIZE_OUT_OF_RANGE, &g, &before);
+    const uint8_t no_entries[12] = {4, 0, 4, 0, 1, 0, 0, 0, 1, 0, 2, 0};
+    refused("e 0 gives 3", start(&g, no_entries, sizeof no_entries), GUARD_COUNT_OUT_OF_RANGE, &g, &before);
+    const uint8_t high_page[12] = {4, 0, 4, 0, 1, 0, 1, 0, 4, 0, 2, 0};
+    refused("page 4 of 4 gives 5", start(&g, high_page, sizeof high_page), GUARD_LISTED_PAGE, &g, &before);
+    const uint8_t high_frame[12] = {4, 0, 4, 0, 1, 0, 1, 0, 1, 0, 4, 0};
+    refused("frame 4 of 4 gives 6", start(&g, high_frame, sizeof high_frame), GUARD_LISTED_FRAME, &g, &before);
+    refused("start on a state run of 20 words gives 7",
+            guard_start(policy, sizeof policy, g.state, GUARD_STATE_WORDS - 1, g.shadow, PAGES, g.map, PAGES, g.exclusion, VECTOR,
+                        g.numbers, GUARD_NUMBERS),
+            GUARD_STATE_OR_TABLE, &g, &before);
+    refused("start on a map of 3 numbers gives 7",
+            guard_start(policy, sizeof policy, g.state, GUARD_STATE_WORDS, g.shadow, PAGES, g.map, PAGES - 1, g.exclusion, VECTOR,
+                        g.numbers, GUARD_NUMBERS),
+            GUARD_STATE_OR_TABLE, &g, &before);
+    refused("start asks 1 before 7",
+            guard_start(policy, 7, g.state, GUARD_STATE_WORDS - 1, g.shadow, PAGES, g.map, PAGES, g.exclusion, VECTOR, g.numbers,
+                        GUARD_NUMBERS),
+            GUARD_RECORD_TOO_SHORT, &g, &before);
+    refused("start asks 6 before 7",
+            guard_start(high_frame, sizeof high_frame, g.state, 0, g.shadow, PAGES, g.map, PAGES, g.exclusion, VECTOR, g.numbers,
+                        GUARD_NUMBERS),
+            GUARD_LISTED_FRAME, &g, &before);
+    check("start on a numbers run of 1 word gives 7",
+          guard_start(policy, sizeof policy, g.state, GUARD_STATE_WORDS, g.shadow, PAGES, g.map, PAGES, g.exclusion, VECTOR,
+                      g.numbers, GUARD_NUMBERS - 1),
+          GUARD_STATE_OR_TABLE, &g, &before);
+}
+
+int main(void)
+{
+    worked_example();
+    other_calls();
+    refused_arguments();
+    refused_tables();
+    refused_states();
+    refused_lengths();
+    refused_starts();
+    printf("%d passed, %d failed\n", passed, failed);
+    return failed == 0 ? 0 : 1;
+}
