@@ -25,8 +25,9 @@ pub struct Place {
 pub fn step(user: bool, frames: u16, exclusion: &[u8], entry: u64, approval: u16) -> Place
     ensures { λ r. ⌜ place (r .entry) (r .approval) ≡ Sync.step (rules user frames (now (exclusion .entry))) entry approval ⌝ }
 {
+    let empty = Place { entry: 0, approval };
     let Entry::Present(x) = entry::take_apart(entry) else {
-        return Place { entry: 0, approval };
+        return empty;
     };
     if approval != NONE {
         return Place {
@@ -35,7 +36,7 @@ pub fn step(user: bool, frames: u16, exclusion: &[u8], entry: u64, approval: u16
         };
     }
     if frames as u64 <= x.frame {
-        return Place { entry: 0, approval };
+        return empty;
     }
     if bitmap::excluded(exclusion, x.frame) {
         let frame = x.frame as u16;
@@ -149,7 +150,7 @@ pub fn sync_page(
         changed: 0,
         joined: 0,
     };
-    let counts = sync_at(
+    let one = sync_at(
         questions::in_user(mode),
         s.frames,
         exclusion,
@@ -159,7 +160,7 @@ pub fn sync_page(
         i,
         none,
     );
-    Answer::Done(counts.changed, counts.joined)
+    Answer::Done(one.changed, one.joined)
 }
 
 // Synchronise all pages.
@@ -176,7 +177,7 @@ pub fn sync_all(
         return Answer::Refused(7);
     }
     let mode = s.mode;
-    let counts = sync_pages(
+    let all = sync_pages(
         questions::in_user(mode),
         s.frames,
         exclusion,
@@ -184,5 +185,5 @@ pub fn sync_all(
         shadow,
         map,
     );
-    Answer::Done(counts.changed, counts.joined)
+    Answer::Done(all.changed, all.joined)
 }

@@ -1,3 +1,4 @@
+-- A law for each answer: an entry that stays, and one that changed.
 use Rattle.sync.proofs.SyncLaws.{kept, same-counts, other-counts}
 use borrow.Author.Needs.{needs}
 use Rattle.sync.proofs.put_entry.Statement.{statement}

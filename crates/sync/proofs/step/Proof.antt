@@ -1,3 +1,4 @@
+-- A law for each of the five steps.
 use Rattle.sync.proofs.SyncLaws.{step-absent, step-approved, step-above, step-excluded, step-ordinary}
 use borrow.Author.Needs.{needs}
 use Rattle.sync.proofs.step.Statement.{statement}

@@ -1,3 +1,4 @@
+-- Question 7 refuses, or the three tables have one length.
 use Rattle.sync.proofs.SyncLaws.{all-refused, shadow-matches, map-matches, all-accepted}
 use borrow.Author.Needs.{needs}
 use Rattle.sync.proofs.sync_all.Statement.{statement}

@@ -1,3 +1,4 @@
+-- Questions 7 and 9 refuse, or the page is below V and in every table.
 use Rattle.sync.proofs.SyncLaws.{page-refused, page-absent, page-in-kernel, page-in-shadow, page-in-map, page-accepted}
 use borrow.Author.Needs.{needs}
 use native.Mathlib.Omega.{arith}
