@@ -62,7 +62,7 @@ pub fn number<'a>(r: Reader<'a>) -> u16
 
 // The number at a place, read by a reader that has come so far. The parameters are plain.
 pub fn number_from(bytes: &[u8], at: usize) -> u16
-    ensures { λ r. ⌜ r ≡ numberAt (now (bytes .entry)) at ⌝ }
+    ensures { λ n. ⌜ n ≡ numberAt (now (bytes .entry)) at ⌝ }
 {
     number(skip(new(bytes), at))
 }

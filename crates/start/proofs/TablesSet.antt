@@ -1,16 +1,15 @@
 -- Laws of the tables after the start's loops: they are those of the policy's definition.
-use Prim.Native.Nat.{ℕ, zero, suc, _+_, _*_, _/_, _≤_, _<_}
+use Prim.Native.Nat.{ℕ, _+_, _*_, _/_, _≤_, _<_}
 use mathlib.Core.Bool.{Bool, true, false, cond}
 use mathlib.Core.List.{List, [], _∷_, map}
 use mathlib.Core.Path.{_≡_, refl, sym, ap, fun-ext, _∙_}
 use lib.Dec.{ltb, eqb}
-use lib.ListN.{length, getD, set, take, replicate, length-replicate}
-use native.Mathlib.Nat.{zero-add}
+use lib.ListN.{length, getD, take, replicate}
 use native.Mathlib.Omega.{arith}
-use borrow.Author.Tests.{ltb-true, lt-ltb, ne-eqb}
+use borrow.Author.Tests.{ltb-true, ne-eqb}
 use Rattle.model.specs.Edges.{either, table, member}
 use Rattle.model.specs.Keeps.{none, vectorBytes, flag, byteOf, vectorOf, withExcluded}
-use Rattle.model.specs.Policy.{Policy, numberAt, numbersAt, policyOf, frameFor, approvalFor, named, firstEntry, entryPages, startGuard}
+use Rattle.model.specs.Policy.{numberAt, numbersAt, policyOf, frameFor, approvalFor, named, firstEntry, entryPages, startGuard}
 use Rattle.model.specs.Bits.{approved}
 use Rattle.model.specs.Questions.{allBelow}
 use Rattle.model.proofs.TableLaws.{table-same, set-table, take-table, table-const}

@@ -175,9 +175,9 @@ fn start_question(bytes: &[u8], shadow: usize, map: usize, exclusion: usize) -> 
 pub fn start(bytes: &[u8], shadow: &mut [u64], map: &mut [u16], exclusion: &mut [u8]) -> Called
     ensures { λ r. ⌜ startedBy r (now (shadow .exit)) (now (map .exit)) (now (exclusion .exit)) ≡ startOf (now (bytes .entry)) (now (shadow .entry)) (now (map .entry)) (now (exclusion .entry)) ⌝ }
 {
-    let question = start_question(bytes, shadow.len(), map.len(), exclusion.len());
-    if question != 0 {
-        return refused(question);
+    let refusal = start_question(bytes, shadow.len(), map.len(), exclusion.len());
+    if refusal != 0 {
+        return refused(refusal);
     }
     set_pages(bytes, shadow, map);
     set_vector(bytes, exclusion);

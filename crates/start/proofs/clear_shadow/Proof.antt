@@ -1,5 +1,5 @@
 -- The places passed hold 0, and the others what they held.
-use Prim.Native.Nat.{_+_, _-_, _≤_}
+use Prim.Native.Nat.{_-_, _≤_}
 use mathlib.Core.List.{_++_}
 use mathlib.Core.Path.{_≡_}
 use lib.ListN.{length, drop, replicate}

@@ -1,5 +1,5 @@
 -- The entry pages passed are read, and the others are 0.
-use Prim.Native.Nat.{_+_, _-_, _≤_}
+use Prim.Native.Nat.{_-_, _≤_}
 use mathlib.Core.Path.{_≡_}
 use borrow.Author.Needs.{needs}
 use Rattle.start.specs.Start.{entryTable}
