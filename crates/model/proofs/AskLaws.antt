@@ -74,7 +74,7 @@ unfoldable pub numbered : List Ask → Bool
 numbered [] = true
 numbered (q ∷ qs) = both (not (eqb (q .number) 0)) (numbered qs)
 
-either-second : (a : Bool) {b : Bool} → b ≡ true → either a b ≡ true
+pub either-second : (a : Bool) {b : Bool} → b ≡ true → either a b ≡ true
 unfolding either
 either-second true p = refl
 either-second false p = p

@@ -14,12 +14,7 @@ use Rattle.model.specs.Edges.{both, either, within, pagesInRange, frames
 use Rattle.model.specs.Keeps.{vectorBytes}
 use Rattle.model.specs.Policy.{Policy, numberAt, numbersAt, frameFor}
 use Rattle.model.specs.Questions.{firstNo, sizesInRange, countsInRange, rising, allBelow, inOrder, startAsks}
-use Rattle.model.proofs.AskLaws.{both-yes, both-no, both-no-after, both-first, both-second, within-low, within-high, asked, numbered, all-yes}
-
-either-second : (a : Bool) {b : Bool} → b ≡ true → either a b ≡ true
-unfolding either
-either-second true h = refl
-either-second false h = h
+use Rattle.model.proofs.AskLaws.{either-second, both-yes, both-no, both-no-after, both-first, both-second, within-low, within-high, asked, numbered, all-yes}
 
 -- Numbers in a row: none, one more at the front, how many, and each of them.
 pub numbersAt-none : (bytes : List ℕ) (at : ℕ) {left : ℕ} → left ≡ 0 → numbersAt bytes at left ≡ []

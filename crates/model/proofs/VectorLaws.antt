@@ -1,39 +1,18 @@
--- Laws of tables made by a function, of the bits of a byte, and of the exclusion vector: its length, a frame's bit, and a frame
--- excluded too.
+-- Laws of the bits of a byte and of the exclusion vector: its length, a frame's bit, and a frame excluded too.
 use Prim.Native.Nat.{ℕ, zero, suc, _+_, _*_, _/_, _%_, _^_, _≤_, _<_}
 use mathlib.Core.Bool.{Bool, true, false, cond}
 use mathlib.Core.List.{List, [], _∷_}
 use mathlib.Core.Path.{_≡_, refl, sym, ap, _∙_}
 use mathlib.Core.Logic.{⊎-elim}
-use native.Mathlib.Nat.{not-suc-le-zero, le-of-suc-le-suc, add-zero, add-suc, suc-add}
 use native.Mathlib.Omega.{arith}
 use lib.Dec.{eqb}
 use lib.ListN.{length, getD, set, length-set}
 use lib.Pow.{mod-pow-add}
 use lib.Seq.{getD-set-same, getD-set-other, ext-getD}
 use borrow.Author.Tests.{eq-eqb, ne-eqb, eqb-true, eqb-false}
-use Rattle.model.specs.Edges.{either, tableFrom, table, bit}
+use Rattle.model.specs.Edges.{either, table, bit}
 use Rattle.model.specs.Keeps.{vectorBytes, excludedIn, flag, byteOf, vectorOf, withExcluded}
-
--- A table has its count of places, and f of its number at each.
-tableFrom-length : (f : ℕ → ℕ) (first n : ℕ) → length (tableFrom f first n) ≡ n
-unfolding tableFrom
-tableFrom-length f first zero = refl
-tableFrom-length f first (suc n) = ap suc (tableFrom-length f (suc first) n)
-
-pub table-length : (n : ℕ) (f : ℕ → ℕ) → length (table n f) ≡ n
-unfolding table
-table-length n f = tableFrom-length f 0 n
-
-tableFrom-at : (f : ℕ → ℕ) (first n i d : ℕ) → i < n → getD (tableFrom f first n) i d ≡ f (first + i)
-unfolding tableFrom
-tableFrom-at f first zero i d h = absurd (not-suc-le-zero h)
-tableFrom-at f first (suc n) zero d h = rw add-zero
-tableFrom-at f first (suc n) (suc i) d h = rw (add-suc, ← suc-add) (tableFrom-at f (suc first) n i d (le-of-suc-le-suc h))
-
-pub table-at : (n : ℕ) (f : ℕ → ℕ) (i d : ℕ) → i < n → getD (table n f) i d ≡ f i
-unfolding table
-table-at n f i d h = tableFrom-at f 0 n i d h ∙ ap f (omega arith)
+use Rattle.model.proofs.TableLaws.{length-table, getD-table}
 
 -- What holds of 0 to 7 holds of every number below 8.
 pub below8 : (P : ℕ → Type 0) → P 0 → P 1 → P 2 → P 3 → P 4 → P 5 → P 6 → P 7 → (j : ℕ) → j < 8 → P j
@@ -133,7 +112,7 @@ eqb-together a b c d to from = by (eqb a b) refl
 -- The exclusion vector of F frames: its length, and the bit of a frame.
 pub vectorOf-length : (frames : ℕ) (h : ℕ → Bool) → length (vectorOf frames h) ≡ vectorBytes frames
 unfolding vectorOf
-vectorOf-length frames h = table-length (vectorBytes frames) (λ i. byteOf (λ j. h (i * 8 + j)))
+vectorOf-length frames h = length-table (vectorBytes frames) (λ i. byteOf (λ j. h (i * 8 + j)))
 
 byte-below : (frames f : ℕ) → f < frames → f / 8 < vectorBytes frames
 unfolding vectorBytes
@@ -141,7 +120,7 @@ byte-below frames f l = omega arith
 
 pub vectorOf-byte : (frames : ℕ) (h : ℕ → Bool) (i d : ℕ) → i < vectorBytes frames → getD (vectorOf frames h) i d ≡ byteOf (λ j. h (i * 8 + j))
 unfolding vectorOf
-vectorOf-byte frames h i d l = table-at (vectorBytes frames) (λ i. byteOf (λ j. h (i * 8 + j))) i d l
+vectorOf-byte frames h i d l = getD-table (vectorBytes frames) (λ i. byteOf (λ j. h (i * 8 + j))) i d l
 
 pub vectorOf-excluded : (frames : ℕ) (h : ℕ → Bool) (f : ℕ) → f < frames → excludedIn (vectorOf frames h) f ≡ h f
 unfolding excludedIn
