@@ -1,0 +1,13 @@
+use borrow.Author.Needs.{needs}
+use Rattle.lines.proofs.empty.Statement.{statement}
+use Rattle.lines.proofs.empty.Tie as tie
+use Rattle.lines.proofs.empty.Reads as reads
+use Rattle.lines.proofs.empty.Lts as lts
+
+returns : tie.Need-returns
+returns c = ?
+
+pub empty-spec : {M : Type 1} → statement M
+empty-spec =
+    tie.close
+    (tie.spec returns)

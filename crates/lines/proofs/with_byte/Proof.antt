@@ -1,0 +1,13 @@
+use borrow.Author.Needs.{needs}
+use Rattle.lines.proofs.with_byte.Statement.{statement}
+use Rattle.lines.proofs.with_byte.Tie as tie
+use Rattle.lines.proofs.with_byte.Reads as reads
+use Rattle.lines.proofs.with_byte.Lts as lts
+
+returns : tie.Need-returns
+returns c = ?
+
+pub with-byte-spec : {M : Type 1} → statement M
+with-byte-spec =
+    tie.close
+    (tie.spec (λ c. search needs) (λ c. search needs) returns)
