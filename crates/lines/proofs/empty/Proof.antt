@@ -1,3 +1,5 @@
+use mathlib.Core.Path.{refl}
+use Rattle.lines.specs.Text.{text}
 use borrow.Author.Needs.{needs}
 use Rattle.lines.proofs.empty.Statement.{statement}
 use Rattle.lines.proofs.empty.Tie as tie
@@ -5,7 +7,8 @@ use Rattle.lines.proofs.empty.Reads as reads
 use Rattle.lines.proofs.empty.Lts as lts
 
 returns : tie.Need-returns
-returns c = ?
+unfolding text
+returns c = (refl, refl)
 
 pub empty-spec : {M : Type 1} → statement M
 empty-spec =

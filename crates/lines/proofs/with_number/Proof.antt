@@ -1,0 +1,16 @@
+use Rattle.lines.proofs.LineLaws.{number-after}
+use borrow.Author.Needs.{needs}
+use Rattle.lines.proofs.with_number.Statement.{statement}
+use Rattle.lines.proofs.with_number.Tie as tie
+use Rattle.lines.proofs.with_number.Reads as reads
+use Rattle.lines.proofs.with_number.Lts as lts
+use Rattle.lines.proofs.with_byte.Reads as with-byte-reads
+use Rattle.lines.proofs.with_digits.Reads as with-digits-reads
+
+returns : tie.Need-returns
+returns c = search (needs, number-after)
+
+pub with-number-spec : {M : Type 1} → statement M
+with-number-spec =
+    tie.close
+    (tie.spec (λ c κs. search needs) (λ c κs. search needs) returns)
