@@ -5,3 +5,4 @@ pub mod TableLaws
 pub mod PolicyLaws
 pub mod VectorLaws
 pub mod TouchLaws
+pub mod RunLaws

@@ -61,6 +61,10 @@ pub record Synced : Type 0 where
   pub shadow : List ℕ
   pub map : List ℕ
 
+-- What a synchronising call gave, with the two tables that it left, in that form.
+unfoldable pub syncedBy : Answer → List ℕ → List ℕ → Synced
+syncedBy r shadow map = record { reply = replyOf r; shadow = shadow; map = map }
+
 pub record Outcome : Type 0 where
   pub reply : Reply
   pub guard : Guard
