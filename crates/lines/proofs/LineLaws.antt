@@ -16,7 +16,7 @@ use Rattle.model.specs.declared.Answer.{Answer}
 use Rattle.model.specs.declared.Answer.the-variants.{Done, Refused}
 use Rattle.model.specs.Keeps.{inUser, running}
 use Rattle.model.specs.Calls.{replyOf}
-use Rattle.model.specs.Drill.{digits, decimal, line, hexDigit}
+use Rattle.model.specs.Drill.{digits, decimal, line, hexDigit, share, shareLine}
 
 -- A byte stored behind the first len ones.
 pub take-more : (bytes : List ℕ) (len b : ℕ) → len < length bytes → take (len + 1) (set bytes len b) ≡ take len bytes ++ (b ∷ [])
@@ -89,3 +89,9 @@ hexDigit-low n p = rw (lt-ltb n 10 p)
 pub hexDigit-high : (n : ℕ) → 10 ≤ n → 87 + n ≡ hexDigit n
 unfolding hexDigit
 hexDigit-high n p = rw (le-ltb n 10 p)
+
+-- The word share, a number and the line's end.
+pub share-line-is : {r m w : List ℕ} {s : ℕ} (frames : ℕ) (exclusion : List ℕ) → r ≡ m ++ (10 ∷ []) → m ≡ w ++ digits 20 s
+    → w ≡ 115 ∷ 104 ∷ 97 ∷ 114 ∷ 101 ∷ 32 ∷ [] → s ≡ share frames exclusion → r ≡ shareLine frames exclusion
+unfolding shareLine decimal
+share-line-is frames exclusion e f g h = rw (e, f, g, h)

@@ -1,3 +1,4 @@
+-- `lines::with_digits` meets its contract.
 -- The measure is the room that is left.
 use Prim.Native.Nat.{ℕ, _<_}
 use native.Mathlib.Omega.{arith}

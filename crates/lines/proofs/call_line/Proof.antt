@@ -1,11 +1,8 @@
-use Rattle.lines.proofs.LineLaws.{line-done, line-refused}
+-- `lines::call_line` meets its contract.
 use borrow.Author.Needs.{needs}
+use Rattle.lines.proofs.LineLaws.{line-done, line-refused}
 use Rattle.lines.proofs.call_line.Statement.{statement}
 use Rattle.lines.proofs.call_line.Tie as tie
-use Rattle.lines.proofs.call_line.Reads as reads
-use Rattle.lines.proofs.call_line.Lts as lts
-use Rattle.lines.proofs.numbers.Reads as numbers-reads
-use Rattle.lines.proofs.with_mode.Reads as with-mode-reads
 
 returns : tie.Need-returns
 returns c = search (needs, line-done)

@@ -1,10 +1,9 @@
+-- `lines::empty` meets its contract.
 use mathlib.Core.Path.{refl}
-use Rattle.lines.specs.Text.{text}
 use borrow.Author.Needs.{needs}
+use Rattle.lines.specs.Text.{text}
 use Rattle.lines.proofs.empty.Statement.{statement}
 use Rattle.lines.proofs.empty.Tie as tie
-use Rattle.lines.proofs.empty.Reads as reads
-use Rattle.lines.proofs.empty.Lts as lts
 
 returns : tie.Need-returns
 unfolding text

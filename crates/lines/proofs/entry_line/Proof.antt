@@ -1,11 +1,9 @@
-use Rattle.model.specs.Drill.{hexDigits}
+-- `lines::entry_line` meets its contract.
 use native.Mathlib.Nat.{div-one}
 use borrow.Author.Needs.{needs}
+use Rattle.model.specs.Drill.{hexDigits}
 use Rattle.lines.proofs.entry_line.Statement.{statement}
 use Rattle.lines.proofs.entry_line.Tie as tie
-use Rattle.lines.proofs.entry_line.Reads as reads
-use Rattle.lines.proofs.entry_line.Lts as lts
-use Rattle.lines.proofs.hex.Reads as hex-reads
 
 returns : tie.Need-returns
 unfolding hexDigits

@@ -1,11 +1,10 @@
+-- `lines::extent` meets its contract.
 use borrow.Author.Needs.{length-unmapped}
-use Rattle.lines.proofs.LineLaws.{take-room}
-use Rattle.lines.specs.Text.{text}
 use borrow.Author.Needs.{needs}
+use Rattle.lines.specs.Text.{text}
+use Rattle.lines.proofs.LineLaws.{take-room}
 use Rattle.lines.proofs.extent.Statement.{statement}
 use Rattle.lines.proofs.extent.Tie as tie
-use Rattle.lines.proofs.extent.Reads as reads
-use Rattle.lines.proofs.extent.Lts as lts
 
 returns : tie.Need-returns
 unfolding text

@@ -1,9 +1,8 @@
-use Rattle.lines.proofs.LineLaws.{hexDigit-low, hexDigit-high}
+-- `lines::hex` meets its contract.
 use borrow.Author.Needs.{needs}
+use Rattle.lines.proofs.LineLaws.{hexDigit-low, hexDigit-high}
 use Rattle.lines.proofs.hex.Statement.{statement}
 use Rattle.lines.proofs.hex.Tie as tie
-use Rattle.lines.proofs.hex.Reads as reads
-use Rattle.lines.proofs.hex.Lts as lts
 
 returns : tie.Need-returns
 returns c = search (needs, hexDigit-low)

@@ -1,12 +1,8 @@
-use Rattle.lines.proofs.LineLaws.{numbers-are}
+-- `lines::numbers` meets its contract.
 use borrow.Author.Needs.{needs}
+use Rattle.lines.proofs.LineLaws.{numbers-are}
 use Rattle.lines.proofs.numbers.Statement.{statement}
 use Rattle.lines.proofs.numbers.Tie as tie
-use Rattle.lines.proofs.numbers.Reads as reads
-use Rattle.lines.proofs.numbers.Lts as lts
-use Rattle.lines.proofs.empty.Reads as empty-reads
-use Rattle.lines.proofs.with_byte.Reads as with-byte-reads
-use Rattle.lines.proofs.with_number.Reads as with-number-reads
 
 returns : tie.Need-returns
 returns c = search (needs, numbers-are)

@@ -1,11 +1,10 @@
-use Rattle.lines.proofs.LineLaws.{take-more}
+-- `lines::with_byte` meets its contract.
 use mathlib.Core.Path.{refl}
-use Rattle.lines.specs.Text.{text}
 use borrow.Author.Needs.{needs}
+use Rattle.lines.specs.Text.{text}
+use Rattle.lines.proofs.LineLaws.{take-more}
 use Rattle.lines.proofs.with_byte.Statement.{statement}
 use Rattle.lines.proofs.with_byte.Tie as tie
-use Rattle.lines.proofs.with_byte.Reads as reads
-use Rattle.lines.proofs.with_byte.Lts as lts
 
 returns : tie.Need-returns
 unfolding text

@@ -1,10 +1,8 @@
-use Rattle.lines.proofs.LineLaws.{kernel-after, user-after}
+-- `lines::with_mode` meets its contract.
 use borrow.Author.Needs.{needs}
+use Rattle.lines.proofs.LineLaws.{kernel-after, user-after}
 use Rattle.lines.proofs.with_mode.Statement.{statement}
 use Rattle.lines.proofs.with_mode.Tie as tie
-use Rattle.lines.proofs.with_mode.Reads as reads
-use Rattle.lines.proofs.with_mode.Lts as lts
-use Rattle.lines.proofs.with_page.Reads as with-page-reads
 
 returns : tie.Need-returns
 returns c = search (needs, kernel-after)

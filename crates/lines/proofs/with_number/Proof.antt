@@ -1,11 +1,8 @@
-use Rattle.lines.proofs.LineLaws.{number-after}
+-- `lines::with_number` meets its contract.
 use borrow.Author.Needs.{needs}
+use Rattle.lines.proofs.LineLaws.{number-after}
 use Rattle.lines.proofs.with_number.Statement.{statement}
 use Rattle.lines.proofs.with_number.Tie as tie
-use Rattle.lines.proofs.with_number.Reads as reads
-use Rattle.lines.proofs.with_number.Lts as lts
-use Rattle.lines.proofs.with_byte.Reads as with-byte-reads
-use Rattle.lines.proofs.with_digits.Reads as with-digits-reads
 
 returns : tie.Need-returns
 returns c = search (needs, number-after)
