@@ -1,0 +1,2 @@
+-- Laws of the start's loops, and of its answers.
+pub mod LoopLaws
