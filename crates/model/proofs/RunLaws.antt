@@ -10,6 +10,12 @@ use lib.ListN.{length, getD, set, take, drop, take-append-drop, drop-of-length-l
 use lib.Seq.{drop-cons, take-suc-set, drop-set-lt}
 use Rattle.model.specs.Sync.{Place, place, Run, run, differs, before, runOver}
 
+-- A read inside a list does not show what a read past its end gives.
+pub getD-inside : (l : List ℕ) (i d d′ : ℕ) → i < length l → getD l i d ≡ getD l i d′
+getD-inside [] i d d′ h = absurd (not-suc-le-zero h)
+getD-inside (x ∷ l) zero d d′ h = refl
+getD-inside (x ∷ l) (suc i) d d′ h = getD-inside l i d d′ (le-of-suc-le-suc h)
+
 module _ (f : ℕ → ℕ → Place) where
   -- Both tables keep their lengths.
   pub run-shadow-length : (kernel shadow map : List ℕ) → length (runOver f kernel shadow map .shadow) ≡ length shadow

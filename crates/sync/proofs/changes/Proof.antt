@@ -2,8 +2,6 @@ use Rattle.sync.proofs.SyncLaws.{same-counts, other-counts}
 use borrow.Author.Needs.{needs}
 use Rattle.sync.proofs.changes.Statement.{statement}
 use Rattle.sync.proofs.changes.Tie as tie
-use Rattle.sync.proofs.changes.Reads as reads
-use Rattle.sync.proofs.changes.Lts as lts
 
 returns : tie.Need-returns
 returns c = search (needs, same-counts)

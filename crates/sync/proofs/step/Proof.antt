@@ -2,12 +2,6 @@ use Rattle.sync.proofs.SyncLaws.{step-absent, step-approved, step-above
 use borrow.Author.Needs.{needs}
 use Rattle.sync.proofs.step.Statement.{statement}
 use Rattle.sync.proofs.step.Tie as tie
-use Rattle.sync.proofs.step.Reads as reads
-use Rattle.sync.proofs.step.Lts as lts
-use Rattle.bitmap.proofs.excluded.Reads as excluded-reads
-use Rattle.entry.proofs.approved.Reads as approved-reads
-use Rattle.entry.proofs.ordinary.Reads as ordinary-reads
-use Rattle.entry.proofs.take_apart.Reads as take-apart-reads
 
 returns : tie.Need-returns
 returns c = search (needs, step-absent)

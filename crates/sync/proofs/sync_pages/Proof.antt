@@ -9,9 +9,6 @@ use Rattle.sync.proofs.SyncLaws.{run-more}
 use borrow.Author.Needs.{needs}
 use Rattle.sync.proofs.sync_pages.Statement.{statement}
 use Rattle.sync.proofs.sync_pages.Tie as tie
-use Rattle.sync.proofs.sync_pages.Reads as reads
-use Rattle.sync.proofs.sync_pages.Lts as lts
-use Rattle.sync.proofs.sync_at.Reads as sync-at-reads
 
 abbrev Inv-loop : tie.InvT-loop
 Inv-loop user frames exclusion kernel shadow₀ map₀ changed₀ joined₀ i₀ shadow map changed joined i =
