@@ -4,5 +4,7 @@ mod Computed
 pub mod TableLaws
 pub mod PolicyLaws
 pub mod VectorLaws
+pub mod CallLaws
 pub mod TouchLaws
 pub mod RunLaws
+pub mod SwitchLaws
