@@ -1,6 +1,6 @@
 -- A law for each answer of this crate's functions: an entry taken apart, bit 63 of a shadow entry, and a shadow entry after a switch.
 use Prim.Native.Nat.{ℕ, _+_, _%_, _^_}
-use mathlib.Core.Bool.{Bool, true, false, not, cond}
+use mathlib.Core.Bool.{Bool, true, false, not, _||_, cond}
 use mathlib.Core.Path.{_≡_, refl, sym, _∙_}
 use Rattle.model.specs.declared.Entry.{Entry}
 use Rattle.model.specs.declared.Entry.the-variants.{Absent, Present}
@@ -19,18 +19,12 @@ pub apart-absent : (entry : ℕ) {p : Bool} → p ≡ present entry → p ≡ fa
 unfolding takenApart
 apart-absent entry p t = rw (← p, t)
 
--- Bit 63 of an ordinary entry: in user mode by bits 9 and 2, in kernel mode set.
-pub bit9-set : {user bit9 : Bool} (bit2 : Bool) → user ≡ true → bit9 ≡ true → true ≡ ordinaryNoExecute user bit9 bit2
+-- Bit 63 of an ordinary entry: set in kernel mode, in user mode by bits 9 and 2.
+pub ordinary-bit : (user bit9 bit2 : Bool) → (not user || bit9) || not bit2 ≡ ordinaryNoExecute user bit9 bit2
 unfolding ordinaryNoExecute either
-bit9-set bit2 u n = rw (u, n)
-
-pub bit9-clear : {user bit9 : Bool} (bit2 : Bool) → user ≡ true → bit9 ≡ false → not bit2 ≡ ordinaryNoExecute user bit9 bit2
-unfolding ordinaryNoExecute either
-bit9-clear bit2 u n = rw (u, n)
-
-pub kernel-mode : {user : Bool} (bit9 bit2 : Bool) → user ≡ false → true ≡ ordinaryNoExecute user bit9 bit2
-unfolding ordinaryNoExecute
-kernel-mode bit9 bit2 u = rw u
+ordinary-bit false bit9 bit2 = refl
+ordinary-bit true true bit2 = refl
+ordinary-bit true false bit2 = refl
 
 -- Bit 63 after a switch.
 pub in-approved : (user : Bool) (entry : ℕ) {a : Bool} → a ≡ approvedMark entry → a ≡ true → user ≡ noExecuteIn user entry

@@ -97,11 +97,7 @@ pub fn approved(user: bool, frame: u16) -> u64
 fn ordinary_no_execute(user: bool, bit9: bool, bit2: bool) -> bool
     ensures { λ r. ⌜ r ≡ ordinaryNoExecute user bit9 bit2 ⌝ }
 {
-    if user {
-        if bit9 { true } else { !bit2 }
-    } else {
-        true
-    }
+    !user | bit9 | !bit2
 }
 
 // The frame has 40 bits, as `frame_of` gives it: a larger one would not fit the entry.

@@ -6,6 +6,7 @@ use mathlib.Core.Path.{_≡_, refl, sym, ap, _∙_}
 use native.Mathlib.Omega.{arith}
 use lib.Dec.{ltb, eqb}
 use lib.ListN.{length, getD, set, length-set}
+use lib.Seq.{set-getD}
 use borrow.Author.Tests.{eq-eqb, ne-eqb, eqb-true, le-leb, lt-leb, ltb-true, not-true, not-false}
 use Rattle.model.specs.declared.Entry.{Entry}
 use Rattle.model.specs.declared.Entry.the-variants.{Absent, Present}
@@ -46,7 +47,10 @@ module _ (r : Rules) (k a : ℕ) (e : Entry) (apart : e ≡ takenApart k) where
   unfolding step stepOf
   step-ordinary x n b p q l s t u = rw (← apart, p, eq-eqb a none q, lt-leb (r .frames) (x .frame) l, ← s, t, u)
 
--- The counts of one page.
+-- A value stored, and counted where it changed.
+pub kept : (l : List ℕ) (i v : ℕ) → getD l i 0 ≡ v → l ≡ set l i v
+kept l i v p = rw (← p) (sym (set-getD l i 0))
+
 pub same-counts : (a b : ℕ) → a ≡ b → 0 ≡ differs a b
 unfolding differs
 same-counts a b p = rw (eq-eqb a b p)
@@ -55,11 +59,12 @@ pub other-counts : (a b : ℕ) → (a ≡ b → ⊥) → 1 ≡ differs a b
 unfolding differs
 other-counts a b p = rw (ne-eqb a b p)
 
--- A page stored.
-pub stored-step : (f : ℕ → ℕ → Place) (k i e a x y : ℕ) (shadow map : List ℕ) → place e a ≡ f k (getD map i 0)
-    → x ≡ differs (getD shadow i 0) e → y ≡ differs (getD map i 0) a → run (set shadow i e) (set map i a) x y ≡ stepAt f k shadow map i
+-- A page's place stored in both tables.
+pub stored-step : (f : ℕ → ℕ → Place) (k i e a x y : ℕ) (shadow map shadow′ map′ : List ℕ) → place e a ≡ f k (getD map i 0)
+    → shadow′ ≡ set shadow i e → map′ ≡ set map i a → x ≡ differs (getD shadow i 0) e → y ≡ differs (getD map i 0) a
+    → run shadow′ map′ x y ≡ stepAt f k shadow map i
 unfolding stepAt
-stored-step f k i e a x y shadow map p px py = rw (← p, px, py)
+stored-step f k i e a x y shadow map shadow′ map′ p ps pm px py = rw (← p, ps, pm, px, py)
 
 -- A run page by page: at its start, after page i, and at its end.
 module _ (f : ℕ → ℕ → Place) (kernel : List ℕ) where

@@ -6,9 +6,9 @@ use model::Entry;
 use model::State;
 ghost use mathlib.Core.Path.{_≡_};
 ghost use Prim.Native.Nat.{_<_, _≤_};
-ghost use lib.ListN.{length};
+ghost use lib.ListN.{length, getD, set};
 ghost use Rattle.model.specs.Sync;
-ghost use Rattle.model.specs.Sync.{place, run, runOver};
+ghost use Rattle.model.specs.Sync.{place, differs, run, runOver};
 ghost use Rattle.model.specs.Calls.{syncedBy, syncPageOf, syncAllOf};
 ghost use Rattle.sync.specs.Steps.{rules, stepAt};
 
@@ -50,18 +50,28 @@ pub fn step(user: bool, frames: u16, exclusion: &[u8], entry: u64, approval: u16
     }
 }
 
-// 1 where a shadow entry's value changed.
-pub fn changes(before: u64, after: u64) -> u64
-    ensures { λ r. ⌜ (r ≡ Sync.differs before after) × (r ≤ 1) ⌝ }
+// Stores a page's shadow entry where its value changed, and counts that. An entry that stays is not written.
+fn put_entry(shadow: &mut [u64], i: usize, entry: u64) -> u64
+    requires { ⌜ i < length (now shadow) ⌝ }
+    ensures { λ r. ⌜ (now (shadow .exit) ≡ set (now (shadow .entry)) i entry) × (r ≡ differs (getD (now (shadow .entry)) i 0) entry) × (r ≤ 1) ⌝ }
 {
-    if before == after { 0 } else { 1 }
+    if shadow[i] == entry {
+        return 0;
+    }
+    shadow[i] = entry;
+    1
 }
 
-// 1 where a page joined the map.
-pub fn joins(before: u16, after: u16) -> u64
-    ensures { λ r. ⌜ (r ≡ Sync.differs before after) × (r ≤ 1) ⌝ }
+// The same of a page's number in the map: a number that changed is that of a page that joined.
+fn put_approval(map: &mut [u16], i: usize, approval: u16) -> u64
+    requires { ⌜ i < length (now map) ⌝ }
+    ensures { λ r. ⌜ (now (map .exit) ≡ set (now (map .entry)) i approval) × (r ≡ differs (getD (now (map .entry)) i 0) approval) × (r ≤ 1) ⌝ }
 {
-    if before == after { 0 } else { 1 }
+    if map[i] == approval {
+        return 0;
+    }
+    map[i] = approval;
+    1
 }
 
 // The shadow entries whose value changed, and the pages that joined the map.
@@ -84,10 +94,8 @@ pub fn sync_at(
     ensures { λ r. ⌜ (run (now (shadow .exit)) (now (map .exit)) (r .changed) (r .joined) ≡ stepAt (Sync.step (rules user frames (now (exclusion .entry)))) entry (now (shadow .entry)) (now (map .entry)) i) × (r .changed ≤ 1) × (r .joined ≤ 1) ⌝ }
 {
     let place = step(user, frames, exclusion, entry, map[i]);
-    let changed = changes(shadow[i], place.entry);
-    let joined = joins(map[i], place.approval);
-    shadow[i] = place.entry;
-    map[i] = place.approval;
+    let joined = put_approval(map, i, place.approval);
+    let changed = put_entry(shadow, i, place.entry);
     Counts { changed, joined }
 }
 

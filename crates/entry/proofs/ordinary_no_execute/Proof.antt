@@ -1,19 +1,10 @@
--- A law for each answer.
-use Rattle.entry.proofs.EntryLaws.{bit9-set, bit9-clear, kernel-mode}
-use borrow.Author.Needs.{needs}
+-- The three bits, as the definition goes by cases on them.
+use Rattle.entry.proofs.EntryLaws.{ordinary-bit}
 use Rattle.entry.proofs.ordinary_no_execute.Statement.{statement}
 use Rattle.entry.proofs.ordinary_no_execute.Tie as tie
 
 returns : tie.Need-returns
-returns c = search (needs, bit9-set)
-
-returns-2 : tie.Need-returns-2
-returns-2 c = search (needs, bit9-clear)
-
-returns-3 : tie.Need-returns-3
-returns-3 c = search (needs, kernel-mode)
+returns c = ordinary-bit _ _ _
 
 pub ordinary-no-execute-spec : {M : Type 1} → statement M
-ordinary-no-execute-spec =
-    tie.close
-    (tie.spec returns returns-2 returns-3)
+ordinary-no-execute-spec = tie.close (tie.spec returns)
