@@ -26,7 +26,7 @@ pub fn extent(l: Line) -> usize
     if len < 96 { len } else { 96 }
 }
 
-fn empty() -> Line
+pub fn empty() -> Line
     ensures { λ r. ⌜ (text r ≡ []) × (r .len ≡ 0) ⌝ }
 {
     Line {

@@ -1,0 +1,18 @@
+use Rattle.drill.proofs.PartLaws.{part-length}
+use borrow.Author.Needs.{needs}
+use Rattle.drill.proofs.read_policy.Statement.{statement}
+use Rattle.drill.proofs.read_policy.Tie as tie
+use Rattle.drill.proofs.read_policy.Reads as reads
+use Rattle.drill.proofs.read_policy.Lts as lts
+use Rattle.io.proofs.read_full.Reads as read-full-reads
+use Rattle.turns.proofs.policy_extent.Reads as policy-extent-reads
+
+slice-aggregate-read-full : tie.Need-slice-aggregate-read-full
+slice-aggregate-read-full c = search (needs, part-length)
+
+pub read-policy-spec : {M : Type 1} → statement M
+read-policy-spec =
+    tie.close
+    (tie.spec (λ c. search needs) slice-aggregate-read-full (λ c κs. search needs) (λ c. search needs)
+    (λ c. search needs) (λ c κs. search needs) (λ c. search needs) (λ c. search needs) (λ c. search needs)
+    (λ c κs. search needs) (λ c. search needs) (λ c. search needs) (λ c. search needs))

@@ -1,0 +1,20 @@
+use Rattle.turns.proofs.TurnLaws.{bytes-lent, bytes-bounded, bytes-none}
+use borrow.Author.Needs.{needs}
+use Rattle.turns.proofs.bytes_lent.Statement.{statement}
+use Rattle.turns.proofs.bytes_lent.Tie as tie
+use Rattle.turns.proofs.bytes_lent.Reads as reads
+use Rattle.turns.proofs.bytes_lent.Lts as lts
+use Rattle.policy.proofs.number_from.Reads as number-from-reads
+use Rattle.questions.proofs.frames_in_range.Reads as frames-in-range-reads
+use Rattle.questions.proofs.vector_bytes.Reads as vector-bytes-reads
+
+returns : tie.Need-returns
+returns c = search (needs, bytes-lent, bytes-bounded)
+
+returns-2 : tie.Need-returns-2
+returns-2 c = search (needs, bytes-none)
+
+pub bytes-lent-spec : {M : Type 1} → statement M
+bytes-lent-spec =
+    tie.close
+    (tie.spec (λ c κs. search needs) (λ c κs. search needs) (λ c κs. search needs) returns returns-2)
