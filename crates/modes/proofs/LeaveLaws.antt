@@ -1,0 +1,63 @@
+-- Laws of leave: what it answers by the first no of its questions, and where the page that it goes to lies.
+use Prim.Native.Nat.{ℕ, _<_, _≤_, _%_}
+use mathlib.Core.Bool.{Bool, true, false, not}
+use mathlib.Core.List.{List, [], _∷_}
+use mathlib.Core.Path.{_≡_, refl, sym, ap, _∙_}
+use lib.ListN.{length, getD}
+use lib.Dec.{ltb, eqb}
+use borrow.Author.Tests.{not-false, ltb-true}
+use native.Mathlib.Omega.{arith}
+use Rattle.model.specs.declared.State.{State}
+use Rattle.model.specs.declared.Mode.the-variants.{User}
+use Rattle.model.specs.declared.Answer.the-variants.{Done, Refused}
+use Rattle.model.specs.Edges.{both, either}
+use Rattle.model.specs.Keeps.{inUser, inMode}
+use Rattle.model.specs.Sync.{switchedAll, changes}
+use Rattle.model.specs.Questions.{firstNo, seen, stateInOrder, inOrder, leaveAsks}
+use Rattle.model.specs.Calls.{replyOf, switchedBy, switchTo, leaveOf}
+use Rattle.model.proofs.AskLaws.{both-first, both-second, asked, numbered, all-yes, settle-accepted}
+use Rattle.model.proofs.CallLaws.{passed, stopped, settle-refused-by, pages-few, shadow-long}
+use Rattle.modes.specs.Switches.{switchPermitted, switchAsks}
+
+module _ (s : State) (shadow : List ℕ) (page : ℕ) (r7 : Bool) (e7 : r7 ≡ inOrder (stateInOrder s) (eqb (length shadow) (s .pages) ∷ [])) where
+  pub leave-unfit : not r7 ≡ true → switchedBy (record { answer = Refused 7; state = s }) shadow ≡ leaveOf s shadow page
+  unfolding switchedBy replyOf leaveOf leaveAsks
+  leave-unfit n = sym (settle-refused-by 7 _ _ (λ z. omega arith) (sym (stopped 7 r7 _ _ e7 n)))
+
+  module _ (y7 : not r7 ≡ false) (exists : Bool) (e9 : exists ≡ ltb page (s .pages)) where
+    pub page-in : exists ≡ true → page < length shadow
+    page-in y9 =
+        let l : length shadow ≡ s .pages = shadow-long s (length shadow) r7 e7 y7 in
+        let b : page < s .pages = ltb-true page (s .pages) (sym e9 ∙ y9) in
+        omega arith
+
+    few : s .pages ≤ 2048
+    unfolding inOrder
+    few = pages-few s (both-second _ _ (sym e7 ∙ not-false r7 y7))
+
+    module _ (user : Bool) (u : user ≡ inUser (s .mode)) (number : ℕ)
+        (e : number ≡ firstNo (switchAsks exists (not user) false (getD shadow page 0))) where
+      leave-number : number ≡ firstNo (leaveAsks (seen s shadow [] []) page)
+      unfolding leaveAsks switchAsks switchPermitted
+      leave-number = passed 7 number r7 _ _ e7 y7 (rw (e9, u) at e)
+
+      pub leave-refused : (number ≡ 0 → ⊥) → switchedBy (record { answer = Refused number; state = s }) shadow ≡ leaveOf s shadow page
+      unfolding switchedBy replyOf leaveOf
+      leave-refused z = sym (settle-refused-by number _ _ z (sym leave-number))
+
+      -- The page of an accepted leave is below V, and so fits its 16 bits.
+      left-below : number ≡ 0 → page < s .pages
+      unfolding switchAsks asked numbered both either
+      left-below z =
+          ltb-true page (s .pages)
+          (sym e9 ∙ both-first _ _ (all-yes 9 (switchAsks exists (not user) false (getD shadow page 0)) refl (sym e ∙ z)))
+
+      pub leave-accepted : number ≡ 0 → (after : List ℕ) (changed : ℕ) (t : State) → after ≡ switchedAll true shadow
+          → changed ≡ changes shadow (switchedAll true shadow) → t ≡ inMode s (User (page % 65536))
+          → switchedBy (record { answer = Done changed 0; state = t }) after ≡ leaveOf s shadow page
+      unfolding switchedBy replyOf leaveOf switchTo inUser
+      leave-accepted z after changed t a c m =
+          let b : page < s .pages = left-below z in
+          let f : s .pages ≤ 2048 = few in
+          let low : page % 65536 ≡ page = omega arith in
+          rw (m, c, a, low) (sym (settle-accepted _ _ (sym leave-number ∙ z)))

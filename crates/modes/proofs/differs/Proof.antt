@@ -1,0 +1,16 @@
+-- `modes::differs` meets its contract.
+use Rattle.modes.proofs.TableLaws.{same-counts, other-counts}
+use borrow.Author.Needs.{needs}
+use Rattle.modes.proofs.differs.Statement.{statement}
+use Rattle.modes.proofs.differs.Tie as tie
+
+returns : tie.Need-returns
+returns c = search (needs, same-counts)
+
+returns-2 : tie.Need-returns-2
+returns-2 c = search (needs, other-counts)
+
+pub differs-spec : {M : Type 1} → statement M
+differs-spec =
+    tie.close
+    (tie.spec returns returns-2)

@@ -1,0 +1,135 @@
+// Document 01, "Calls and their two numbers": enter and leave, and the mode switch of the whole shadow table.
+// Each call goes down its questions in order, and switches the mode where none refuses it.
+
+ghost use mathlib.Core.Path.{_≡_};
+ghost use mathlib.Core.Bool.{true};
+ghost use Prim.Native.Nat.{_≤_, _<_};
+ghost use lib.ListN.{length, getD};
+ghost use Rattle.model.specs.Sync;
+ghost use Rattle.model.specs.Sync.{switchedAll};
+ghost use Rattle.model.specs.Questions.{firstNo, leavePermitted};
+ghost use Rattle.model.specs.Calls.{switchedBy, enterOf, leaveOf};
+ghost use Rattle.modes.specs.Switches.{switchPermitted, switchAsks};
+use model::Answer;
+use model::Called;
+use model::Mode;
+use model::State;
+use questions::both;
+
+// 1 where an entry's value changed.
+fn differs(before: u64, after: u64) -> u64
+    ensures { λ r. ⌜ (r ≡ Sync.differs before after) × (r ≤ 1) ⌝ }
+{
+    if before == after { 0 } else { 1 }
+}
+
+// Bit 63 of every present entry by the rules of the mode; the count of entries whose value changed.
+pub fn switch_table(user: bool, shadow: &mut [u64]) -> u64
+    ensures { λ r. ⌜ (now (shadow .exit) ≡ switchedAll user (now (shadow .entry))) × (r ≡ Sync.changes (now (shadow .entry)) (switchedAll user (now (shadow .entry)))) ⌝ }
+{
+    let mut changed = 0;
+    let mut i = 0;
+    while i < shadow.len() {
+        let entry = shadow[i];
+        let after = entry::switched(user, entry);
+        changed += differs(entry, after);
+        shadow[i] = after;
+        i += 1;
+    }
+    changed
+}
+
+// Question 12 of leaving to a page.
+fn leave_permitted(entry: u64) -> bool
+    ensures { λ r. ⌜ r ≡ leavePermitted entry ⌝ }
+{
+    both(entry::user_bit(entry), !entry::kernel_no_execute(entry))
+}
+
+// Question 12 of entering a page, or of leaving to it.
+fn permitted(enters: bool, entry: u64) -> bool
+    ensures { λ r. ⌜ r ≡ switchPermitted enters entry ⌝ }
+{
+    if enters {
+        entry::approved_mark(entry)
+    } else {
+        leave_permitted(entry)
+    }
+}
+
+// The number of the question from 9 on that refuses to enter a page, or to leave to it, or 0.
+// It asks for what question 7 has settled of a page that exists.
+fn refusal(exists: bool, suits: bool, enters: bool, shadow: &[u64], page: u64) -> u64
+    requires { ⌜ (exists ≡ true → page < length (now shadow)) ⌝ }
+    ensures { λ r. ⌜ r ≡ firstNo (switchAsks exists suits enters (getD (now (shadow .entry)) page 0)) ⌝ }
+{
+    if !exists {
+        return 9;
+    }
+    if !suits {
+        return 10;
+    }
+    let entry = shadow[page as usize];
+    if !entry::present(entry) {
+        return 11;
+    }
+    if !permitted(enters, entry) {
+        return 12;
+    }
+    0
+}
+
+pub fn enter(s: State, shadow: &mut [u64], index: u64) -> Called
+    ensures { λ r. ⌜ switchedBy r (now (shadow .exit)) ≡ enterOf s (now (shadow .entry)) index ⌝ }
+{
+    if !questions::shadow_in_order(s, shadow.len()) {
+        return Called {
+            answer: Answer::Refused(7),
+            state: s,
+        };
+    }
+    let mode = s.mode;
+    let user = questions::in_user(mode);
+    let exists = questions::entry_exists(s, index);
+    let page = questions::entry_page(s, index);
+    let number = refusal(exists, user, true, shadow, page as u64);
+    if number != 0 {
+        return Called {
+            answer: Answer::Refused(number),
+            state: s,
+        };
+    }
+    let changed = switch_table(false, shadow);
+    let state = questions::in_mode(s, Mode::Kernel(page));
+    Called {
+        answer: Answer::Done(changed, 0),
+        state,
+    }
+}
+
+pub fn leave(s: State, shadow: &mut [u64], page: u64) -> Called
+    ensures { λ r. ⌜ switchedBy r (now (shadow .exit)) ≡ leaveOf s (now (shadow .entry)) page ⌝ }
+{
+    if !questions::shadow_in_order(s, shadow.len()) {
+        return Called {
+            answer: Answer::Refused(7),
+            state: s,
+        };
+    }
+    let mode = s.mode;
+    let user = questions::in_user(mode);
+    let exists = questions::page_exists(page, s.pages);
+    let number = refusal(exists, !user, false, shadow, page);
+    if number != 0 {
+        return Called {
+            answer: Answer::Refused(number),
+            state: s,
+        };
+    }
+    let changed = switch_table(true, shadow);
+    let state = questions::in_mode(s, Mode::User((page % 65536) as u16));
+    Called {
+        answer: Answer::Done(changed, 0),
+        state,
+    }
+}
