@@ -91,6 +91,12 @@ pub allBelow-tail : (limit f : ℕ) (fs : List ℕ) → allBelow limit (f ∷ fs
 unfolding allBelow
 allBelow-tail limit f fs h = both-second (ltb f limit) (allBelow limit fs) h
 
+pub allBelow-wider : (limit wider : ℕ) (fs : List ℕ) → limit ≤ wider → allBelow limit fs ≡ true → allBelow wider fs ≡ true
+allBelow-wider limit wider [] l h = allBelow-none wider refl
+allBelow-wider limit wider (f ∷ fs) l h =
+    let below : f < limit = allBelow-head limit f fs h in
+    allBelow-more wider f fs (omega arith) ∙ allBelow-wider limit wider fs l (allBelow-tail limit f fs h)
+
 pub allBelow-getD : (limit : ℕ) (fs : List ℕ) (i : ℕ) → allBelow limit fs ≡ true → i < length fs → getD fs i 0 < limit
 allBelow-getD limit [] i h l = absurd (omega arith)
 allBelow-getD limit (f ∷ fs) zero h l = allBelow-head limit f fs h

@@ -1,5 +1,5 @@
 -- The questions that a policy record is asked before any table is looked at.
--- They are the start's own, and K2's record will be asked some of them again.
+-- They are the start's own, so a change of a question there is a change here.
 use mathlib.Core.List.{List}
 use Prim.Native.Nat.{ℕ}
 use lib.ListN.{take}

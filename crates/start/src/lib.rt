@@ -5,8 +5,9 @@ ghost use mathlib.Core.Path.{_≡_};
 ghost use mathlib.Core.Bool.{true};
 ghost use Prim.Native.Nat.{_+_, _*_, _≤_};
 ghost use lib.ListN.{length, take, replicate};
-ghost use Rattle.model.specs.Policy.{numbersAt, policyOf};
-ghost use Rattle.model.specs.Questions.{allBelow};
+ghost use Rattle.model.specs.Keeps.{vectorBytes};
+ghost use Rattle.model.specs.Policy.{numbersAt, policyOf, startGuard};
+ghost use Rattle.model.specs.Questions.{firstNo, allBelow, startAsks};
 ghost use Rattle.model.specs.Calls.{startOf};
 ghost use Rattle.start.specs.Start.{startedBy, refusedWith, acceptedOn, placed, approvedEach, withEach, entryTable};
 use model::Answer;
@@ -84,6 +85,27 @@ fn copy_front(from: &[u8], to: &mut [u8])
     }
 }
 
+// Shadow table and map. Questions 5 to 7 have shown what is required.
+fn set_pages(bytes: &[u8], shadow: &mut [u64], map: &mut [u16])
+    requires { ⌜ (length (now shadow) ≡ policyOf (now bytes) .pages) × (length (now map) ≡ policyOf (now bytes) .pages) × (allBelow (policyOf (now bytes) .pages) (policyOf (now bytes) .listed) ≡ true) × (allBelow 4096 (policyOf (now bytes) .backing) ≡ true) ⌝ }
+    ensures { λ _. ⌜ (now (shadow .exit) ≡ startGuard (policyOf (now (bytes .entry))) .shadow) × (now (map .exit) ≡ startGuard (policyOf (now (bytes .entry))) .map) ⌝ }
+{
+    clear_shadow(shadow);
+    clear_map(map);
+    set_places(bytes, policy::number_from(bytes, 4), shadow, map);
+}
+
+// The exclusion vector. The bits are gathered in a buffer with room for 4,096 frames, and copied.
+// Questions 2, 6 and 7 have shown what is required.
+fn set_vector(bytes: &[u8], exclusion: &mut [u8])
+    requires { ⌜ (length (now exclusion) ≡ vectorBytes (policyOf (now bytes) .frames)) × (policyOf (now bytes) .frames ≤ 4096) × (allBelow 4096 (policyOf (now bytes) .backing) ≡ true) ⌝ }
+    ensures { λ _. ⌜ now (exclusion .exit) ≡ startGuard (policyOf (now (bytes .entry))) .exclusion ⌝ }
+{
+    let mut buffer = [0u8; 512];
+    gather(bytes, policy::number_from(bytes, 4), &mut buffer);
+    copy_front(&buffer, exclusion);
+}
+
 // Question 3 has bounded the entries by sixteen, the array's length.
 fn entry_pages(bytes: &[u8], entries: u16) -> [u16; 16]
     requires { ⌜ entries ≤ 16 ⌝ }
@@ -134,25 +156,30 @@ fn accepted(bytes: &[u8]) -> Called
     }
 }
 
-// The exclusion bits are gathered in a buffer with room for 4,096 frames, and copied.
-pub fn start(bytes: &[u8], shadow: &mut [u64], map: &mut [u16], exclusion: &mut [u8]) -> Called
-    ensures { λ r. ⌜ startedBy r (now (shadow .exit)) (now (map .exit)) (now (exclusion .exit)) ≡ startOf (now (bytes .entry)) (now (shadow .entry)) (now (map .entry)) (now (exclusion .entry)) ⌝ }
+// The first no of the start's questions, or 0. Its arguments are the lengths of the tables.
+fn start_question(bytes: &[u8], shadow: usize, map: usize, exclusion: usize) -> u64
+    ensures { λ r. ⌜ r ≡ firstNo (startAsks (now (bytes .entry)) (policyOf (now (bytes .entry))) shadow map exclusion) ⌝ }
 {
     let question = policy::record_question(bytes);
     if question != 0 {
-        return refused(question);
+        return question;
     }
     let pages = policy::number_from(bytes, 0);
     let frames = policy::number_from(bytes, 2);
-    if !questions::start_in_order(pages, frames, shadow.len(), map.len(), exclusion.len()) {
-        return refused(7);
+    if !questions::start_in_order(pages, frames, shadow, map, exclusion) {
+        return 7;
     }
-    let count = policy::number_from(bytes, 4);
-    clear_shadow(shadow);
-    clear_map(map);
-    set_places(bytes, count, shadow, map);
-    let mut buffer = [0u8; 512];
-    gather(bytes, count, &mut buffer);
-    copy_front(&buffer, exclusion);
+    0
+}
+
+pub fn start(bytes: &[u8], shadow: &mut [u64], map: &mut [u16], exclusion: &mut [u8]) -> Called
+    ensures { λ r. ⌜ startedBy r (now (shadow .exit)) (now (map .exit)) (now (exclusion .exit)) ≡ startOf (now (bytes .entry)) (now (shadow .entry)) (now (map .entry)) (now (exclusion .entry)) ⌝ }
+{
+    let question = start_question(bytes, shadow.len(), map.len(), exclusion.len());
+    if question != 0 {
+        return refused(question);
+    }
+    set_pages(bytes, shadow, map);
+    set_vector(bytes, exclusion);
     accepted(bytes)
 }
