@@ -18,12 +18,13 @@ use Rattle.model.specs.Edges.{within, pagesInRange, framesInRange}
 use Rattle.model.specs.Keeps.{Guard, vectorBytes}
 use Rattle.model.specs.Policy.{policyOf, numberAt}
 use Rattle.model.specs.Questions.{firstNo}
-use Rattle.model.specs.Calls.{Reply, refused, replyOf, settle}
+use Rattle.model.specs.Calls.{Reply, Outcome, refused, replyOf, settle}
 use Rattle.model.specs.Lists.{answer}
-use Rattle.model.specs.Drill.{Drill, policyExtent, indexOf, lengthOf, valueOf, edited, callOf, withGuard, performed, line, turnOf, turn}
+use Rattle.model.specs.Drill.{Drill, policyExtent, indexOf, lengthOf, valueOf, edited, callOf, withGuard, performed, line, startLine, turnOf, turn}
 use Rattle.model.proofs.AskLaws.{within-high}
+use Rattle.start.specs.Start.{startedBy}
 use Rattle.turns.specs.declared.Turned.{Turned}
-use Rattle.turns.specs.Turns.{guardOf, drillOf, answeredBy, editedBy, performedBy, turnedBy, pagesLent, bytesLent}
+use Rattle.turns.specs.Turns.{guardOf, drillOf, answeredBy, editedBy, performedBy, turnedBy, openingOf, openedBy, pagesLent, bytesLent}
 
 -- The policy's extent, with n in its range and outside.
 pub extent-more : {count : ℕ} {t : Bool} (input : List ℕ) → count ≡ numberAt input 4 → t ≡ within 1 2048 count → t ≡ true → 8 + 4 * count ≡ policyExtent input
@@ -67,6 +68,13 @@ bytes-none bytes e f p = rw (← e, ← f, p)
 pub refused-by : {r : Answer} (n : ℕ) → r ≡ Refused n → eqb n 0 ≡ eqb (replyOf r .number) 0
 unfolding replyOf
 refused-by n p = rw p
+
+-- The start, its line and whether calls follow.
+pub opening-is : (r : Called) (l : Line) (b : Bool) (o : Outcome) (shadow map exclusion : List ℕ) → startedBy r shadow map exclusion ≡ o
+    → text l ≡ line 83 (replyOf (r .answer)) (r .state .mode) → b ≡ eqb (replyOf (r .answer) .number) 0
+    → openedBy (record { state = r .state; line = l; goes = b }) shadow map exclusion ≡ openingOf o
+unfolding openedBy openingOf startedBy startLine
+opening-is r l b o shadow map exclusion e f g = rw (← e, f, g)
 
 -- A call's fields by their 16-bit numbers.
 pub length-is : {low high r : ℕ} (call : List ℕ) → low ≡ numberAt call 4 → high ≡ numberAt call 6 → r ≡ low + 2 ^ 16 * high → r ≡ lengthOf call

@@ -6,7 +6,7 @@ ghost use Prim.Native.Nat.{_+_, _*_, _^_, _≤_, _<_};
 ghost use mathlib.Core.Bool.{false};
 ghost use lib.Dec.{eqb};
 ghost use Rattle.model.specs.Keeps.{Guard};
-ghost use Rattle.model.specs.Calls.{refused, replyOf, startOf};
+ghost use Rattle.model.specs.Calls.{refused, replyOf, deviceWriteOf, startOf};
 ghost use Rattle.model.specs.Lists.{answer};
 ghost use Rattle.model.specs.Drill;
 ghost use Rattle.model.specs.Drill.{policyExtent, indexOf, lengthOf, valueOf, edited, callOf, performed, line};
@@ -126,6 +126,13 @@ pub fn edit(pages: u16, kernel: &mut [u64], page: u64, value: u64) -> Answer
     Answer::Done(0, 0)
 }
 
+// Kind 7. What a device write is lent beside the exclusion vector is made here.
+fn transfer(s: State, exclusion: &[u8], address: u64, length: u64) -> Answer
+    ensures { λ r. ⌜ replyOf r ≡ deviceWriteOf s (now (exclusion .entry)) address length ⌝ }
+{
+    access::device_write(s, exclusion, address, length)
+}
+
 // Kinds 1 to 7, the guard's calls. The definition takes any kind above 6 for a device write.
 pub fn call(
     s: State,
@@ -161,7 +168,7 @@ pub fn call(
     if kind == 6 {
         return modes::leave(s, shadow, index);
     }
-    let answer = access::device_write(s, exclusion, value, length);
+    let answer = transfer(s, exclusion, value, length);
     Called { answer, state: s }
 }
 
@@ -249,10 +256,10 @@ pub fn turn(
     );
     let answer = done.answer;
     let state = done.state;
-    let mode = state.mode;
+    let runs = state.mode;
     Turned {
         state,
-        line: lines::call_line(48 + kind, answer, mode),
+        line: lines::call_line(48 + kind, answer, runs),
         goes: true,
     }
 }

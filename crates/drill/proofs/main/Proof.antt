@@ -1,14 +1,9 @@
+-- `drill::main` meets its contract.
 use lib.ListN.{length-replicate}
-use Rattle.drill.proofs.PartLaws.{part-length}
 use borrow.Author.Needs.{needs}
+use Rattle.drill.proofs.PartLaws.{part-length}
 use Rattle.drill.proofs.main.Statement.{statement}
 use Rattle.drill.proofs.main.Tie as tie
-use Rattle.drill.proofs.main.Reads as reads
-use Rattle.drill.proofs.main.Lts as lts
-use Rattle.drill.proofs.read_policy.Reads as read-policy-reads
-use Rattle.drill.proofs.run.Reads as run-reads
-use Rattle.turns.proofs.bytes_lent.Reads as bytes-lent-reads
-use Rattle.turns.proofs.pages_lent.Reads as pages-lent-reads
 
 slice-aggregate-pages-lent : tie.Need-slice-aggregate-pages-lent
 slice-aggregate-pages-lent c = search (needs, part-length, length-replicate)

@@ -1,11 +1,8 @@
-use Rattle.drill.proofs.PartLaws.{part-length}
+-- `drill::read_policy` meets its contract.
 use borrow.Author.Needs.{needs}
+use Rattle.drill.proofs.PartLaws.{part-length}
 use Rattle.drill.proofs.read_policy.Statement.{statement}
 use Rattle.drill.proofs.read_policy.Tie as tie
-use Rattle.drill.proofs.read_policy.Reads as reads
-use Rattle.drill.proofs.read_policy.Lts as lts
-use Rattle.io.proofs.read_full.Reads as read-full-reads
-use Rattle.turns.proofs.policy_extent.Reads as policy-extent-reads
 
 slice-aggregate-read-full : tie.Need-slice-aggregate-read-full
 slice-aggregate-read-full c = search (needs, part-length)

@@ -1,12 +1,10 @@
+-- `drill::take_turns` meets its contract.
 use mathlib.Core.Path.{_≡_}
 use lib.ListN.{length}
 use native.Mathlib.Omega.{arith}
 use borrow.Author.Needs.{needs}
 use Rattle.drill.proofs.take_turns.Statement.{statement}
 use Rattle.drill.proofs.take_turns.Tie as tie
-use Rattle.drill.proofs.take_turns.Reads as reads
-use Rattle.drill.proofs.take_turns.Lts as lts
-use Rattle.drill.proofs.take_turn.Reads as take-turn-reads
 
 abbrev Inv-loop : tie.InvT-loop
 Inv-loop kernel₀ shadow₀ map₀ exclusion s₀ left₀ kernel shadow map s left =

@@ -1,17 +1,12 @@
-use mathlib.Core.Path.{sym, ap}
-use Rattle.model.specs.Drill.{hexDigits}
+-- `drill::write_closing` meets its contract.
 use Prim.Native.Nat.{_-_, _≤_}
+use mathlib.Core.Path.{sym, ap}
 use lib.ListN.{length}
 use native.Mathlib.Omega.{arith}
 use borrow.Author.Needs.{needs}
+use Rattle.model.specs.Drill.{hexDigits}
 use Rattle.drill.proofs.write_closing.Statement.{statement}
 use Rattle.drill.proofs.write_closing.Tie as tie
-use Rattle.drill.proofs.write_closing.Reads as reads
-use Rattle.drill.proofs.write_closing.Lts as lts
-use Rattle.drill.proofs.write_line.Reads as write-line-reads
-use Rattle.io.proofs.write_all.Reads as write-all-reads
-use Rattle.lines.proofs.entry_line.Reads as entry-line-reads
-use Rattle.lines.proofs.share_line.Reads as share-line-reads
 
 abbrev Inv-loop : tie.InvT-loop
 Inv-loop frames shadow exclusion i₀ i = i ≤ length shadow

@@ -1,12 +1,9 @@
+-- `drill::write_line` meets its contract.
 use borrow.Author.Needs.{length-unmapped}
-use Rattle.drill.proofs.PartLaws.{within-list, part-length}
 use borrow.Author.Needs.{needs}
+use Rattle.drill.proofs.PartLaws.{within-list, part-length}
 use Rattle.drill.proofs.write_line.Statement.{statement}
 use Rattle.drill.proofs.write_line.Tie as tie
-use Rattle.drill.proofs.write_line.Reads as reads
-use Rattle.drill.proofs.write_line.Lts as lts
-use Rattle.io.proofs.write_all.Reads as write-all-reads
-use Rattle.lines.proofs.extent.Reads as extent-reads
 
 array-share-prefix-bytes : tie.Need-array-share-prefix-bytes
 array-share-prefix-bytes c = search (needs, within-list, length-unmapped)

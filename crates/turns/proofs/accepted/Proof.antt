@@ -1,10 +1,9 @@
-use Rattle.turns.proofs.TurnLaws.{refused-by}
-use Rattle.model.specs.Calls.{replyOf}
+-- `turns::accepted` meets its contract.
 use borrow.Author.Needs.{needs}
+use Rattle.model.specs.Calls.{replyOf}
+use Rattle.turns.proofs.TurnLaws.{refused-by}
 use Rattle.turns.proofs.accepted.Statement.{statement}
 use Rattle.turns.proofs.accepted.Tie as tie
-use Rattle.turns.proofs.accepted.Reads as reads
-use Rattle.turns.proofs.accepted.Lts as lts
 
 returns : tie.Need-returns
 unfolding replyOf

@@ -1,12 +1,8 @@
-use Rattle.turns.proofs.TurnLaws.{bytes-lent, bytes-bounded, bytes-none}
+-- `turns::bytes_lent` meets its contract.
 use borrow.Author.Needs.{needs}
+use Rattle.turns.proofs.TurnLaws.{bytes-lent, bytes-bounded, bytes-none}
 use Rattle.turns.proofs.bytes_lent.Statement.{statement}
 use Rattle.turns.proofs.bytes_lent.Tie as tie
-use Rattle.turns.proofs.bytes_lent.Reads as reads
-use Rattle.turns.proofs.bytes_lent.Lts as lts
-use Rattle.policy.proofs.number_from.Reads as number-from-reads
-use Rattle.questions.proofs.frames_in_range.Reads as frames-in-range-reads
-use Rattle.questions.proofs.vector_bytes.Reads as vector-bytes-reads
 
 returns : tie.Need-returns
 returns c = search (needs, bytes-lent, bytes-bounded)

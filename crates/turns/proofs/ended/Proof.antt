@@ -1,10 +1,8 @@
-use Rattle.model.specs.Calls.{replyOf}
+-- `turns::ended` meets its contract.
 use borrow.Author.Needs.{needs}
+use Rattle.model.specs.Calls.{replyOf}
 use Rattle.turns.proofs.ended.Statement.{statement}
 use Rattle.turns.proofs.ended.Tie as tie
-use Rattle.turns.proofs.ended.Reads as reads
-use Rattle.turns.proofs.ended.Lts as lts
-use Rattle.lines.proofs.call_line.Reads as call-line-reads
 
 returns : tie.Need-returns
 unfolding replyOf

@@ -1,11 +1,8 @@
-use Rattle.turns.proofs.TurnLaws.{pages-lent, pages-bounded, pages-none}
+-- `turns::pages_lent` meets its contract.
 use borrow.Author.Needs.{needs}
+use Rattle.turns.proofs.TurnLaws.{pages-lent, pages-bounded, pages-none}
 use Rattle.turns.proofs.pages_lent.Statement.{statement}
 use Rattle.turns.proofs.pages_lent.Tie as tie
-use Rattle.turns.proofs.pages_lent.Reads as reads
-use Rattle.turns.proofs.pages_lent.Lts as lts
-use Rattle.policy.proofs.number_from.Reads as number-from-reads
-use Rattle.questions.proofs.pages_in_range.Reads as pages-in-range-reads
 
 returns : tie.Need-returns
 returns c = search (needs, pages-lent, pages-bounded)

@@ -1,11 +1,8 @@
-use Rattle.turns.proofs.TurnLaws.{edit-performed, call-performed}
+-- `turns::perform` meets its contract.
 use borrow.Author.Needs.{needs}
+use Rattle.turns.proofs.TurnLaws.{edit-performed, call-performed}
 use Rattle.turns.proofs.perform.Statement.{statement}
 use Rattle.turns.proofs.perform.Tie as tie
-use Rattle.turns.proofs.perform.Reads as reads
-use Rattle.turns.proofs.perform.Lts as lts
-use Rattle.turns.proofs.call.Reads as call-reads
-use Rattle.turns.proofs.edit.Reads as edit-reads
 
 returns : tie.Need-returns
 returns c = search (needs, edit-performed)

@@ -1,16 +1,8 @@
-use Rattle.turns.proofs.TurnLaws.{turn-none, turn-cut, turn-unknown, turn-made}
+-- `turns::turn` meets its contract.
 use borrow.Author.Needs.{needs}
+use Rattle.turns.proofs.TurnLaws.{turn-none, turn-cut, turn-unknown, turn-made}
 use Rattle.turns.proofs.turn.Statement.{statement}
 use Rattle.turns.proofs.turn.Tie as tie
-use Rattle.turns.proofs.turn.Reads as reads
-use Rattle.turns.proofs.turn.Lts as lts
-use Rattle.lines.proofs.call_line.Reads as call-line-reads
-use Rattle.lines.proofs.empty.Reads as empty-reads
-use Rattle.turns.proofs.ended.Reads as ended-reads
-use Rattle.turns.proofs.index_of.Reads as index-of-reads
-use Rattle.turns.proofs.length_of.Reads as length-of-reads
-use Rattle.turns.proofs.perform.Reads as perform-reads
-use Rattle.turns.proofs.value_of.Reads as value-of-reads
 
 returns : tie.Need-returns
 returns c = search (needs, turn-none)
