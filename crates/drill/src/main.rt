@@ -1,0 +1,113 @@
+// Document 01, "The drill program": reads a policy and at most 1,024 calls, and writes a line for each and the closing lines.
+// Everything that it computes is proved in the crates below: here it reads, calls them, writes and counts.
+
+ghost use Prim.Native.Nat.{_≤_};
+ghost use mathlib.Core.Path.{_≡_};
+ghost use lib.ListN.{length};
+use libc::STDIN_FILENO;
+use libc::STDOUT_FILENO;
+use lines::Line;
+use model::State;
+use turns::Turned;
+
+// Takes 8 bytes, and the rest of the policy where there is one; gives how many there were. The room holds the longest policy.
+fn read_policy(room: &mut [u8]) -> usize
+    requires { ⌜ length (now room) ≡ 8200 ⌝ }
+    ensures { λ r. ⌜ r ≤ 8200 ⌝ }
+{
+    let first = io::read_full(STDIN_FILENO, &mut room[..8]);
+    if first < 8 {
+        return first;
+    }
+    let extent = turns::policy_extent(room);
+    8 + io::read_full(STDIN_FILENO, &mut room[8..extent])
+}
+
+fn write_line(l: Line) {
+    let bytes = l.bytes;
+    let len = lines::extent(l);
+    io::write_all(STDOUT_FILENO, &bytes[..len]);
+}
+
+// Takes at most 16 bytes, makes the call and writes its line.
+fn take_turn(
+    s: State,
+    kernel: &mut [u64],
+    shadow: &mut [u64],
+    map: &mut [u16],
+    exclusion: &[u8],
+) -> Turned {
+    let mut call = [0u8; 16];
+    let taken = io::read_full(STDIN_FILENO, &mut call);
+    let turned = turns::turn(s, kernel, shadow, map, exclusion, &call[..taken]);
+    write_line(turned.line);
+    turned
+}
+
+// At most 1,024 calls.
+fn take_turns(
+    first: State,
+    kernel: &mut [u64],
+    shadow: &mut [u64],
+    map: &mut [u16],
+    exclusion: &[u8],
+) {
+    let mut s = first;
+    let mut left: u16 = 1024;
+    while 0 < left {
+        let turned = take_turn(s, kernel, shadow, map, exclusion);
+        if !turned.goes {
+            return;
+        }
+        let next = turned.state;
+        s = next;
+        left -= 1;
+    }
+}
+
+// The shadow entries in rising order, and the share.
+fn write_closing(frames: u16, shadow: &[u64], exclusion: &[u8]) {
+    let mut i = 0;
+    while i < shadow.len() {
+        let line = lines::entry_line(shadow[i]);
+        io::write_all(STDOUT_FILENO, &line);
+        i += 1;
+    }
+    write_line(lines::share_line(frames, exclusion));
+}
+
+// The drill on tables of the policy's sizes, all zeros. A refused start writes its line alone.
+fn run(
+    policy: &[u8],
+    kernel: &mut [u64],
+    shadow: &mut [u64],
+    map: &mut [u16],
+    exclusion: &mut [u8],
+) {
+    let opened = turns::open(policy, shadow, map, exclusion);
+    write_line(opened.line);
+    if !opened.goes {
+        return;
+    }
+    let state = opened.state;
+    take_turns(state, kernel, shadow, map, exclusion);
+    write_closing(state.frames, shadow, exclusion);
+}
+
+fn main() {
+    let mut room = [0u8; 8200];
+    let taken = read_policy(&mut room);
+    let pages = turns::pages_lent(&room[..taken]);
+    let bytes = turns::bytes_lent(&room[..taken]);
+    let mut kernel = [0u64; 2048];
+    let mut shadow = [0u64; 2048];
+    let mut map = [0u16; 2048];
+    let mut exclusion = [0u8; 512];
+    run(
+        &room[..taken],
+        &mut kernel[..pages],
+        &mut shadow[..pages],
+        &mut map[..pages],
+        &mut exclusion[..bytes],
+    );
+}

@@ -1,0 +1,46 @@
+-- `lines::excluded_count` meets its contract.
+use Prim.Native.Nat.{_+_, _-_, _≤_}
+use mathlib.Core.Path.{_≡_}
+use native.Mathlib.Omega.{arith}
+use borrow.Author.Needs.{needs}
+use Rattle.model.specs.Keeps.{excludedIn}
+use Rattle.model.specs.Drill.{countFrom}
+use Rattle.lines.proofs.CountLaws.{count-begins, count-more, count-over}
+use Rattle.lines.proofs.excluded_count.Statement.{statement}
+use Rattle.lines.proofs.excluded_count.Tie as tie
+
+abbrev Inv-loop : tie.InvT-loop
+Inv-loop frames exclusion count₀ frame₀ end count frame =
+    (count + countFrom (excludedIn exclusion) frame (end - frame) ≡ countFrom (excludedIn exclusion) 0 end) × (frame ≤ end) × (count ≤ frame)
+
+abbrev μ-loop : tie.MeasureT-loop
+μ-loop frames exclusion count₀ frame₀ end count frame = end - frame
+
+loop-holds : tie.Need-loop-holds Inv-loop μ-loop
+loop-holds c = search (needs, count-begins)
+
+excluded-requires : tie.Need-excluded-requires Inv-loop μ-loop
+excluded-requires c κs = search needs
+
+one-requires : tie.Need-one-requires Inv-loop μ-loop
+one-requires c κs = search needs
+
+add-count : tie.Need-add-count Inv-loop μ-loop
+add-count c = omega arith
+
+add-frame : tie.Need-add-frame Inv-loop μ-loop
+add-frame c = omega arith
+
+loop-less : tie.Need-loop-less Inv-loop μ-loop
+loop-less c = omega arith
+
+loop-again : tie.Need-loop-again Inv-loop μ-loop
+loop-again c = search (needs, count-more)
+
+returns : tie.Need-returns Inv-loop μ-loop
+returns c = search (needs, count-over)
+
+pub excluded-count-spec : {M : Type 1} → statement M
+excluded-count-spec =
+    tie.close
+    (tie.spec Inv-loop μ-loop loop-holds excluded-requires one-requires add-count add-frame loop-less loop-again returns)

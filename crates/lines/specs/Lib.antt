@@ -1,0 +1,2 @@
+-- What a line that is being written holds.
+pub mod Text

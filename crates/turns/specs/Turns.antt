@@ -1,0 +1,57 @@
+-- The drill made of a state and the tables, and what the functions of the drill leave, as records of the model.
+use Prim.Native.Nat.{ℕ}
+use mathlib.Core.Bool.{Bool, cond}
+use mathlib.Core.List.{List}
+use lib.Dec.{eqb}
+use Rattle.model.specs.declared.State.{State}
+use Rattle.model.specs.declared.Answer.{Answer}
+use Rattle.model.specs.declared.Called.{Called}
+use Rattle.model.specs.Edges.{pagesInRange, framesInRange}
+use Rattle.model.specs.Keeps.{Guard, vectorBytes}
+use Rattle.model.specs.Policy.{policyOf}
+use Rattle.model.specs.Calls.{Outcome, replyOf}
+use Rattle.model.specs.Drill.{Drill, Drilled, Turn, startLine}
+use Rattle.lines.specs.Text.{text}
+use Rattle.turns.specs.declared.Turned.{Turned}
+
+-- The guard made of a state and the tables, and the drill made of a guard and the kernel table.
+abbrev pub guardOf : State → List ℕ → List ℕ → List ℕ → Guard
+guardOf s shadow map exclusion = record { state = s; shadow = shadow; map = map; exclusion = exclusion }
+
+abbrev pub drillOf : Guard → List ℕ → Drill
+drillOf g kernel = record { guard = g; kernel = kernel }
+
+-- What a guard call leaves, what an edit leaves, and what either leaves of the drill.
+unfoldable pub answeredBy : Called → List ℕ → List ℕ → List ℕ → Outcome
+answeredBy r shadow map exclusion = record { reply = replyOf (r .answer); guard = guardOf (r .state) shadow map exclusion }
+
+unfoldable pub editedBy : Answer → Drill → Drilled
+editedBy r d = record { reply = replyOf r; drill = d }
+
+unfoldable pub performedBy : Called → List ℕ → List ℕ → List ℕ → List ℕ → Drilled
+performedBy r kernel shadow map exclusion = record { reply = replyOf (r .answer); drill = drillOf (guardOf (r .state) shadow map exclusion) kernel }
+
+-- What a turn leaves.
+unfoldable pub turnedBy : Turned → List ℕ → List ℕ → List ℕ → List ℕ → Turn
+turnedBy r kernel shadow map exclusion =
+    record { drill = drillOf (guardOf (r .state) shadow map exclusion) kernel; line = text (r .line); goes = r .goes }
+
+-- The start's guard, its line, and whether calls follow it: "A refused start prints its line alone."
+pub record Opening : Type 0 where
+  pub guard : Guard
+  pub line : List ℕ
+  pub goes : Bool
+
+unfoldable pub openingOf : Outcome → Opening
+openingOf start = record { guard = start .guard; line = startLine start; goes = eqb (start .reply .number) 0 }
+
+unfoldable pub openedBy : Turned → List ℕ → List ℕ → List ℕ → Opening
+openedBy r shadow map exclusion = record { guard = guardOf (r .state) shadow map exclusion; line = text (r .line); goes = r .goes }
+
+-- How many pages, and how many bytes of the exclusion vector, the start of a record is lent. A V or an F out of range lends nothing: question 2
+-- refuses it before any table is looked at.
+unfoldable pub pagesLent : List ℕ → ℕ
+pagesLent record′ = cond (pagesInRange (policyOf record′ .pages)) (policyOf record′ .pages) 0
+
+unfoldable pub bytesLent : List ℕ → ℕ
+bytesLent record′ = cond (framesInRange (policyOf record′ .frames)) (vectorBytes (policyOf record′ .frames)) 0

@@ -1,0 +1,265 @@
+// Document 01, "The drill program": the policy's extent, the start, a call's fields, and the turn that one call makes.
+// Each function promises a definition of the model's Drill on all inputs, a call of any length included.
+
+ghost use mathlib.Core.Path.{_≡_};
+ghost use Prim.Native.Nat.{_+_, _*_, _^_, _≤_, _<_};
+ghost use mathlib.Core.Bool.{false};
+ghost use lib.Dec.{eqb};
+ghost use Rattle.model.specs.Keeps.{Guard};
+ghost use Rattle.model.specs.Calls.{refused, replyOf, deviceWriteOf, startOf};
+ghost use Rattle.model.specs.Lists.{answer};
+ghost use Rattle.model.specs.Drill;
+ghost use Rattle.model.specs.Drill.{policyExtent, indexOf, lengthOf, valueOf, edited, callOf, performed, line};
+ghost use Rattle.lines.specs.Text.{text};
+ghost use Rattle.turns.specs.Turns.{guardOf, drillOf, answeredBy, editedBy, performedBy, turnedBy, openingOf, openedBy, pagesLent, bytesLent};
+use lines::Line;
+use model::Answer;
+use model::Called;
+use model::State;
+
+// The policy and the start.
+
+// The policy's bytes: 8, and 4 × n more if n is 1 to 2,048. The first 8 bytes settle it.
+pub fn policy_extent(input: &[u8]) -> usize
+    ensures { λ r. ⌜ (r ≡ policyExtent (now (input .entry))) × (8 ≤ r) × (r ≤ 8200) ⌝ }
+{
+    let count = policy::number_from(input, 4);
+    if questions::in_range(1, 2048, count as u64) {
+        return 8 + 4 * count as usize;
+    }
+    8
+}
+
+// The tables that the start of a record is lent, by its V and F. What is out of range never reaches a table.
+
+pub fn pages_lent(bytes: &[u8]) -> usize
+    ensures { λ r. ⌜ (r ≡ pagesLent (now (bytes .entry))) × (r ≤ 2048) ⌝ }
+{
+    let pages = policy::number_from(bytes, 0);
+    if questions::pages_in_range(pages) {
+        return pages as usize;
+    }
+    0
+}
+
+pub fn bytes_lent(bytes: &[u8]) -> usize
+    ensures { λ r. ⌜ (r ≡ bytesLent (now (bytes .entry))) × (r ≤ 512) ⌝ }
+{
+    let frames = policy::number_from(bytes, 2);
+    if questions::frames_in_range(frames) {
+        return questions::vector_bytes(frames);
+    }
+    0
+}
+
+// What a turn leaves beside the tables: the state, the line, and whether calls go on.
+pub struct Turned {
+    pub state: State,
+    pub line: Line,
+    pub goes: bool,
+}
+
+// No question refused the call.
+fn accepted(answer: Answer) -> bool
+    ensures { λ r. ⌜ r ≡ eqb (replyOf answer .number) 0 ⌝ }
+{
+    match answer {
+        Answer::Done(_, _) => true,
+        Answer::Refused(number) => number == 0,
+    }
+}
+
+// The start, with its line. Calls follow where it is accepted.
+pub fn open(bytes: &[u8], shadow: &mut [u64], map: &mut [u16], exclusion: &mut [u8]) -> Turned
+    ensures { λ r. ⌜ openedBy r (now (shadow .exit)) (now (map .exit)) (now (exclusion .exit)) ≡ openingOf (startOf (now (bytes .entry)) (now (shadow .entry)) (now (map .entry)) (now (exclusion .entry))) ⌝ }
+{
+    let started = start::start(bytes, shadow, map, exclusion);
+    let answer = started.answer;
+    let state = started.state;
+    let mode = state.mode;
+    Turned {
+        state,
+        line: lines::call_line(b'S', answer, mode),
+        goes: accepted(answer),
+    }
+}
+
+// The fields of a call.
+
+pub fn index_of(call: &[u8]) -> u64
+    ensures { λ r. ⌜ r ≡ indexOf (now (call .entry)) ⌝ }
+{
+    policy::number_from(call, 2) as u64
+}
+
+// Two 16-bit numbers as one of 32 bits, the lower one first.
+fn wide(low: u16, high: u16) -> u64
+    ensures { λ r. ⌜ (r ≡ low + 2 ^ 16 * high) × (r < 2 ^ 32) ⌝ }
+{
+    low as u64 + 0x1_0000 * high as u64
+}
+
+pub fn length_of(call: &[u8]) -> u64
+    ensures { λ r. ⌜ r ≡ lengthOf (now (call .entry)) ⌝ }
+{
+    wide(policy::number_from(call, 4), policy::number_from(call, 6))
+}
+
+pub fn value_of(call: &[u8]) -> u64
+    ensures { λ r. ⌜ r ≡ valueOf (now (call .entry)) ⌝ }
+{
+    let low = wide(policy::number_from(call, 8), policy::number_from(call, 10));
+    let high = wide(policy::number_from(call, 12), policy::number_from(call, 14));
+    low + 0x1_0000_0000 * high
+}
+
+// Kind 0. The guard's part of the drill stays as it is, whatever it is; question 9 looks at its V alone.
+pub fn edit(pages: u16, kernel: &mut [u64], page: u64, value: u64) -> Answer
+    ensures { λ r. ⌜ ((g : Guard) → g .state .pages ≡ pages → editedBy r (drillOf g (now (kernel .exit))) ≡ edited (drillOf g (now (kernel .entry))) page value) ⌝ }
+{
+    if !questions::page_exists(page, pages) {
+        return Answer::Refused(9);
+    }
+    if page < kernel.len() as u64 {
+        kernel[page as usize] = value;
+    }
+    Answer::Done(0, 0)
+}
+
+// Kind 7. What a device write is lent beside the exclusion vector is made here.
+fn transfer(s: State, exclusion: &[u8], address: u64, length: u64) -> Answer
+    ensures { λ r. ⌜ replyOf r ≡ deviceWriteOf s (now (exclusion .entry)) address length ⌝ }
+{
+    access::device_write(s, exclusion, address, length)
+}
+
+// Kinds 1 to 7, the guard's calls. The definition takes any kind above 6 for a device write.
+pub fn call(
+    s: State,
+    kernel: &[u64],
+    shadow: &mut [u64],
+    map: &mut [u16],
+    exclusion: &[u8],
+    kind: u8,
+    index: u64,
+    length: u64,
+    value: u64,
+) -> Called
+    ensures { λ r. ⌜ answeredBy r (now (shadow .exit)) (now (map .exit)) (now (exclusion .entry)) ≡ answer (guardOf s (now (shadow .entry)) (now (map .entry)) (now (exclusion .entry))) (callOf (now (kernel .entry)) kind index length value) ⌝ }
+{
+    if kind == 1 {
+        let answer = sync::sync_page(s, kernel, shadow, map, exclusion, index);
+        return Called { answer, state: s };
+    }
+    if kind == 2 {
+        let answer = sync::sync_all(s, kernel, shadow, map, exclusion);
+        return Called { answer, state: s };
+    }
+    if kind == 3 {
+        return access::fetch(s, shadow, index);
+    }
+    if kind == 4 {
+        let answer = access::write(s, shadow, exclusion, value, length);
+        return Called { answer, state: s };
+    }
+    if kind == 5 {
+        return modes::enter(s, shadow, index);
+    }
+    if kind == 6 {
+        return modes::leave(s, shadow, index);
+    }
+    let answer = transfer(s, exclusion, value, length);
+    Called { answer, state: s }
+}
+
+// The call of a kind, an edit or a guard's call.
+pub fn perform(
+    s: State,
+    kernel: &mut [u64],
+    shadow: &mut [u64],
+    map: &mut [u16],
+    exclusion: &[u8],
+    kind: u8,
+    index: u64,
+    length: u64,
+    value: u64,
+) -> Called
+    ensures { λ r. ⌜ performedBy r (now (kernel .exit)) (now (shadow .exit)) (now (map .exit)) (now (exclusion .entry)) ≡ performed (drillOf (guardOf s (now (shadow .entry)) (now (map .entry)) (now (exclusion .entry))) (now (kernel .entry))) kind index length value ⌝ }
+{
+    if kind == 0 {
+        let answer = edit(s.pages, kernel, index, value);
+        return Called { answer, state: s };
+    }
+    call(
+        s,
+        kernel,
+        shadow,
+        map,
+        exclusion,
+        kind,
+        index,
+        length,
+        value,
+    )
+}
+
+// The line X of question 14 or 15, which ends the calls.
+fn ended(s: State, number: u64) -> Turned
+    ensures { λ r. ⌜ (r .state ≡ s) × (text (r .line) ≡ line 88 (refused number) (s .mode)) × (r .goes ≡ false) ⌝ }
+{
+    let mode = s.mode;
+    Turned {
+        state: s,
+        line: lines::call_line(b'X', Answer::Refused(number), mode),
+        goes: false,
+    }
+}
+
+// One call, of the bytes that remain, at most 16 of them.
+pub fn turn(
+    s: State,
+    kernel: &mut [u64],
+    shadow: &mut [u64],
+    map: &mut [u16],
+    exclusion: &[u8],
+    call: &[u8],
+) -> Turned
+    ensures { λ r. ⌜ turnedBy r (now (kernel .exit)) (now (shadow .exit)) (now (map .exit)) (now (exclusion .entry)) ≡ Drill.turn (drillOf (guardOf s (now (shadow .entry)) (now (map .entry)) (now (exclusion .entry))) (now (kernel .entry))) (now (call .entry)) ⌝ }
+{
+    if call.len() == 0 {
+        return Turned {
+            state: s,
+            line: lines::empty(),
+            goes: false,
+        };
+    }
+    if call.len() != 16 {
+        return ended(s, 14);
+    }
+    let kind = call[0];
+    if 7 < kind {
+        return ended(s, 15);
+    }
+    let index = index_of(call);
+    let length = length_of(call);
+    let value = value_of(call);
+    let done = perform(
+        s,
+        kernel,
+        shadow,
+        map,
+        exclusion,
+        kind,
+        index,
+        length,
+        value,
+    );
+    let answer = done.answer;
+    let state = done.state;
+    let runs = state.mode;
+    Turned {
+        state,
+        line: lines::call_line(48 + kind, answer, runs),
+        goes: true,
+    }
+}
