@@ -10,10 +10,10 @@ use Rattle.model.specs.declared.Answer.{Answer}
 use Rattle.model.specs.declared.Answer.the-variants.{Refused}
 use Rattle.model.specs.declared.Called.{Called}
 use Rattle.model.specs.declared.State.{State}
-use Rattle.model.specs.Calls.{replyOf, settle, movedBy, switchedBy, syncedBy, fetchOf, writeOf, enterOf, leaveOf, deviceWriteOf, syncPageOf, syncAllOf}
+use Rattle.model.specs.Calls.{replyOf, settle, Synced, Switched, movedBy, switchedBy, syncedBy, fetchOf, writeOf, enterOf, leaveOf, deviceWriteOf, syncPageOf, syncAllOf}
 use Rattle.model.proofs.AskLaws.{settle-accepted, both-first}
 use Rattle.exports.specs.Runs.{stateIn, withNumbers, runsFit, lendable}
-use Rattle.exports.specs.Boundary.{Left, left, replied, lent, runAfter, fetchAt, writeAt, enterAt, leaveAt, deviceWriteAt, syncPageAt, syncAllAt}
+use Rattle.exports.specs.Boundary.{Left, left, replied, lent, runAfter, lentSync, lentSwitch, fetchAt, writeAt, enterAt, leaveAt, deviceWriteAt, syncPageAt, syncAllAt}
 use Rattle.exports.proofs.WordLaws.{run-fits}
 
 settle-other : {A : Type 0} (n : ℕ) (done : A) (refusal : ℕ → A) → (n ≡ 0 → ⊥) → settle n done refusal ≡ refusal n
@@ -54,53 +54,62 @@ unfolding lendable
 run-lent run numbers b p q =
     run-fits run numbers true (sym (both-first (runsFit run numbers) (leb (getD run 19 0) 1) (sym p ∙ not-false b q))) refl
 
--- Each call, in terms of what its function promises on the decoded state.
-module _ (run numbers after : List ℕ) (r : ℕ) (b : Bool) (s : State) (fits : b ≡ lendable run numbers) (yes : not b ≡ false) (in-run : s ≡ stateIn run) where
+-- Each call, by what its function promises on the decoded state.
+module _ (run numbers after : List ℕ) (r : ℕ) (b : Bool) (s : State) (fits : b ≡ lendable run numbers) (lends : not b ≡ false)
+    (in-run : s ≡ stateIn run) where
+  replies : (runs : List ℕ) (tables given : List (List ℕ)) (answer : Answer) → Says answer r numbers after
+      → left r runs after given ≡ lent run numbers tables (replied (replyOf answer) runs numbers given)
+  replies runs tables given answer says = lent-replied run numbers runs after tables given answer r b fits lends says
+
   pub fetched : (runs shadow : List ℕ) (page : ℕ) (called : Called) → movedBy called ≡ fetchOf s shadow page
       → Says (called .answer) r numbers after → runs ≡ runAfter run (replyOf (called .answer)) (called .state)
       → left r runs after [] ≡ fetchAt run shadow page numbers
   unfolding fetchAt movedBy
-  fetched runs shadow page called e says kept =
-      rw (sym (rw in-run at e), kept) (lent-replied run numbers _ after [] [] (called .answer) r b fits yes says)
-
-  pub entered : (runs shadow table : List ℕ) (index : ℕ) (called : Called) → switchedBy called table ≡ enterOf s shadow index
-      → Says (called .answer) r numbers after → runs ≡ runAfter run (replyOf (called .answer)) (called .state)
-      → left r runs after (table ∷ []) ≡ enterAt run shadow index numbers
-  unfolding enterAt switchedBy
-  entered runs shadow table index called e says kept =
-      rw (sym (rw in-run at e), kept) (lent-replied run numbers _ after (shadow ∷ []) (table ∷ []) (called .answer) r b fits yes says)
-
-  pub gone : (runs shadow table : List ℕ) (page : ℕ) (called : Called) → switchedBy called table ≡ leaveOf s shadow page
-      → Says (called .answer) r numbers after → runs ≡ runAfter run (replyOf (called .answer)) (called .state)
-      → left r runs after (table ∷ []) ≡ leaveAt run shadow page numbers
-  unfolding leaveAt switchedBy
-  gone runs shadow table page called e says kept =
-      rw (sym (rw in-run at e), kept) (lent-replied run numbers _ after (shadow ∷ []) (table ∷ []) (called .answer) r b fits yes says)
-
-  pub page-synced : (kernel shadow map exclusion shadow′ map′ : List ℕ) (page : ℕ) (answer : Answer)
-      → syncedBy answer shadow′ map′ ≡ syncPageOf s kernel shadow map exclusion page → Says answer r numbers after
-      → left r run after (shadow′ ∷ map′ ∷ []) ≡ syncPageAt run kernel shadow map exclusion page numbers
-  unfolding syncPageAt syncedBy
-  page-synced kernel shadow map exclusion shadow′ map′ page answer e says =
-      rw (sym (rw in-run at e)) (lent-replied run numbers run after (shadow ∷ map ∷ []) (shadow′ ∷ map′ ∷ []) answer r b fits yes says)
-
-  pub all-synced : (kernel shadow map exclusion shadow′ map′ : List ℕ) (answer : Answer)
-      → syncedBy answer shadow′ map′ ≡ syncAllOf s kernel shadow map exclusion → Says answer r numbers after
-      → left r run after (shadow′ ∷ map′ ∷ []) ≡ syncAllAt run kernel shadow map exclusion numbers
-  unfolding syncAllAt syncedBy
-  all-synced kernel shadow map exclusion shadow′ map′ answer e says =
-      rw (sym (rw in-run at e)) (lent-replied run numbers run after (shadow ∷ map ∷ []) (shadow′ ∷ map′ ∷ []) answer r b fits yes says)
+  fetched runs shadow page called e says kept = rw (sym (rw in-run at e), kept) (replies _ [] [] (called .answer) says)
 
   pub written : (shadow exclusion : List ℕ) (address length : ℕ) (answer : Answer)
       → replyOf answer ≡ writeOf s shadow exclusion address length → Says answer r numbers after
       → left r run after [] ≡ writeAt run shadow exclusion address length numbers
   unfolding writeAt
-  written shadow exclusion address length answer e says =
-      rw (sym (rw in-run at e)) (lent-replied run numbers run after [] [] answer r b fits yes says)
+  written shadow exclusion address length answer e says = rw (sym (rw in-run at e)) (replies run [] [] answer says)
 
   pub device-written : (exclusion : List ℕ) (address length : ℕ) (answer : Answer)
       → replyOf answer ≡ deviceWriteOf s exclusion address length → Says answer r numbers after
       → left r run after [] ≡ deviceWriteAt run exclusion address length numbers
   unfolding deviceWriteAt
-  device-written exclusion address length answer e says =
-      rw (sym (rw in-run at e)) (lent-replied run numbers run after [] [] answer r b fits yes says)
+  device-written exclusion address length answer e says = rw (sym (rw in-run at e)) (replies run [] [] answer says)
+
+  -- Both kinds of synchronisation, and both switches of the mode.
+  synced : (shadow map shadow′ map′ : List ℕ) (answer : Answer) (m : Synced) → syncedBy answer shadow′ map′ ≡ m → Says answer r numbers after
+      → left r run after (shadow′ ∷ map′ ∷ []) ≡ lentSync run numbers shadow map m
+  unfolding lentSync syncedBy
+  synced shadow map shadow′ map′ answer m e says = rw (sym e) (replies run (shadow ∷ map ∷ []) (shadow′ ∷ map′ ∷ []) answer says)
+
+  pub page-synced : (kernel shadow map exclusion shadow′ map′ : List ℕ) (page : ℕ) (answer : Answer)
+      → syncedBy answer shadow′ map′ ≡ syncPageOf s kernel shadow map exclusion page → Says answer r numbers after
+      → left r run after (shadow′ ∷ map′ ∷ []) ≡ syncPageAt run kernel shadow map exclusion page numbers
+  unfolding syncPageAt
+  page-synced kernel shadow map exclusion shadow′ map′ page answer e says = synced shadow map shadow′ map′ answer _ (rw in-run at e) says
+
+  pub all-synced : (kernel shadow map exclusion shadow′ map′ : List ℕ) (answer : Answer)
+      → syncedBy answer shadow′ map′ ≡ syncAllOf s kernel shadow map exclusion → Says answer r numbers after
+      → left r run after (shadow′ ∷ map′ ∷ []) ≡ syncAllAt run kernel shadow map exclusion numbers
+  unfolding syncAllAt
+  all-synced kernel shadow map exclusion shadow′ map′ answer e says = synced shadow map shadow′ map′ answer _ (rw in-run at e) says
+
+  switched : (runs shadow shadow′ : List ℕ) (called : Called) (m : Switched) → switchedBy called shadow′ ≡ m → Says (called .answer) r numbers after
+      → runs ≡ runAfter run (replyOf (called .answer)) (called .state) → left r runs after (shadow′ ∷ []) ≡ lentSwitch run numbers shadow m
+  unfolding lentSwitch switchedBy
+  switched runs shadow shadow′ called m e says kept = rw (sym e, kept) (replies _ (shadow ∷ []) (shadow′ ∷ []) (called .answer) says)
+
+  pub entered : (runs shadow shadow′ : List ℕ) (index : ℕ) (called : Called) → switchedBy called shadow′ ≡ enterOf s shadow index
+      → Says (called .answer) r numbers after → runs ≡ runAfter run (replyOf (called .answer)) (called .state)
+      → left r runs after (shadow′ ∷ []) ≡ enterAt run shadow index numbers
+  unfolding enterAt
+  entered runs shadow shadow′ index called e says kept = switched runs shadow shadow′ called _ (rw in-run at e) says kept
+
+  pub exited : (runs shadow shadow′ : List ℕ) (page : ℕ) (called : Called) → switchedBy called shadow′ ≡ leaveOf s shadow page
+      → Says (called .answer) r numbers after → runs ≡ runAfter run (replyOf (called .answer)) (called .state)
+      → left r runs after (shadow′ ∷ []) ≡ leaveAt run shadow page numbers
+  unfolding leaveAt
+  exited runs shadow shadow′ page called e says kept = switched runs shadow shadow′ called _ (rw in-run at e) says kept

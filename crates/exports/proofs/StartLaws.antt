@@ -17,7 +17,7 @@ use Rattle.model.proofs.AskLaws.{settle-accepted}
 use Rattle.policy.specs.Record.{recordAsks}
 use Rattle.policy.proofs.RecordLaws.{start-refused, start-asked}
 use Rattle.start.specs.Start.{startedBy}
-use Rattle.exports.specs.Runs.{withNumbers, runsFit}
+use Rattle.exports.specs.Runs.{runsFit}
 use Rattle.exports.specs.Boundary.{left, replied, runStarted, startAt}
 use Rattle.exports.proofs.BoundaryLaws.{Says}
 

@@ -1,8 +1,8 @@
 -- Laws of a state in a run: all words written, and what was written decodes to the same state.
-use Prim.Native.Nat.{ℕ, _+_, _≤_, _<_}
+use Prim.Native.Nat.{ℕ, _+_, _<_}
 use mathlib.Core.List.{List, [], _∷_, _++_}
 use mathlib.Core.Path.{_≡_, refl, sym, ap, _∙_}
-use lib.ListN.{length, getD, set, drop, length-append, length-drop, List·getD-append}
+use lib.ListN.{length, getD, set, drop, length-append, length-drop, length-set, List·getD-append}
 use lib.Seq.{paste, take-all, set-at, getD-at, getD-drop, append-snoc}
 use lib.Dec.{eqb}
 use native.Mathlib.Omega.{arith}
@@ -13,7 +13,7 @@ use Rattle.model.specs.declared.Mode.the-variants.{Kernel, User}
 use Rattle.model.specs.declared.State.{State}
 use Rattle.model.specs.Keeps.{inUser, running, modeOf}
 use Rattle.model.proofs.TableLaws.{is-table}
-use Rattle.exports.specs.Runs.{narrow, field, entryPages, stateIn, modeWord, wordsOf}
+use Rattle.exports.specs.Runs.{narrow, field, entryPages, stateIn, modeWord, wordsOf, withMode}
 use Rattle.exports.proofs.WordLaws.{narrow-fits}
 
 -- The two words behind the entry pages.
@@ -26,16 +26,20 @@ tail-written e (u ∷ v ∷ []) m r p q =
     ∙ (set-at (e ++ (m ∷ [])) v [] r 17 longer ∙ append-snoc e m (r ∷ []))
 tail-written e (u ∷ v ∷ w ∷ d) m r p q = absurd (omega arith)
 
--- All words of a state, written over a run of 21.
-pub words-written : (s : State) (run t : List ℕ) (m r : ℕ) → length run ≡ 21 → length (s .entry) ≡ 16 → t ≡ paste run 3 (s .entry) 16
-    → m ≡ modeWord (s .mode) → r ≡ running (s .mode)
-    → set (set (set (set (set t 0 (s .pages)) 1 (s .frames)) 2 (s .entries)) 19 m) 20 r ≡ wordsOf s
-unfolding wordsOf
-words-written s [] t m r n k e p q = absurd (omega arith)
-words-written s (x ∷ []) t m r n k e p q = absurd (omega arith)
-words-written s (x ∷ y ∷ []) t m r n k e p q = absurd (omega arith)
-words-written s (x ∷ y ∷ z ∷ rest) t m r n k e p q =
-    rw (e, take-all 16 (s .entry) (omega arith), p, q)
+-- A run keeps its length where V, F and e are written between two calls that keep it.
+pub three-kept : (run t u : List ℕ) (a b d : ℕ) → length t ≡ length run → length u ≡ length (set (set (set t 0 a) 1 b) 2 d)
+    → length u ≡ length run
+three-kept run t u a b d p q = q ∙ simp length-set p
+
+-- All words of a state, written over a run of 21: the entry pages, V, F and e, the mode.
+pub words-written : (s : State) (run t u : List ℕ) → length run ≡ 21 → length (s .entry) ≡ 16 → t ≡ paste run 3 (s .entry) 16
+    → u ≡ withMode (set (set (set t 0 (s .pages)) 1 (s .frames)) 2 (s .entries)) (s .mode) → u ≡ wordsOf s
+unfolding wordsOf withMode
+words-written s [] t u n k e p = absurd (omega arith)
+words-written s (x ∷ []) t u n k e p = absurd (omega arith)
+words-written s (x ∷ y ∷ []) t u n k e p = absurd (omega arith)
+words-written s (x ∷ y ∷ z ∷ rest) t u n k e p =
+    rw (p, e, take-all 16 (s .entry) (omega arith))
     (ap (λ (l : List ℕ). s .pages ∷ s .frames ∷ s .entries ∷ l)
     (tail-written (s .entry) (drop 16 rest) (modeWord (s .mode)) (running (s .mode)) k (simp length-drop (omega arith))))
 
@@ -82,13 +86,17 @@ module _ (s : State) (long : length (s .entry) ≡ 16) where
       (λ i h. sym (field-back (3 + i) (getD (s .entry) i 0) (entry-word i h) (fits i .fits))))
 
   words-decoded : s .pages < 65536 → s .frames < 65536 → s .entries < 65536 → ((i : ℕ) → Fits w16 (getD (s .entry) i 0))
-      → Fits w16 (running (s .mode)) → stateIn (wordsOf s) ≡ s
+      → running (s .mode) < 65536 → stateIn (wordsOf s) ≡ s
   unfolding stateIn wordsOf
   words-decoded p f n fits r =
       state-made s _ _ _ _ _ (field-back 0 (s .pages) refl p) (field-back 1 (s .frames) refl f) (field-back 2 (s .entries) refl n)
       (entries-back fits)
-      (rw (mode-word-back, field-back 20 (running (s .mode)) running-word-back (r .fits)) (mode-back (s .mode)))
+      (rw (mode-word-back, field-back 20 (running (s .mode)) running-word-back r) (mode-back (s .mode)))
 
-pub written-decoded : (s : State) (t : List ℕ) (r : ℕ) → t ≡ wordsOf s → length (s .entry) ≡ 16 → s .pages < 65536 → s .frames < 65536
-    → s .entries < 65536 → ((i : ℕ) → Fits w16 (getD (s .entry) i 0)) → Fits w16 r → r ≡ running (s .mode) → stateIn t ≡ s
-written-decoded s t r e long p f n fits h q = rw e (words-decoded s long p f n fits (rw (sym q) h))
+pub written-decoded : (s : State) (t : List ℕ) → t ≡ wordsOf s → length (s .entry) ≡ 16 → s .pages < 65536 → s .frames < 65536
+    → s .entries < 65536 → ((i : ℕ) → Fits w16 (getD (s .entry) i 0)) → running (s .mode) < 65536 → stateIn t ≡ s
+written-decoded s t e long p f n fits r = rw e (words-decoded s long p f n fits r)
+
+-- The page of a mode, as a function that reads it gave it.
+pub running-fits : (mode : Mode) (r : ℕ) → r ≡ running mode → Fits w16 r → running mode < 65536
+running-fits mode r e h = rw e at (h .fits)

@@ -32,15 +32,18 @@ lent run numbers tables call = cond (lendable run numbers) call (replied (refuse
 unfoldable pub runAfter : List ℕ → Reply → State → List ℕ
 runAfter run reply s = settle (reply .number) (withMode run (s .mode)) (λ _. run)
 
+-- Synchronise: the shadow table and the map may change.
+unfoldable pub lentSync : List ℕ → List ℕ → List ℕ → List ℕ → Synced → Left
+lentSync run numbers shadow map r =
+    lent run numbers (shadow ∷ map ∷ []) (replied (r .reply) run numbers (r .shadow ∷ r .map ∷ []))
+
 unfoldable pub syncPageAt : List ℕ → List ℕ → List ℕ → List ℕ → List ℕ → ℕ → List ℕ → Left
 syncPageAt run kernel shadow map exclusion page numbers =
-    let r : Synced = syncPageOf (stateIn run) kernel shadow map exclusion page in
-    lent run numbers (shadow ∷ map ∷ []) (replied (r .reply) run numbers (r .shadow ∷ r .map ∷ []))
+    lentSync run numbers shadow map (syncPageOf (stateIn run) kernel shadow map exclusion page)
 
 unfoldable pub syncAllAt : List ℕ → List ℕ → List ℕ → List ℕ → List ℕ → List ℕ → Left
 syncAllAt run kernel shadow map exclusion numbers =
-    let r : Synced = syncAllOf (stateIn run) kernel shadow map exclusion in
-    lent run numbers (shadow ∷ map ∷ []) (replied (r .reply) run numbers (r .shadow ∷ r .map ∷ []))
+    lentSync run numbers shadow map (syncAllOf (stateIn run) kernel shadow map exclusion)
 
 unfoldable pub fetchAt : List ℕ → List ℕ → ℕ → List ℕ → Left
 fetchAt run shadow page numbers =
@@ -51,15 +54,16 @@ unfoldable pub writeAt : List ℕ → List ℕ → List ℕ → ℕ → ℕ → 
 writeAt run shadow exclusion address length numbers =
     lent run numbers [] (replied (writeOf (stateIn run) shadow exclusion address length) run numbers [])
 
-unfoldable pub enterAt : List ℕ → List ℕ → ℕ → List ℕ → Left
-enterAt run shadow index numbers =
-    let r : Switched = enterOf (stateIn run) shadow index in
+-- Enter and leave: the shadow table may change, and the mode.
+unfoldable pub lentSwitch : List ℕ → List ℕ → List ℕ → Switched → Left
+lentSwitch run numbers shadow r =
     lent run numbers (shadow ∷ []) (replied (r .reply) (runAfter run (r .reply) (r .state)) numbers (r .shadow ∷ []))
 
+unfoldable pub enterAt : List ℕ → List ℕ → ℕ → List ℕ → Left
+enterAt run shadow index numbers = lentSwitch run numbers shadow (enterOf (stateIn run) shadow index)
+
 unfoldable pub leaveAt : List ℕ → List ℕ → ℕ → List ℕ → Left
-leaveAt run shadow page numbers =
-    let r : Switched = leaveOf (stateIn run) shadow page in
-    lent run numbers (shadow ∷ []) (replied (r .reply) (runAfter run (r .reply) (r .state)) numbers (r .shadow ∷ []))
+leaveAt run shadow page numbers = lentSwitch run numbers shadow (leaveOf (stateIn run) shadow page)
 
 unfoldable pub deviceWriteAt : List ℕ → List ℕ → ℕ → ℕ → List ℕ → Left
 deviceWriteAt run exclusion address length numbers =

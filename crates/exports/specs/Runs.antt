@@ -1,7 +1,7 @@
 -- The runs of words that cross the boundary: the state in a lent run of 21 words, and the two numbers of a reply in a lent run of two.
 -- Documented for C in include/guard.h.
 use Prim.Native.Nat.{ℕ, _+_}
-use mathlib.Core.Bool.{Bool, true, false, cond}
+use mathlib.Core.Bool.{Bool, cond}
 use mathlib.Core.List.{List, [], _∷_, _++_}
 use lib.ListN.{length, getD, set}
 use lib.Dec.{leb, eqb}

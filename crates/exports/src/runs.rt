@@ -2,12 +2,11 @@
 // A function that takes a state run has a `requires`: its callers have asked for the length.
 
 ghost use mathlib.Core.Path.{_≡_};
-ghost use mathlib.Core.List.{[], _∷_};
 ghost use Prim.Native.Nat.{_<_};
 ghost use lib.ListN.{length};
 ghost use lib.Seq.{paste};
 ghost use lib.Dec.{eqb};
-ghost use Rattle.model.specs.Keeps.{modeOf};
+ghost use Rattle.model.specs.Keeps.{modeOf, running};
 ghost use Rattle.model.specs.Calls.{replyOf};
 ghost use Rattle.exports.specs.Boundary.{runAfter, runStarted};
 ghost use Rattle.exports.specs.Runs;
@@ -108,10 +107,11 @@ pub(crate) fn state_in(run: &[u64]) -> State
     }
 }
 
-// Writes the words of a mode into a run.
+// Writes the words of a mode into a run. A mode's page is a 16-bit number, on which decoding rests.
 pub(crate) fn put_mode(run: &mut [u64], mode: Mode)
     requires { ⌜ length (now run) ≡ stateWords ⌝ }
-    ensures { λ _. ⌜ now (run .exit) ≡ withMode (now (run .entry)) mode ⌝ }
+    ensures words { λ _. ⌜ now (run .exit) ≡ withMode (now (run .entry)) mode ⌝ }
+    ensures fits { λ _. ⌜ running mode < 65536 ⌝ }
 {
     run[STATE_MODE] = mode_word(mode);
     run[STATE_RUNNING] = questions::running(mode) as u64;
@@ -140,8 +140,7 @@ pub(crate) fn put_state(run: &mut [u64], s: State)
     run[STATE_PAGES] = s.pages as u64;
     run[STATE_FRAMES] = s.frames as u64;
     run[STATE_ENTRIES] = s.entries as u64;
-    run[STATE_MODE] = mode_word(mode);
-    run[STATE_RUNNING] = questions::running(mode) as u64;
+    put_mode(run, mode);
 }
 
 // The boundary's part of question 7: the lengths of both runs, which the start asks for.
@@ -214,9 +213,9 @@ pub(crate) fn put_started(run: &mut [u64], numbers: &mut [u64], called: Called) 
 {
     let answer = called.answer;
     let after = called.state;
-    let number = reply(numbers, answer);
-    if number == 0 {
+    let refusal = reply(numbers, answer);
+    if refusal == 0 {
         put_state(run, after);
     }
-    number
+    refusal
 }

@@ -1,12 +1,12 @@
 -- `exports::guard_enter` meets its contract.
 use borrow.Author.Needs.{needs}
-use Rattle.exports.specs.Boundary.{enterAt}
+use Rattle.exports.specs.Boundary.{lentSwitch, enterAt}
 use Rattle.exports.proofs.BoundaryLaws.{unlent, run-lent, entered}
 use Rattle.exports.proofs.guard_enter.Statement.{statement}
 use Rattle.exports.proofs.guard_enter.Tie as tie
 
 returns : tie.Need-returns
-unfolding enterAt
+unfolding enterAt lentSwitch
 returns c = search (needs, unlent)
 
 state-in-requires : tie.Need-state-in-requires

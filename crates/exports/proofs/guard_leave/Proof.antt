@@ -1,12 +1,12 @@
 -- `exports::guard_leave` meets its contract.
 use borrow.Author.Needs.{needs}
-use Rattle.exports.specs.Boundary.{leaveAt}
-use Rattle.exports.proofs.BoundaryLaws.{unlent, run-lent, gone}
+use Rattle.exports.specs.Boundary.{lentSwitch, leaveAt}
+use Rattle.exports.proofs.BoundaryLaws.{unlent, run-lent, exited}
 use Rattle.exports.proofs.guard_leave.Statement.{statement}
 use Rattle.exports.proofs.guard_leave.Tie as tie
 
 returns : tie.Need-returns
-unfolding leaveAt
+unfolding leaveAt lentSwitch
 returns c = search (needs, unlent)
 
 state-in-requires : tie.Need-state-in-requires
@@ -16,7 +16,7 @@ put-called-requires : tie.Need-put-called-requires
 put-called-requires c κs = search (needs, run-lent)
 
 returns-2 : tie.Need-returns-2
-returns-2 c = search (needs, gone)
+returns-2 c = search (needs, exited)
 
 pub guard-leave-spec : {M : Type 1} → statement M
 guard-leave-spec =

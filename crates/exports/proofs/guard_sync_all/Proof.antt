@@ -1,12 +1,12 @@
 -- `exports::guard_sync_all` meets its contract.
 use borrow.Author.Needs.{needs}
-use Rattle.exports.specs.Boundary.{syncAllAt}
+use Rattle.exports.specs.Boundary.{lentSync, syncAllAt}
 use Rattle.exports.proofs.BoundaryLaws.{unlent, run-lent, all-synced}
 use Rattle.exports.proofs.guard_sync_all.Statement.{statement}
 use Rattle.exports.proofs.guard_sync_all.Tie as tie
 
 returns : tie.Need-returns
-unfolding syncAllAt
+unfolding syncAllAt lentSync
 returns c = search (needs, unlent)
 
 state-in-requires : tie.Need-state-in-requires

@@ -1,12 +1,12 @@
 -- `exports::guard_sync_page` meets its contract.
 use borrow.Author.Needs.{needs}
-use Rattle.exports.specs.Boundary.{syncPageAt}
+use Rattle.exports.specs.Boundary.{lentSync, syncPageAt}
 use Rattle.exports.proofs.BoundaryLaws.{unlent, run-lent, page-synced}
 use Rattle.exports.proofs.guard_sync_page.Statement.{statement}
 use Rattle.exports.proofs.guard_sync_page.Tie as tie
 
 returns : tie.Need-returns
-unfolding syncPageAt
+unfolding syncPageAt lentSync
 returns c = search (needs, unlent)
 
 state-in-requires : tie.Need-state-in-requires

@@ -1,16 +1,15 @@
 -- `exports::wide_words` meets its contract: 65535 is above every V, F and e, and no running page below V.
-use Prim.Native.Nat.{ℕ, _≤_, _<_}
+use Prim.Native.Nat.{ℕ, _<_}
 use mathlib.Core.Bool.{Bool, true, false}
 use mathlib.Core.List.{List, [], _∷_}
-use mathlib.Core.Path.{_≡_, refl, sym, ap, _∙_}
+use mathlib.Core.Path.{_≡_, refl, sym}
 use lib.ListN.{getD}
-use lib.Dec.{leb, ltb, eqb}
+use lib.Dec.{eqb}
 use borrow.Author.Tests.{le-ltb, eqb-true}
-use native.Mathlib.Omega.{arith}
 use Rattle.model.specs.Edges.{both, either, within, pagesInRange, framesInRange, member}
 use Rattle.model.specs.Keeps.{running, modeOf}
 use Rattle.model.specs.Questions.{stateInOrder}
-use Rattle.model.proofs.AskLaws.{both-no, both-no-after}
+use Rattle.model.proofs.AskLaws.{both-no-after}
 use Rattle.exports.specs.Runs.{narrow, field, stateIn}
 use Rattle.exports.specs.Boundary.{WideRefused}
 use Rattle.exports.proofs.WordLaws.{narrow-wide, narrow-below}

@@ -1,12 +1,13 @@
 -- `exports::runs::put_mode` meets its contract.
-use Rattle.exports.specs.Runs.{withMode}
 use borrow.Author.Needs.{needs}
+use Rattle.exports.specs.Runs.{withMode}
+use Rattle.exports.proofs.StateLaws.{running-fits}
 use Rattle.exports.proofs.runs.put_mode.Statement.{statement}
 use Rattle.exports.proofs.runs.put_mode.Tie as tie
 
 returns : tie.Need-returns
 unfolding withMode
-returns c = cc
+returns c = (cc, search (needs, running-fits))
 
 pub put-mode-spec : {M : Type 1} → statement M
 put-mode-spec =
