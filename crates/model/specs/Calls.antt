@@ -8,6 +8,7 @@ use Rattle.model.specs.declared.Mode.{Mode}
 use Rattle.model.specs.declared.Mode.the-variants.{Kernel, User}
 use Rattle.model.specs.declared.Answer.{Answer}
 use Rattle.model.specs.declared.Answer.the-variants.{Done, Refused}
+use Rattle.model.specs.declared.Called.{Called}
 use Rattle.model.specs.Edges.{pageBytes, lastPage}
 use Rattle.model.specs.Keeps.{none, Guard, excludedIn, inUser, modeOf, inMode}
 use Rattle.model.specs.Policy.{Policy, policyOf, startGuard, zeroState}
@@ -47,6 +48,13 @@ pub record Switched : Type 0 where
   pub reply : Reply
   pub state : State
   pub shadow : List ℕ
+
+-- What a call gave, in that form; of a mode switch with the shadow table that it left.
+unfoldable pub movedBy : Called → Moved
+movedBy r = record { reply = replyOf (r .answer); state = r .state }
+
+unfoldable pub switchedBy : Called → List ℕ → Switched
+switchedBy r shadow = record { reply = replyOf (r .answer); state = r .state; shadow = shadow }
 
 pub record Synced : Type 0 where
   pub reply : Reply

@@ -46,6 +46,12 @@ pub enum Answer {
     Refused(u64),
 }
 
+// What a call that may change the state gives: its answer, and the state after it.
+pub struct Called {
+    pub answer: Answer,
+    pub state: State,
+}
+
 // Document 01, C1 to C12: every row of the table holds of the definitions.
 pub fn twelve_cases()
     ensures { λ _. ⌜ Hold cases ⌝ }

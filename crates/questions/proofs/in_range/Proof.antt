@@ -1,0 +1,14 @@
+-- `questions::in_range` meets its contract.
+use Rattle.model.specs.Edges.{within}
+use borrow.Author.Needs.{needs}
+use Rattle.questions.proofs.in_range.Statement.{statement}
+use Rattle.questions.proofs.in_range.Tie as tie
+
+returns : tie.Need-returns
+unfolding within
+returns c = c .both .ensures
+
+pub in-range-spec : {M : Type 1} → statement M
+in-range-spec =
+    tie.close
+    (tie.spec (λ c κs. search needs) returns)

@@ -1,0 +1,15 @@
+-- `questions::vector_bytes` meets its contract.
+use Rattle.model.specs.Keeps.{vectorBytes}
+use mathlib.Core.Path.{refl}
+use borrow.Author.Needs.{needs}
+use Rattle.questions.proofs.vector_bytes.Statement.{statement}
+use Rattle.questions.proofs.vector_bytes.Tie as tie
+
+returns : tie.Need-returns
+unfolding vectorBytes
+returns c = refl
+
+pub vector-bytes-spec : {M : Type 1} → statement M
+vector-bytes-spec =
+    tie.close
+    (tie.spec (λ c. search needs) returns)

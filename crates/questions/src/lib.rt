@@ -1,0 +1,227 @@
+// The tests behind questions 7, 8 and 9, each a function that a call or a crate above can ask, and the mode of a state.
+// Sums of address and length are exact: no test computes one.
+
+ghost use mathlib.Core.Path.{_≡_};
+ghost use mathlib.Core.List.{[], _∷_};
+ghost use mathlib.Core.Bool.{true};
+ghost use Prim.Native.Nat.{_*_};
+ghost use lib.Dec.{ltb, eqb};
+ghost use lib.ListN.{getD};
+ghost use Rattle.model.specs.Edges;
+ghost use Rattle.model.specs.Keeps;
+ghost use Rattle.model.specs.Edges.{within, pagesInRange, framesInRange, lastByte, lastPage};
+ghost use Rattle.model.specs.Keeps.{vectorBytes, inUser, inMode};
+ghost use Rattle.model.specs.Questions.{stateInOrder, inOrder};
+use model::Mode;
+use model::State;
+
+// The mode.
+
+pub fn in_user(m: Mode) -> bool
+    ensures { λ r. ⌜ r ≡ inUser m ⌝ }
+{
+    match m {
+        Mode::Kernel(_) => false,
+        Mode::User(_) => true,
+    }
+}
+
+// The page now running.
+pub fn running(m: Mode) -> u16
+    ensures { λ r. ⌜ r ≡ Keeps.running m ⌝ }
+{
+    match m {
+        Mode::Kernel(page) => page,
+        Mode::User(page) => page,
+    }
+}
+
+// The state with another mode: the one place where a state is made anew.
+pub fn in_mode(s: State, m: Mode) -> State
+    ensures { λ r. ⌜ r ≡ inMode s m ⌝ }
+{
+    let entry = s.entry;
+    State {
+        pages: s.pages,
+        frames: s.frames,
+        entries: s.entries,
+        entry,
+        mode: m,
+    }
+}
+
+// Both answers are yes.
+pub fn both(a: bool, b: bool) -> bool
+    ensures { λ r. ⌜ r ≡ Edges.both a b ⌝ }
+{
+    a && b
+}
+
+// x is from low to high, both ends included.
+pub fn in_range(low: u64, high: u64, x: u64) -> bool
+    ensures { λ r. ⌜ r ≡ within low high x ⌝ }
+{
+    both(low <= x, x <= high)
+}
+
+// Question 7: the state, and the length of every lent table.
+
+pub fn pages_in_range(pages: u16) -> bool
+    ensures { λ r. ⌜ r ≡ pagesInRange pages ⌝ }
+{
+    in_range(1, 2048, pages as u64)
+}
+
+pub fn frames_in_range(frames: u16) -> bool
+    ensures { λ r. ⌜ r ≡ framesInRange frames ⌝ }
+{
+    in_range(1, 4096, frames as u64)
+}
+
+pub fn state_in_order(s: State) -> bool
+    ensures { λ r. ⌜ r ≡ stateInOrder s ⌝ }
+{
+    let mode = s.mode;
+    let entries = in_range(1, 16, s.entries as u64);
+    let runs = running(mode) < s.pages;
+    both(
+        pages_in_range(s.pages),
+        both(frames_in_range(s.frames), both(entries, runs)),
+    )
+}
+
+// The length of the exclusion vector.
+pub fn vector_bytes(frames: u16) -> usize
+    ensures { λ r. ⌜ r ≡ vectorBytes frames ⌝ }
+{
+    (frames as usize + 7) / 8
+}
+
+// A table with an entry for each page.
+pub fn entries_fit(length: usize, pages: u16) -> bool
+    ensures { λ r. ⌜ r ≡ eqb length pages ⌝ }
+{
+    length == pages as usize
+}
+
+// A vector with a bit for each frame.
+pub fn vector_fits(length: usize, frames: u16) -> bool
+    ensures { λ r. ⌜ r ≡ eqb length (vectorBytes frames) ⌝ }
+{
+    length == vector_bytes(frames)
+}
+
+// Question 7 of the start, by the record's V and F: there is no state yet.
+pub fn start_in_order(pages: u16, frames: u16, shadow: usize, map: usize, exclusion: usize) -> bool
+    ensures { λ r. ⌜ r ≡ inOrder true (eqb shadow pages ∷ eqb map pages ∷ eqb exclusion (vectorBytes frames) ∷ []) ⌝ }
+{
+    both(
+        entries_fit(shadow, pages),
+        both(
+            entries_fit(map, pages),
+            both(vector_fits(exclusion, frames), true),
+        ),
+    )
+}
+
+// Question 7 of synchronise one and all.
+pub fn sync_in_order(s: State, kernel: usize, shadow: usize, map: usize, exclusion: usize) -> bool
+    ensures { λ r. ⌜ r ≡ inOrder (stateInOrder s) (eqb kernel (s .pages) ∷ eqb shadow (s .pages) ∷ eqb map (s .pages) ∷ eqb exclusion (vectorBytes (s .frames)) ∷ []) ⌝ }
+{
+    let tables = both(vector_fits(exclusion, s.frames), state_in_order(s));
+    both(
+        entries_fit(kernel, s.pages),
+        both(
+            entries_fit(shadow, s.pages),
+            both(entries_fit(map, s.pages), tables),
+        ),
+    )
+}
+
+// Question 7 of fetch, enter and leave, which are lent the shadow table alone.
+pub fn shadow_in_order(s: State, shadow: usize) -> bool
+    ensures { λ r. ⌜ r ≡ inOrder (stateInOrder s) (eqb shadow (s .pages) ∷ []) ⌝ }
+{
+    both(entries_fit(shadow, s.pages), state_in_order(s))
+}
+
+// Question 7 of a write.
+pub fn write_in_order(s: State, shadow: usize, exclusion: usize) -> bool
+    ensures { λ r. ⌜ r ≡ inOrder (stateInOrder s) (eqb shadow (s .pages) ∷ eqb exclusion (vectorBytes (s .frames)) ∷ []) ⌝ }
+{
+    both(
+        entries_fit(shadow, s.pages),
+        both(vector_fits(exclusion, s.frames), state_in_order(s)),
+    )
+}
+
+// Question 7 of a device write.
+pub fn device_write_in_order(s: State, exclusion: usize) -> bool
+    ensures { λ r. ⌜ r ≡ inOrder (stateInOrder s) (eqb exclusion (vectorBytes (s .frames)) ∷ []) ⌝ }
+{
+    both(vector_fits(exclusion, s.frames), state_in_order(s))
+}
+
+// Question 8.
+
+pub fn write_length(length: u64) -> bool
+    ensures { λ r. ⌜ r ≡ within 1 16 length ⌝ }
+{
+    in_range(1, 16, length)
+}
+
+pub fn device_length(length: u64) -> bool
+    ensures { λ r. ⌜ r ≡ within 1 1048576 length ⌝ }
+{
+    in_range(1, 1048576, length)
+}
+
+// Question 9.
+
+pub fn page_exists(page: u64, pages: u16) -> bool
+    ensures { λ r. ⌜ r ≡ ltb page pages ⌝ }
+{
+    page < pages as u64
+}
+
+// The last byte of a run of bytes is below a limit. A run of no bytes ends one below its address, or at 0.
+pub fn ends_below(address: u64, length: u64, limit: u64) -> bool
+    ensures { λ r. ⌜ r ≡ ltb (lastByte address length) limit ⌝ }
+{
+    if limit == 0 {
+        return false;
+    }
+    if limit < address {
+        return false;
+    }
+    length <= limit - address
+}
+
+// The page of a write's last byte is below V.
+pub fn write_exists(address: u64, length: u64, pages: u16) -> bool
+    ensures { λ r. ⌜ r ≡ ltb (lastPage address length) pages ⌝ }
+{
+    ends_below(address, length, pages as u64 * 4096)
+}
+
+// A transfer's last byte is below F frames.
+pub fn transfer_exists(address: u64, length: u64, frames: u16) -> bool
+    ensures { λ r. ⌜ r ≡ ltb (lastByte address length) (frames * 4096) ⌝ }
+{
+    ends_below(address, length, frames as u64 * 4096)
+}
+
+// The page of an entry index, and 0 where there is no such index.
+pub fn entry_page(s: State, index: u64) -> u16
+    ensures { λ r. ⌜ r ≡ getD (s .entry) index 0 ⌝ }
+{
+    let entry = s.entry;
+    if index < 16 { entry[index as usize] } else { 0 }
+}
+
+// An entry index is below e, and its page below V.
+pub fn entry_exists(s: State, index: u64) -> bool
+    ensures { λ r. ⌜ r ≡ Edges.both (ltb index (s .entries)) (ltb (getD (s .entry) index 0) (s .pages)) ⌝ }
+{
+    both(index < s.entries as u64, entry_page(s, index) < s.pages)
+}
