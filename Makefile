@@ -1,4 +1,8 @@
 # The commands of the README.
-.PHONY: test
+.PHONY: drill test
+drill:
+	rt check drill
+	target/bin/drill < crates/drill/stdin
+
 test:
 	bash tests/all

@@ -2,3 +2,19 @@
 pub mod AskLaws
 mod Computed
 pub mod TouchLaws
+pub mod BitLaws
+pub mod TableLaws
+pub mod PolicyLaws
+mod Computed
+pub mod VectorLaws
+pub mod CallLaws
+pub mod TouchLaws
+pub mod RunLaws
+pub mod SwitchLaws
+pub mod ClaimPages
+pub mod ClaimKept
+pub mod ClaimAsks
+pub mod ClaimCalls
+pub mod ClaimSafe
+pub mod ClaimStart
+pub mod ClaimLists

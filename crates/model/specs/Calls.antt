@@ -16,18 +16,19 @@ use Rattle.model.specs.Bits.{frameOf}
 use Rattle.model.specs.Sync.{Rules, Place, step, differs, Run, runOver, switchedAll, changes}
 use Rattle.model.specs.Questions.{Ask, firstNo, seen, startAsks, syncPageAsks, syncAllAsks, fetchAsks, writeAsks, enterAsks, leaveAsks, deviceWriteAsks}
 
--- The number of the question that refused a call, or 0, and the call's two numbers.
+-- Whether a call was accepted; the number of the question that refused it, or 0; and the call's two numbers.
 pub record Reply : Type 0 where
+  pub allowed : Bool
   pub number : ℕ
   pub first : ℕ
   pub second : ℕ
 
 -- "The first no gives its number, with the call's other numbers 0."
 abbrev pub refused : ℕ → Reply
-refused number = record { number = number; first = 0; second = 0 }
+refused number = record { allowed = false; number = number; first = 0; second = 0 }
 
 abbrev pub accepted : ℕ → ℕ → Reply
-accepted first second = record { number = 0; first = first; second = second }
+accepted first second = record { allowed = true; number = 0; first = first; second = second }
 
 -- The number and the two values of an answer.
 unfoldable pub replyOf : Answer → Reply
@@ -60,6 +61,10 @@ pub record Synced : Type 0 where
   pub reply : Reply
   pub shadow : List ℕ
   pub map : List ℕ
+
+-- What a synchronising call gave, with the two tables that it left, in that form.
+unfoldable pub syncedBy : Answer → List ℕ → List ℕ → Synced
+syncedBy r shadow map = record { reply = replyOf r; shadow = shadow; map = map }
 
 pub record Outcome : Type 0 where
   pub reply : Reply

@@ -1,10 +1,10 @@
 -- Demand 3: one claim about every list of calls after an accepted start.
-use Prim.Native.Nat.{ℕ, _+_, _*_, _/_, _%_, _<_, _≤_}
+use Prim.Native.Nat.{ℕ, _+_, _-_, _*_, _/_, _%_, _<_, _≤_}
 use mathlib.Core.Bool.{Bool, true, false}
 use mathlib.Core.List.{List, [], _∷_}
 use mathlib.Core.Path.{_≡_}
 use lib.ListN.{length, getD}
-use Rattle.model.specs.Edges.{pageBytes, lastPage}
+use Rattle.model.specs.Edges.{pageBytes}
 use Rattle.model.specs.Keeps.{none, Guard, vectorBytes, inUser}
 use Rattle.model.specs.Policy.{Policy, policyOf, named}
 use Rattle.model.specs.Bits.{frameOf}
@@ -22,63 +22,72 @@ pub record Agree (policy : Policy) (g : Guard) (ps : ℕ → Page) : Type 0 wher
   pub entry : (p : ℕ) → p < policy .pages → getD (g .shadow) p 0 ≡ (ps p) .entry
   pub approval : (p : ℕ) → p < policy .pages → getD (g .map) p none ≡ (ps p) .approval
 
+-- The frames that a list carries through its calls: those of which no allowed write or transfer covers a byte, and those that kernel code may be
+-- fetched from. In the base both are the frames named in the policy.
+pub record Carried : Type 0 where
+  pub protected : ℕ → Bool
+  pub code : ℕ → Bool
+
+unfoldable pub carriedFirst : Policy → Carried
+carriedFirst policy = record { protected = named policy; code = named policy }
+
+-- Both after a call that was settled with this number, with the one-page guards as they were at the call. In the base no call changes them.
+unfoldable pub carriedAfter : ℕ → Call → (ℕ → Page) → Carried → Carried
+carriedAfter number call ps carried = carried
+
 -- "Frame f is the 4,096 bytes from f × 4,096; memory beyond the last frame begins at F × 4,096." Byte x of memory lies in no protected frame
 -- and not beyond the last frame.
-pub record Clear (policy : Policy) (protected : ℕ → Bool) (x : ℕ) : Type 0 where
+pub record Clear (policy : Policy) (carried : Carried) (x : ℕ) : Type 0 where
   pub below : x < policy .frames * pageBytes
-  pub unprotected : protected (x / pageBytes) ≡ false
+  pub unprotected : carried .protected (x / pageBytes) ≡ false
 
 -- "Each byte of an allowed write, at address a, covers byte a mod 4,096 of the frame in the entry of the one-page guard of page a / 4,096,
 -- rounded down."
 unfoldable pub coveredBy : (ℕ → Page) → ℕ → ℕ
 coveredBy ps a = frameOf ((ps (a / pageBytes)) .entry) * pageBytes + a % pageBytes
 
--- "An allowed fetch of p reads the frame in the entry of p's one-page guard"; it answers this frame twice, and in kernel mode it is a frame
--- named in the policy.
-pub record FetchSafe (policy : Policy) (ps : ℕ → Page) (page : ℕ) (reply : Reply) : Type 0 where
+-- "An allowed fetch of p reads the frame in the entry of p's one-page guard"; it answers this frame twice, and in kernel mode it is one that kernel
+-- code may be fetched from.
+pub record FetchSafe (carried : Carried) (ps : ℕ → Page) (page : ℕ) (reply : Reply) : Type 0 where
   pub first : reply .first ≡ frameOf ((ps page) .entry)
   pub second : reply .second ≡ frameOf ((ps page) .entry)
-  pub code : (ps page) .user ≡ false → named policy (frameOf ((ps page) .entry)) ≡ true
+  pub code : (ps page) .user ≡ false → carried .code (frameOf ((ps page) .entry)) ≡ true
 
 -- An allowed write answers the frames of its first and last byte, and every byte of it covers a clear byte.
-pub record WriteSafe (policy : Policy) (protected : ℕ → Bool) (ps : ℕ → Page) (address length : ℕ) (reply : Reply) : Type 0 where
+pub record WriteSafe (policy : Policy) (carried : Carried) (ps : ℕ → Page) (address size : ℕ) (reply : Reply) : Type 0 where
   pub first : reply .first ≡ frameOf ((ps (address / pageBytes)) .entry)
-  pub second : reply .second ≡ frameOf ((ps (lastPage address length)) .entry)
-  pub bytes : (a : ℕ) → address ≤ a → a < address + length → Clear policy protected (coveredBy ps a)
+  pub second : reply .second ≡ frameOf ((ps ((address + size - 1) / pageBytes)) .entry)
+  pub bytes : (a : ℕ) → address ≤ a → a < address + size → Clear policy carried (coveredBy ps a)
 
 -- "An allowed device write covers its bytes at their own addresses."
-pub record DeviceWriteSafe (policy : Policy) (protected : ℕ → Bool) (address length : ℕ) : Type 0 where
-  pub bytes : (a : ℕ) → address ≤ a → a < address + length → Clear policy protected a
+pub record DeviceWriteSafe (policy : Policy) (carried : Carried) (address size : ℕ) : Type 0 where
+  pub bytes : (a : ℕ) → address ≤ a → a < address + size → Clear policy carried a
 
 -- What an allowed call reads and covers, by the one-page guards as they are at the call.
-abbrev pub Safe : Policy → (ℕ → Bool) → (ℕ → Page) → Call → Reply → Type 0
-Safe policy protected ps (syncPage kernel page) reply = Unit {0}
-Safe policy protected ps (syncAll kernel) reply = Unit {0}
-Safe policy protected ps (fetch page) reply = FetchSafe policy ps page reply
-Safe policy protected ps (write address length) reply = WriteSafe policy protected ps address length reply
-Safe policy protected ps (enter index) reply = Unit {0}
-Safe policy protected ps (leave page) reply = Unit {0}
-Safe policy protected ps (deviceWrite address length) reply = DeviceWriteSafe policy protected address length
-
--- The protected frames after a call that was settled with this number. In the base no call changes them.
-unfoldable pub protectedAfter : ℕ → Call → (ℕ → Bool) → ℕ → Bool
-protectedAfter number call protected = protected
+abbrev pub Safe : Policy → Carried → (ℕ → Page) → Call → Reply → Type 0
+Safe policy carried ps (syncPage kernel page) reply = Unit {0}
+Safe policy carried ps (syncAll kernel) reply = Unit {0}
+Safe policy carried ps (fetch page) reply = FetchSafe carried ps page reply
+Safe policy carried ps (write address size) reply = WriteSafe policy carried ps address size reply
+Safe policy carried ps (enter index) reply = Unit {0}
+Safe policy carried ps (leave page) reply = Unit {0}
+Safe policy carried ps (deviceWrite address size) reply = DeviceWriteSafe policy carried address size
 
 -- The guard and the one-page guards agree now; "the guard answers the same number, or none" as they settle; an allowed call is safe; and all
 -- of this again after the call, for the rest of the list.
-abbrev pub Always : Policy → (ℕ → Bool) → Guard → (ℕ → Page) → List Call → Type 0
-Always policy protected g ps [] = Agree policy g ps
-Always policy protected g ps (call ∷ calls) =
+abbrev pub Always : Policy → Carried → Guard → (ℕ → Page) → List Call → Type 0
+Always policy carried g ps [] = Agree policy g ps
+Always policy carried g ps (call ∷ calls) =
     let number : ℕ = settled policy ps g call in
     let outcome : Outcome = answer g call in
     Agree policy g ps
     × (outcome .reply .number ≡ number)
-    × (number ≡ 0 → Safe policy protected ps call (outcome .reply))
-    × Always policy (protectedAfter number call protected) (outcome .guard) (pagesAfter policy number call ps) calls
+    × (number ≡ 0 → Safe policy carried ps call (outcome .reply))
+    × Always policy (carriedAfter number call ps carried) (outcome .guard) (pagesAfter policy number call ps) calls
 
 -- For every policy record and lent tables whose start is accepted, and every list of calls: no other premise.
 abbrev pub Claim : Type 0
 Claim =
     (bytes shadow map exclusion : List ℕ) (calls : List Call) →
     (startOf bytes shadow map exclusion) .reply .number ≡ 0 →
-    Always (policyOf bytes) (named (policyOf bytes)) ((startOf bytes shadow map exclusion) .guard) (firstPage (policyOf bytes)) calls
+    Always (policyOf bytes) (carriedFirst (policyOf bytes)) ((startOf bytes shadow map exclusion) .guard) (firstPage (policyOf bytes)) calls

@@ -12,3 +12,4 @@ pub mod Claim
 pub mod Drill
 pub mod Worked
 pub mod Cases
+pub mod Further

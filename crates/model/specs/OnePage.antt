@@ -1,13 +1,13 @@
 -- Document 01, "The list and the one-page guard of demand 3", second part: the one-page guard of a page, and how the one-page guards
 -- settle a call. A one-page guard is a function of the policy, of what it holds and of what it is told, and of no call, table or other page.
-use Prim.Native.Nat.{ℕ, _+_}
+use Prim.Native.Nat.{ℕ, suc}
 use mathlib.Core.Bool.{Bool, true, false, cond}
-use mathlib.Core.List.{List}
+use mathlib.Core.List.{List, [], _∷_}
 use lib.ListN.{length, getD}
 use lib.Dec.{eqb}
 use Rattle.model.specs.Edges.{member}
 use Rattle.model.specs.Keeps.{none, Guard}
-use Rattle.model.specs.Policy.{Policy, frameFor, named, entryPages}
+use Rattle.model.specs.Policy.{Policy, named, entryPages}
 use Rattle.model.specs.Bits.{approved, switched}
 use Rattle.model.specs.Sync.{Place, step}
 use Rattle.model.specs.Questions.{View, firstNo, syncPageAsks, syncAllAsks, fetchAsks, writeAsks, enterAsks, leaveAsks, deviceWriteAsks}
@@ -30,11 +30,16 @@ pub data News : Type 0 where
   left : News
   nothing : News
 
+-- The place of p in the record's first array: how many numbers stand before it.
+unfoldable pub placeIn : ℕ → List ℕ → ℕ
+placeIn p [] = 0
+placeIn p (q ∷ qs) = cond (eqb p q) 0 (suc (placeIn p qs))
+
 -- "Start: kernel mode. If p is listed, the approval is its listed frame and the entry the approved one for it; else 65535 and 0."
 unfoldable pub firstPage : Policy → ℕ → Page
 firstPage policy p =
     let listed : Bool = member p (policy .listed) in
-    let frame : ℕ = frameFor (policy .listed) (policy .backing) p none in
+    let frame : ℕ = getD (policy .backing) (placeIn p (policy .listed)) 0 in
     record {
       user = false;
       entry = cond listed (approved false frame) 0;

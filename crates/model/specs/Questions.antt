@@ -102,11 +102,12 @@ startAsks bytes policy shadowLength mapLength exclusionLength =
     ∷ ask 7 (inOrder true (eqb shadowLength (policy .pages) ∷ eqb mapLength (policy .pages) ∷ eqb exclusionLength (vectorBytes (policy .frames)) ∷ []))
     ∷ []
 
--- Synchronise one page: the kernel table is lent too, and has a length of its own.
+-- Synchronise all: the kernel table is lent too, and has a length of its own.
 unfoldable pub syncAllAsks : View → ℕ → List Ask
 syncAllAsks v kernelLength =
     ask 7 (inOrder (v .stateFits) (eqb kernelLength (v .pages) ∷ v .shadowFits ∷ v .mapFits ∷ v .exclusionFits ∷ [])) ∷ []
 
+-- Synchronise one: "page below V" besides.
 unfoldable pub syncPageAsks : View → ℕ → ℕ → List Ask
 syncPageAsks v kernelLength page =
     ask 7 (inOrder (v .stateFits) (eqb kernelLength (v .pages) ∷ v .shadowFits ∷ v .mapFits ∷ v .exclusionFits ∷ []))

@@ -53,6 +53,9 @@ pub record Run : Type 0 where
   pub changed : ℕ
   pub joined : ℕ
 
+abbrev pub run : List ℕ → List ℕ → ℕ → ℕ → Run
+run shadow map changed joined = record { shadow = shadow; map = map; changed = changed; joined = joined }
+
 -- A run whose first place had the entry s and the number m and has now the place p.
 unfoldable pub before : ℕ → ℕ → Place → Run → Run
 before s m p rest =

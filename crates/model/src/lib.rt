@@ -2,8 +2,11 @@
 // The definitions themselves stand in specs/, one file for each section of document 01.
 
 ghost use mathlib.Core.Path.{_≡_};
+ghost use mathlib.Core.List.{_++_};
 ghost use Rattle.model.specs.Cases.{cases, Hold};
+ghost use Rattle.model.specs.Claim.{Claim};
 ghost use Rattle.model.specs.Drill.{drillOutput};
+ghost use Rattle.model.specs.Further.{startCases, syncCases, accessCases, switchCases};
 ghost use Rattle.model.specs.Worked.{workedInput, workedOutput};
 
 // Document 01, "What the guard keeps": the mode, kernel or user, together with the page now running.
@@ -57,7 +60,17 @@ pub fn twelve_cases()
     ensures { λ _. ⌜ Hold cases ⌝ }
 {}
 
+// Cases beside the twelve: the calls and refusals that those do not make.
+pub fn further_cases()
+    ensures { λ _. ⌜ Hold (startCases ++ syncCases ++ accessCases ++ switchCases) ⌝ }
+{}
+
 // Document 01, the worked example: every byte of its output follows from the drill's definitions.
 pub fn worked_example()
     ensures { λ _. ⌜ drillOutput workedInput ≡ workedOutput ⌝ }
+{}
+
+// Demand 3: one claim about every list of calls after an accepted start.
+pub fn every_list()
+    ensures { λ _. ⌜ Claim ⌝ }
 {}

@@ -10,7 +10,7 @@ ghost use lib.ListN.{getD};
 ghost use Rattle.model.specs.Edges;
 ghost use Rattle.model.specs.Keeps;
 ghost use Rattle.model.specs.Edges.{within, pagesInRange, framesInRange, lastByte, lastPage};
-ghost use Rattle.model.specs.Keeps.{vectorBytes, inUser, inMode};
+ghost use Rattle.model.specs.Keeps.{vectorBytes, inUser, modeOf, inMode};
 ghost use Rattle.model.specs.Questions.{stateInOrder, inOrder};
 use model::Mode;
 use model::State;
@@ -33,6 +33,16 @@ pub fn running(m: Mode) -> u16
     match m {
         Mode::Kernel(page) => page,
         Mode::User(page) => page,
+    }
+}
+
+// The same mode, with another page running.
+pub fn on_page(m: Mode, page: u16) -> Mode
+    ensures { λ r. ⌜ r ≡ modeOf (inUser m) page ⌝ }
+{
+    match m {
+        Mode::Kernel(_) => Mode::Kernel(page),
+        Mode::User(_) => Mode::User(page),
     }
 }
 

@@ -1,0 +1,5 @@
+-- Laws that the proofs of this crate cite.
+pub mod UserLaws
+pub mod FetchLaws
+pub mod WriteLaws
+pub mod TransferLaws

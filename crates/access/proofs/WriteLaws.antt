@@ -1,0 +1,167 @@
+-- Laws of a write: what it answers by the first no of its questions, and the bounds that its code needs on the way.
+use Prim.Native.Nat.{ℕ, _/_, _<_, _≤_, _^_}
+use mathlib.Core.Bool.{Bool, true, false, not}
+use mathlib.Core.List.{List, [], _∷_}
+use mathlib.Core.Path.{_≡_, refl, sym, _∙_}
+use lib.ListN.{length, getD}
+use lib.Dec.{ltb, eqb}
+use mir.Syntax.{w16}
+use mir.Val.{Fits}
+use borrow.Author.Tests.{not-true, not-false, ltb-true, eqb-true}
+use native.Mathlib.Omega.{arith}
+use Rattle.model.specs.declared.State.{State}
+use Rattle.model.specs.declared.Answer.the-variants.{Done, Refused}
+use Rattle.model.specs.Edges.{both, either, within, lastPage}
+use Rattle.model.specs.Keeps.{vectorBytes, inUser}
+use Rattle.model.specs.Bits.{present, frameOf}
+use Rattle.model.specs.Questions.{firstNo, seen, stateInOrder, inOrder, writePermitted, free, writeAsks}
+use Rattle.model.specs.Calls.{replyOf, writeOf}
+use Rattle.model.proofs.AskLaws.{both-first, both-second, within-low, firstNo-yes, firstNo-no, asked, numbered, all-yes, settle-accepted}
+use Rattle.model.proofs.CallLaws.{passed, passed-always, stopped, none-left, settle-refused-by, pages-few}
+use Rattle.model.proofs.TouchLaws.{first-up-to-last, touched-both}
+use Rattle.access.specs.Lent.{lent, freeIn, entryAsks}
+
+-- Questions 11 to 13, of the two entries. a and b are what the code found of each.
+module _ (user : Bool) (frames first last : ℕ) (exclusion : List ℕ) where
+  module _ (a b r : Bool) (ea : a ≡ present first) (eb : b ≡ present last) (e : r ≡ both a b) where
+    one : r ≡ both (present first) (present last)
+    one = rw (← ea, ← eb) e
+
+    pub entries-absent : not r ≡ true → 11 ≡ firstNo (entryAsks user frames exclusion first last)
+    unfolding entryAsks
+    entries-absent n = stopped 11 r _ _ one n
+
+    module _ (y : not r ≡ false) (a′ b′ r′ : Bool) (ea′ : a′ ≡ writePermitted user first) (eb′ : b′ ≡ writePermitted user last)
+        (e′ : r′ ≡ both a′ b′) where
+      two : r′ ≡ both (writePermitted user first) (writePermitted user last)
+      two = rw (← ea′, ← eb′) e′
+
+      pub entries-not-permitted : not r′ ≡ true → 12 ≡ firstNo (entryAsks user frames exclusion first last)
+      unfolding entryAsks
+      entries-not-permitted n = passed 11 12 r _ _ one y (stopped 12 r′ _ _ two n)
+
+      module _ (y′ : not r′ ≡ false) (f g : ℕ) (a″ b″ r″ : Bool) (ef : f ≡ frameOf first) (eg : g ≡ frameOf last)
+          (ea″ : a″ ≡ freeIn frames exclusion f) (eb″ : b″ ≡ freeIn frames exclusion g) (e″ : r″ ≡ both a″ b″) where
+        three : r″ ≡ both (freeIn frames exclusion (frameOf first)) (freeIn frames exclusion (frameOf last))
+        three = rw (← ef, ← eg, ← ea″, ← eb″) e″
+
+        pub entries-excluded : not r″ ≡ true → 13 ≡ firstNo (entryAsks user frames exclusion first last)
+        unfolding entryAsks
+        entries-excluded n = passed 11 13 r _ _ one y (passed 12 13 r′ _ _ two y′ (stopped 13 r″ _ _ three n))
+
+        pub entries-fit : not r″ ≡ false → 0 ≡ firstNo (entryAsks user frames exclusion first last)
+        unfolding entryAsks
+        entries-fit y″ = passed 11 0 r _ _ one y (passed 12 0 r′ _ _ two y′ (passed 13 0 r″ _ _ three y″ none-left))
+
+-- Where a write lies that passed questions 8 and 9, of V that fits its 16 bits.
+module _ (address length pages : ℕ) (r8 r9 : Bool) (e8 : r8 ≡ within 1 16 length) (y8 : not r8 ≡ false)
+    (e9 : r9 ≡ ltb (lastPage address length) pages) (y9 : not r9 ≡ false) where
+  pub write-last : Fits w16 pages → (1 ≤ length) × (lastPage address length < 65536)
+  write-last f =
+      let b : lastPage address length < pages = ltb-true _ _ (sym e9 ∙ not-false r9 y9) in
+      let p : pages < 2 ^ 16 = f .fits in
+      (within-low 1 16 length (sym e8 ∙ not-false r8 y8), omega arith)
+
+  pub first-in : (long : ℕ) → long ≡ pages → address / 4096 < long
+  first-in long l =
+      let b : lastPage address length < pages = ltb-true _ _ (sym e9 ∙ not-false r9 y9) in
+      let f : address / 4096 ≤ lastPage address length = first-up-to-last address length (within-low 1 16 length (sym e8 ∙ not-false r8 y8)) in
+      omega arith
+
+pub last-in : (address length pages page long : ℕ) (r9 : Bool) → r9 ≡ ltb (lastPage address length) pages → not r9 ≡ false
+    → long ≡ pages → page ≡ lastPage address length → page < long
+last-in address length pages page long r9 e9 y9 l p =
+    let b : lastPage address length < pages = ltb-true _ _ (sym e9 ∙ not-false r9 y9) in
+    omega arith
+
+-- The questions after 7, at each answer.
+module _ (user : Bool) (pages frames address length : ℕ) (shadow exclusion : List ℕ) (r8 : Bool) (e8 : r8 ≡ within 1 16 length) where
+  pub write-unlike : not r8 ≡ true → 8 ≡ firstNo (writeAsks (lent user pages frames shadow exclusion) address length)
+  unfolding writeAsks inOrder both
+  write-unlike n8 = passed-always 7 8 _ (stopped 8 r8 _ _ e8 n8)
+
+  module _ (y8 : not r8 ≡ false) (r9 : Bool) (e9 : r9 ≡ ltb (lastPage address length) pages) where
+    pub write-absent : not r9 ≡ true → 9 ≡ firstNo (writeAsks (lent user pages frames shadow exclusion) address length)
+    unfolding writeAsks inOrder both
+    write-absent n9 = passed-always 7 9 _ (passed 8 9 r8 _ _ e8 y8 (stopped 9 r9 _ _ e9 n9))
+
+    pub write-entries : not r9 ≡ false → (number page : ℕ) → page ≡ lastPage address length
+        → number ≡ firstNo (entryAsks user frames exclusion (getD shadow (address / 4096) 0) (getD shadow page 0))
+        → number ≡ firstNo (writeAsks (lent user pages frames shadow exclusion) address length)
+    unfolding writeAsks inOrder both entryAsks free freeIn
+    write-entries y9 number page p e =
+        let w : within 1 16 length ≡ true = sym e8 ∙ not-false r8 y8 in
+        passed-always 7 number _
+        (passed 8 number r8 _ _ e8 y8
+        (passed 9 number r9 _ _ e9 y9
+        (rw (
+          touched-both (λ q. present (getD shadow q 0)) address length w,
+          touched-both (λ q. writePermitted user (getD shadow q 0)) address length w,
+          touched-both (λ q. freeIn frames exclusion (frameOf (getD shadow q 0))) address length w,
+        )
+        (rw p at e))))
+
+-- An accepted write has 1 to 16 bytes, and its last page is below V.
+module _ (user : Bool) (pages frames address length number : ℕ) (shadow exclusion : List ℕ)
+    (e : number ≡ firstNo (writeAsks (lent user pages frames shadow exclusion) address length)) (z : number ≡ 0) where
+  written-long : 1 ≤ length
+  unfolding writeAsks asked numbered both either
+  written-long =
+      within-low 1 16 length (both-first _ _ (all-yes 8 (writeAsks (lent user pages frames shadow exclusion) address length) refl (sym e ∙ z)))
+
+  written-below : lastPage address length < pages
+  unfolding writeAsks asked numbered both either
+  written-below =
+      ltb-true (lastPage address length) pages
+      (both-first _ _ (all-yes 9 (writeAsks (lent user pages frames shadow exclusion) address length) refl (sym e ∙ z)))
+
+-- Question 7 of a write: the shadow table has V entries.
+pub write-tables : (s : State) (long bytes : ℕ) (r7 : Bool)
+    → r7 ≡ inOrder (stateInOrder s) (eqb long (s .pages) ∷ eqb bytes (vectorBytes (s .frames)) ∷ []) → not r7 ≡ false → long ≡ s .pages
+unfolding inOrder
+write-tables s long bytes r7 p q = eqb-true long (s .pages) (both-first _ _ (sym p ∙ not-false r7 q))
+
+module _ (s : State) (shadow exclusion : List ℕ) (address length : ℕ) (r7 : Bool)
+    (p : r7 ≡ inOrder (stateInOrder s) (eqb (lib.ListN.length shadow) (s .pages) ∷ eqb (lib.ListN.length exclusion) (vectorBytes (s .frames)) ∷ [])) where
+  pub write-unfit : not r7 ≡ true → replyOf (Refused 7) ≡ writeOf s shadow exclusion address length
+  unfolding replyOf writeOf writeAsks
+  write-unfit q = sym (settle-refused-by 7 _ _ (λ z. omega arith) (firstNo-no 7 _ (sym p ∙ not-true r7 q)))
+
+  module _ (q : not r7 ≡ false) (user : Bool) (number : ℕ) (u : user ≡ inUser (s .mode))
+      (e : number ≡ firstNo (writeAsks (lent user (s .pages) (s .frames) shadow exclusion) address length)) where
+    write-rest : firstNo (writeAsks (seen s shadow [] exclusion) address length) ≡ number
+    unfolding writeAsks inOrder both free
+    write-rest = firstNo-yes 7 _ (sym p ∙ not-false r7 q) ∙ sym ((rw u at e) ∙ firstNo-yes 7 _ refl)
+
+    pub write-refused : (number ≡ 0 → ⊥) → replyOf (Refused number) ≡ writeOf s shadow exclusion address length
+    unfolding replyOf writeOf
+    write-refused z = sym (settle-refused-by number _ _ z write-rest)
+
+    module _ (z : number ≡ 0) where
+      few : s .pages ≤ 2048
+      unfolding inOrder
+      few = pages-few s (both-second _ _ (both-second _ _ (sym p ∙ not-false r7 q)))
+
+      pub written-last : (1 ≤ length) × (lastPage address length < 65536)
+      written-last =
+          let b : lastPage address length < s .pages = written-below user (s .pages) (s .frames) address length number shadow exclusion e z in
+          let f : s .pages ≤ 2048 = few in
+          (written-long user (s .pages) (s .frames) address length number shadow exclusion e z, omega arith)
+
+      pub written-first-in : address / 4096 < lib.ListN.length shadow
+      written-first-in =
+          let b : lastPage address length < s .pages = written-below user (s .pages) (s .frames) address length number shadow exclusion e z in
+          let f : address / 4096 ≤ lastPage address length = first-up-to-last address length (written-last .0) in
+          let l : lib.ListN.length shadow ≡ s .pages = write-tables s _ _ r7 p q in
+          omega arith
+
+      pub written-last-in : (page : ℕ) → page ≡ lastPage address length → page < lib.ListN.length shadow
+      written-last-in page i =
+          let b : lastPage address length < s .pages = written-below user (s .pages) (s .frames) address length number shadow exclusion e z in
+          let l : lib.ListN.length shadow ≡ s .pages = write-tables s _ _ r7 p q in
+          omega arith
+
+      pub write-accepted : (page f g : ℕ) → page ≡ lastPage address length → f ≡ frameOf (getD shadow (address / 4096) 0)
+          → g ≡ frameOf (getD shadow page 0) → replyOf (Done f g) ≡ writeOf s shadow exclusion address length
+      unfolding replyOf writeOf
+      write-accepted page f g i ef eg = rw (ef, eg, i) (sym (settle-accepted _ _ (write-rest ∙ z)))

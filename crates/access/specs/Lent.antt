@@ -1,0 +1,40 @@
+-- What the questions of an access look at once question 7 is answered yes: the mode, V, F and the lent tables alone.
+-- The promises of the public calls do not use this: theirs are the model's.
+use Prim.Native.Nat.{ℕ}
+use mathlib.Core.Bool.{Bool, true, not}
+use mathlib.Core.List.{List, [], _∷_}
+use lib.ListN.{getD}
+use lib.Dec.{ltb}
+use Rattle.model.specs.Edges.{both}
+use Rattle.model.specs.Keeps.{none, excludedIn}
+use Rattle.model.specs.Bits.{present, frameOf}
+use Rattle.model.specs.Questions.{Ask, ask, View, writePermitted}
+
+abbrev pub lent : Bool → ℕ → ℕ → List ℕ → List ℕ → View
+lent user pages frames shadow exclusion =
+    record {
+      pages = pages;
+      frames = frames;
+      entries = 0;
+      entry = λ i. 0;
+      user = user;
+      shadow = λ p. getD shadow p 0;
+      approval = λ p. none;
+      excluded = excludedIn exclusion;
+      stateFits = true;
+      shadowFits = true;
+      mapFits = true;
+      exclusionFits = true;
+    }
+
+-- Question 13 of one frame.
+unfoldable pub freeIn : ℕ → List ℕ → ℕ → Bool
+freeIn frames exclusion f = both (ltb f frames) (not (excludedIn exclusion f))
+
+-- Questions 11 to 13 of a write, of the entries of its first and its last page.
+unfoldable pub entryAsks : Bool → ℕ → List ℕ → ℕ → ℕ → List Ask
+entryAsks user frames exclusion first last =
+    ask 11 (both (present first) (present last))
+    ∷ ask 12 (both (writePermitted user first) (writePermitted user last))
+    ∷ ask 13 (both (freeIn frames exclusion (frameOf first)) (freeIn frames exclusion (frameOf last)))
+    ∷ []

@@ -1,0 +1,210 @@
+// Document 01, "Calls and their two numbers": fetch, write and device write.
+// Each call goes down its questions in order, and does what an accepted call does where none refuses it.
+
+ghost use mathlib.Core.Path.{_≡_};
+ghost use mathlib.Core.Bool.{true, not};
+ghost use mathlib.Core.List.{[]};
+ghost use Prim.Native.Nat.{suc, _-_, _≤_, _<_};
+ghost use lib.ListN.{length};
+ghost use Rattle.model.specs.Edges.{either, everyFrom, lastPage};
+ghost use Rattle.model.specs.Keeps.{excludedIn};
+ghost use Rattle.model.specs.Bits.{userBit};
+ghost use Rattle.model.specs.Questions.{firstNo, fetchPermitted, writePermitted, fetchAsks, writeAsks, deviceWriteAsks};
+ghost use Rattle.model.specs.Calls.{replyOf, movedBy, fetchOf, writeOf, deviceWriteOf};
+ghost use Rattle.access.specs.Lent.{lent, freeIn, entryAsks};
+use model::Answer;
+use model::Called;
+use model::State;
+use questions::both;
+
+// Bit 2, which is asked in user mode only.
+fn user_may(user: bool, entry: u64) -> bool
+    ensures { λ r. ⌜ r ≡ either (not user) (userBit entry) ⌝ }
+{
+    if user { entry::user_bit(entry) } else { true }
+}
+
+// Question 12 of a fetch.
+fn fetch_permitted(user: bool, entry: u64) -> bool
+    ensures { λ r. ⌜ r ≡ fetchPermitted user entry ⌝ }
+{
+    both(!entry::no_execute(entry), user_may(user, entry))
+}
+
+// The number of the question that refuses a fetch, or 0. Question 7 is answered yes, so that the table has V entries.
+fn fetch_refusal(user: bool, pages: u16, shadow: &[u64], page: u64) -> u64
+    requires { ⌜ length (now shadow) ≡ pages ⌝ }
+    ensures { λ r. ⌜ r ≡ firstNo (fetchAsks (lent user pages 0 (now (shadow .entry)) []) page) ⌝ }
+{
+    if !questions::page_exists(page, pages) {
+        return 9;
+    }
+    let entry = shadow[page as usize];
+    if !entry::present(entry) {
+        return 11;
+    }
+    if !fetch_permitted(user, entry) {
+        return 12;
+    }
+    0
+}
+
+pub fn fetch(s: State, shadow: &[u64], page: u64) -> Called
+    ensures { λ r. ⌜ movedBy r ≡ fetchOf s (now (shadow .entry)) page ⌝ }
+{
+    if !questions::shadow_in_order(s, shadow.len()) {
+        return Called {
+            answer: Answer::Refused(7),
+            state: s,
+        };
+    }
+    let mode = s.mode;
+    let number = fetch_refusal(questions::in_user(mode), s.pages, shadow, page);
+    if number != 0 {
+        return Called {
+            answer: Answer::Refused(number),
+            state: s,
+        };
+    }
+    let frame = entry::frame_of(shadow[page as usize]);
+    let running = questions::on_page(mode, (page % 65536) as u16);
+    let state = questions::in_mode(s, running);
+    Called {
+        answer: Answer::Done(frame, frame),
+        state,
+    }
+}
+
+// Question 12 of a write, of one page.
+fn write_permitted(user: bool, entry: u64) -> bool
+    ensures { λ r. ⌜ r ≡ writePermitted user entry ⌝ }
+{
+    both(entry::writable(entry), user_may(user, entry))
+}
+
+// Question 13 of one frame.
+fn frame_free(frames: u16, exclusion: &[u8], frame: u64) -> bool
+    ensures { λ r. ⌜ r ≡ freeIn frames (now (exclusion .entry)) frame ⌝ }
+{
+    both(frame < frames as u64, !bitmap::excluded(exclusion, frame))
+}
+
+// The number of the question that refuses a write by the entries of its first and its last page, or 0.
+fn entries_refusal(user: bool, frames: u16, exclusion: &[u8], first: u64, last: u64) -> u64
+    ensures { λ r. ⌜ r ≡ firstNo (entryAsks user frames (now (exclusion .entry)) first last) ⌝ }
+{
+    if !both(entry::present(first), entry::present(last)) {
+        return 11;
+    }
+    if !both(write_permitted(user, first), write_permitted(user, last)) {
+        return 12;
+    }
+    if !both(
+        frame_free(frames, exclusion, entry::frame_of(first)),
+        frame_free(frames, exclusion, entry::frame_of(last)),
+    ) {
+        return 13;
+    }
+    0
+}
+
+// The page (or frame) of an access's last byte. It asks for what questions 8 and 9 have settled, so that the sum does not wrap.
+fn last_page(address: u64, length: u64) -> u64
+    requires { ⌜ (1 ≤ length) × (lastPage address length < 65536) ⌝ }
+    ensures { λ r. ⌜ r ≡ lastPage address length ⌝ }
+{
+    (address + length - 1) / 4096
+}
+
+// The number of the question that refuses a write, or 0. Question 7 is answered yes, so that the table has V entries.
+// At most 16 bytes touch no page but the first and the last, which may be one.
+fn write_refusal(
+    user: bool,
+    pages: u16,
+    frames: u16,
+    shadow: &[u64],
+    exclusion: &[u8],
+    address: u64,
+    length: u64,
+) -> u64
+    requires { ⌜ lib.ListN.length (now shadow) ≡ pages ⌝ }
+    ensures { λ r. ⌜ r ≡ firstNo (writeAsks (lent user pages frames (now (shadow .entry)) (now (exclusion .entry))) address length) ⌝ }
+{
+    if !questions::write_length(length) {
+        return 8;
+    }
+    if !questions::write_exists(address, length, pages) {
+        return 9;
+    }
+    let first = shadow[(address / 4096) as usize];
+    let page = last_page(address, length);
+    let last = shadow[page as usize];
+    entries_refusal(user, frames, exclusion, first, last)
+}
+
+pub fn write(s: State, shadow: &[u64], exclusion: &[u8], address: u64, length: u64) -> Answer
+    ensures { λ r. ⌜ replyOf r ≡ writeOf s (now (shadow .entry)) (now (exclusion .entry)) address length ⌝ }
+{
+    if !questions::write_in_order(s, shadow.len(), exclusion.len()) {
+        return Answer::Refused(7);
+    }
+    let mode = s.mode;
+    let user = questions::in_user(mode);
+    let number = write_refusal(user, s.pages, s.frames, shadow, exclusion, address, length);
+    if number != 0 {
+        return Answer::Refused(number);
+    }
+    let first = shadow[(address / 4096) as usize];
+    let page = last_page(address, length);
+    let last = shadow[page as usize];
+    Answer::Done(entry::frame_of(first), entry::frame_of(last))
+}
+
+// No frame from first to last is excluded. The last is bounded so that no frame's number wraps.
+fn none_excluded(exclusion: &[u8], first: u64, last: u64) -> bool
+    requires { ⌜ (first ≤ last) × (last < 65536) ⌝ }
+    ensures { λ r. ⌜ r ≡ everyFrom (λ f. not (excludedIn (now (exclusion .entry)) f)) first (suc (last - first)) ⌝ }
+{
+    let mut frame = first;
+    let mut left = last - first + 1;
+    while 0 < left {
+        if bitmap::excluded(exclusion, frame) {
+            return false;
+        }
+        frame += 1;
+        left -= 1;
+    }
+    true
+}
+
+// The number of the question that refuses a device write, or 0. Question 7 is answered yes.
+// Question 9 has settled that every frame touched is below F.
+fn device_write_refusal(frames: u16, exclusion: &[u8], address: u64, length: u64) -> u64
+    ensures { λ r. ⌜ r ≡ firstNo (deviceWriteAsks (lent true 0 frames [] (now (exclusion .entry))) address length) ⌝ }
+{
+    if !questions::device_length(length) {
+        return 8;
+    }
+    if !questions::transfer_exists(address, length, frames) {
+        return 9;
+    }
+    let last = last_page(address, length);
+    if !none_excluded(exclusion, address / 4096, last) {
+        return 13;
+    }
+    0
+}
+
+pub fn device_write(s: State, exclusion: &[u8], address: u64, length: u64) -> Answer
+    ensures { λ r. ⌜ replyOf r ≡ deviceWriteOf s (now (exclusion .entry)) address length ⌝ }
+{
+    if !questions::device_write_in_order(s, exclusion.len()) {
+        return Answer::Refused(7);
+    }
+    let number = device_write_refusal(s.frames, exclusion, address, length);
+    if number != 0 {
+        return Answer::Refused(number);
+    }
+    let last = last_page(address, length);
+    Answer::Done(address / 4096, last)
+}

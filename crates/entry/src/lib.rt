@@ -1,0 +1,135 @@
+// Document 01, "Entry bits": the bits of kernel and shadow entries, kernel entries taken apart, shadow entries made and switched.
+// Every function is total and gives what its definition in the model gives.
+
+use model::Entry;
+use model::Fields;
+ghost use mathlib.Core.Path.{_≡_};
+ghost use mathlib.Core.Bool.{cond};
+ghost use Prim.Native.Nat.{_<_, _≤_, _^_};
+ghost use Rattle.model.specs.Bits.{present, writable, userBit, noExecute, kernelNoExecute, approvedMark, frameOf, takenApart, approved, ordinaryNoExecute, ordinary, noExecuteIn, switched};
+
+// The weights of the bits. Division and remainder by them are shifts and masks.
+const WRITABLE: u64 = 0x2;
+
+const USER: u64 = 0x4;
+
+const KERNEL_NO_EXECUTE: u64 = 0x200;
+
+const APPROVED: u64 = 0x400;
+
+const FRAME: u64 = 0x1000;
+
+const NO_EXECUTE: u64 = 0x8000_0000_0000_0000;
+// One above the largest number that the 40 bits of a frame hold.
+const FRAMES: u64 = 0x100_0000_0000;
+
+pub fn present(entry: u64) -> bool
+    ensures { λ r. ⌜ r ≡ present entry ⌝ }
+{
+    entry % 2 == 1
+}
+
+pub fn writable(entry: u64) -> bool
+    ensures { λ r. ⌜ r ≡ writable entry ⌝ }
+{
+    entry / WRITABLE % 2 == 1
+}
+
+pub fn user_bit(entry: u64) -> bool
+    ensures { λ r. ⌜ r ≡ userBit entry ⌝ }
+{
+    entry / USER % 2 == 1
+}
+
+pub fn kernel_no_execute(entry: u64) -> bool
+    ensures { λ r. ⌜ r ≡ kernelNoExecute entry ⌝ }
+{
+    entry / KERNEL_NO_EXECUTE % 2 == 1
+}
+
+pub fn approved_mark(entry: u64) -> bool
+    ensures { λ r. ⌜ r ≡ approvedMark entry ⌝ }
+{
+    entry / APPROVED % 2 == 1
+}
+
+pub fn no_execute(entry: u64) -> bool
+    ensures { λ r. ⌜ r ≡ noExecute entry ⌝ }
+{
+    entry / NO_EXECUTE % 2 == 1
+}
+
+pub fn frame_of(entry: u64) -> u64
+    ensures { λ r. ⌜ (r ≡ frameOf entry) × (r < 2 ^ 40) ⌝ }
+{
+    entry / FRAME % FRAMES
+}
+
+pub fn take_apart(entry: u64) -> Entry
+    ensures { λ r. ⌜ r ≡ takenApart entry ⌝ }
+{
+    if present(entry) {
+        Entry::Present(Fields {
+            writable: writable(entry),
+            user: user_bit(entry),
+            noexec: no_execute(entry),
+            frame: frame_of(entry),
+        })
+    } else {
+        Entry::Absent
+    }
+}
+
+// The weight where the bit is set. The bound settles that a sum of different weights does not wrap.
+fn flag(b: bool, weight: u64) -> u64
+    ensures { λ r. ⌜ (r ≡ cond b weight 0) × (r ≤ weight) ⌝ }
+{
+    if b { weight } else { 0 }
+}
+
+pub fn approved(user: bool, frame: u16) -> u64
+    ensures { λ r. ⌜ r ≡ approved user frame ⌝ }
+{
+    1 + APPROVED + frame as u64 * FRAME + flag(user, NO_EXECUTE)
+}
+
+// Bit 63 of an ordinary entry.
+fn ordinary_no_execute(user: bool, bit9: bool, bit2: bool) -> bool
+    ensures { λ r. ⌜ r ≡ ordinaryNoExecute user bit9 bit2 ⌝ }
+{
+    !user | bit9 | !bit2
+}
+
+// The frame has 40 bits, as `frame_of` gives it: a larger one would not fit the entry.
+pub fn ordinary(user: bool, x: Fields) -> u64
+    requires { ⌜ x .frame < 2 ^ 40 ⌝ }
+    ensures { λ r. ⌜ r ≡ ordinary user x ⌝ }
+{
+    1
+        + flag(x.writable, WRITABLE)
+        + flag(x.user, USER)
+        + flag(x.noexec, KERNEL_NO_EXECUTE)
+        + x.frame * FRAME
+        + flag(ordinary_no_execute(user, x.noexec, x.user), NO_EXECUTE)
+}
+
+// Bit 63 of a shadow entry after a switch, from its own approved mark and bits 2 and 9.
+fn no_execute_in(user: bool, entry: u64) -> bool
+    ensures { λ r. ⌜ r ≡ noExecuteIn user entry ⌝ }
+{
+    if approved_mark(entry) {
+        user
+    } else {
+        ordinary_no_execute(user, kernel_no_execute(entry), user_bit(entry))
+    }
+}
+
+pub fn switched(user: bool, entry: u64) -> u64
+    ensures { λ r. ⌜ r ≡ switched user entry ⌝ }
+{
+    if present(entry) {
+        entry % NO_EXECUTE + flag(no_execute_in(user, entry), NO_EXECUTE)
+    } else {
+        entry
+    }
+}

@@ -1,0 +1,47 @@
+-- Laws that settle a call from the answers that its code has in hand: r is what a test gave, and the code goes by `!r`.
+use Prim.Native.Nat.{ℕ, zero, suc, _≤_}
+use mathlib.Core.Bool.{Bool, true, false, not}
+use mathlib.Core.List.{List, [], _∷_}
+use mathlib.Core.Path.{_≡_, refl, sym, _∙_}
+use lib.Dec.{eqb}
+use borrow.Author.Tests.{not-true, not-false, eqb-true}
+use Rattle.model.specs.declared.State.{State}
+use Rattle.model.specs.Edges.{pagesInRange, framesInRange}
+use Rattle.model.specs.Questions.{Ask, ask, firstNo, stateInOrder, inOrder}
+use Rattle.model.specs.Calls.{settle}
+use Rattle.model.proofs.AskLaws.{both-first, both-second, within-high, firstNo-yes, firstNo-no}
+
+-- Down the questions: past a yes, past one that is always answered so, at a no, and at the end.
+pub passed : (n k : ℕ) (r b : Bool) (qs : List Ask) → r ≡ b → not r ≡ false → k ≡ firstNo qs → k ≡ firstNo (ask n b ∷ qs)
+passed n k r b qs p q rest = rest ∙ sym (firstNo-yes n qs (sym p ∙ not-false r q))
+
+pub passed-always : (n k : ℕ) (qs : List Ask) → k ≡ firstNo qs → k ≡ firstNo (ask n true ∷ qs)
+passed-always n k qs rest = rest ∙ sym (firstNo-yes n qs refl)
+
+pub stopped : (n : ℕ) (r b : Bool) (qs : List Ask) → r ≡ b → not r ≡ true → n ≡ firstNo (ask n b ∷ qs)
+stopped n r b qs p q = sym (firstNo-no n qs (sym p ∙ not-true r q))
+
+pub none-left : 0 ≡ firstNo []
+unfolding firstNo
+none-left = refl
+
+-- A call that a question refuses: its number is not 0.
+pub settle-refused-by : {A : Type 0} {m : ℕ} (n : ℕ) (done : A) (refusal : ℕ → A) → (n ≡ 0 → ⊥) → m ≡ n
+    → settle m done refusal ≡ refusal n
+unfolding settle
+settle-refused-by zero done refusal t p = absurd (t refl)
+settle-refused-by (suc n) done refusal t p = rw p refl
+
+-- Question 7: V is at most 2,048 and F at most 4,096, and a shadow table that is lent alone has V entries.
+pub pages-few : (s : State) → stateInOrder s ≡ true → s .pages ≤ 2048
+unfolding stateInOrder pagesInRange
+pages-few s p = within-high 1 2048 (s .pages) (both-first _ _ p)
+
+pub frames-few : (s : State) → stateInOrder s ≡ true → s .frames ≤ 4096
+unfolding stateInOrder framesInRange
+frames-few s p = within-high 1 4096 (s .frames) (both-first _ _ (both-second _ _ p))
+
+pub shadow-long : (s : State) (long : ℕ) (r7 : Bool) → r7 ≡ inOrder (stateInOrder s) (eqb long (s .pages) ∷ []) → not r7 ≡ false
+    → long ≡ s .pages
+unfolding inOrder
+shadow-long s long r7 p q = eqb-true long (s .pages) (both-first _ _ (sym p ∙ not-false r7 q))

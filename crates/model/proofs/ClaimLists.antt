@@ -1,0 +1,91 @@
+-- Demand 3: the claim about the whole list, by induction on it. One call at a time, refused or accepted, and then the rest.
+use Prim.Native.Nat.{ℕ, zero, suc}
+use mathlib.Core.List.{List, [], _∷_}
+use mathlib.Core.Path.{_≡_, refl, ap, fun-ext, _∙_}
+use lib.ListN.{length}
+use native.Mathlib.Omega.{arith}
+use Rattle.model.specs.Keeps.{Guard}
+use Rattle.model.specs.Policy.{Policy, policyOf, startGuard}
+use Rattle.model.specs.Questions.{firstNo, startAsks}
+use Rattle.model.specs.Calls.{Outcome, startOf, pageSynced, allSynced, switchTo}
+use Rattle.model.specs.Lists.{Call, syncPage, syncAll, fetch, write, enter, leave, deviceWrite, withSynced, withMoved, withSwitched, withReply, answer}
+use Rattle.model.specs.OnePage.{Page, firstPage, settled, pagesAfter}
+use Rattle.model.specs.Claim.{Agree, Carried, carriedFirst, carriedAfter, Always, Claim}
+use Rattle.model.proofs.AskLaws.{settle-accepted, settle-refused}
+use Rattle.model.proofs.ClaimKept.{Sound, Kept, pageOf, acceptedOf, refusedOf, answered}
+use Rattle.model.proofs.ClaimCalls.{commutes, kept}
+use Rattle.model.proofs.ClaimSafe.{safe}
+use Rattle.model.proofs.ClaimStart.{sound, first-pages, start-kept}
+
+-- An accepted call has no number.
+accepted-number : (g : Guard) (call : Call) → (acceptedOf g call) .reply .number ≡ 0
+unfolding acceptedOf withSynced withMoved withSwitched withReply pageSynced allSynced switchTo
+accepted-number g (syncPage kernel page) = refl
+accepted-number g (syncAll kernel) = refl
+accepted-number g (fetch page) = refl
+accepted-number g (write address size) = refl
+accepted-number g (enter index) = refl
+accepted-number g (leave page) = refl
+accepted-number g (deviceWrite address size) = refl
+
+-- A refused call changes none of the frames that a list carries.
+carried-refused : (n : ℕ) (call : Call) (ps : ℕ → Page) (carried : Carried) → carriedAfter (suc n) call ps carried ≡ carried
+unfolding carriedAfter
+carried-refused n call ps carried = refl
+
+-- The tables agree with the one-page guards that they show.
+agree : (policy : Policy) (carried : Carried) (g : Guard) → Kept policy carried g → Agree policy g (pageOf g)
+agree policy carried g h =
+    record {
+      shadowLength = h .shadowLength;
+      mapLength = h .mapLength;
+      exclusionLength = h .exclusionLength;
+      mode = λ p l. refl;
+      entry = λ p l. refl;
+      approval = λ p l. refl;
+    }
+
+-- What always holds gives the whole of the claim, for any list.
+always : (policy : Policy) → Sound policy → (calls : List Call) (carried : Carried) (g : Guard) → Kept policy carried g
+    → Always policy carried g (pageOf g) calls
+unfolding pagesAfter
+always policy sound [] carried g h = agree policy carried g h
+always policy sound (call ∷ calls) carried g h = by-number (settled policy (pageOf g) g call) refl (always policy sound calls)
+  where
+    number : ℕ
+    number = settled policy (pageOf g) g call
+
+    by-number : (n : ℕ) → number ≡ n
+        → ((still : Carried) (after : Guard) → Kept policy still after → Always policy still after (pageOf after) calls)
+        → Always policy carried g (pageOf g) (call ∷ calls)
+    by-number zero e rest =
+        let outcome : answer g call ≡ acceptedOf g call =
+        answered policy carried g sound h call ∙ settle-accepted (acceptedOf g call) (refusedOf g) e in
+        let pages : pagesAfter policy number call (pageOf g) ≡ pageOf ((acceptedOf g call) .guard) =
+        fun-ext (λ p. settle-accepted _ _ e ∙ commutes policy carried g sound h call e p) in (
+          agree policy carried g h,
+          rw (outcome, e) (accepted-number g call),
+          (λ _. rw outcome (safe policy carried g h call e)),
+          rw (outcome, pages, e) (rest _ _ (kept policy carried g sound h call e)),
+        )
+    by-number (suc n) e rest =
+        let outcome : answer g call ≡ refusedOf g (suc n) =
+        answered policy carried g sound h call ∙ settle-refused n (acceptedOf g call) (refusedOf g) e in
+        let pages : pagesAfter policy number call (pageOf g) ≡ pageOf g = fun-ext (λ p. settle-refused n _ _ e) in
+        (agree policy carried g h, rw (outcome, e) refl, (λ z. absurd (omega arith)), rw (outcome, pages, e, carried-refused) (rest carried g h))
+
+-- The start is settled first: a refused one has a number, and the list of an accepted one begins with what always holds.
+pub claim : Claim
+unfolding startOf
+claim bytes shadow map exclusion calls accepted = by-number (firstNo (startAsks bytes (policyOf bytes) (length shadow) (length map) (length exclusion))) refl
+  where
+    by-number : (n : ℕ) → firstNo (startAsks bytes (policyOf bytes) (length shadow) (length map) (length exclusion)) ≡ n
+        → Always (policyOf bytes) (carriedFirst (policyOf bytes)) ((startOf bytes shadow map exclusion) .guard) (firstPage (policyOf bytes)) calls
+    by-number zero e =
+        let guard : (startOf bytes shadow map exclusion) .guard ≡ startGuard (policyOf bytes) = ap (λ (o : Outcome). o .guard) (settle-accepted _ _ e) in
+        rw (guard, ← (first-pages bytes (length shadow) (length map) (length exclusion) e))
+        (always (policyOf bytes) (sound bytes (length shadow) (length map) (length exclusion) e) calls (carriedFirst (policyOf bytes))
+        (startGuard (policyOf bytes)) (start-kept bytes (length shadow) (length map) (length exclusion) e))
+    by-number (suc n) e =
+        let number : (startOf bytes shadow map exclusion) .reply .number ≡ suc n = ap (λ (o : Outcome). o .reply .number) (settle-refused n _ _ e) in
+        absurd (omega arith)

@@ -1,0 +1,139 @@
+-- Demand 3: what is always true of a one-page guard, and that everything it is told keeps it so. The frames that kernel code may be fetched
+-- from are a predicate throughout.
+use Prim.Native.Nat.{ℕ, _≤_, _<_}
+use mathlib.Core.Bool.{Bool, true, false, not, cond, true≢false, false≢true}
+use mathlib.Core.Path.{_≡_, refl, sym, _∙_}
+use lib.Dec.{leb, eqb}
+use native.Mathlib.Omega.{arith}
+use borrow.Author.Tests.{leb-false, ne-eqb, not-true}
+use Rattle.model.specs.declared.Entry.the-variants.{Absent, Present}
+use Rattle.model.specs.declared.Fields.{Fields}
+use Rattle.model.specs.Edges.{bit}
+use Rattle.model.specs.Keeps.{none}
+use Rattle.model.specs.Policy.{Policy}
+use Rattle.model.specs.Bits.{present, noExecute, frameOf, approvedMark, fieldsOf, takenApart, approvedNoExecute, approved, ordinaryNoExecute, ordinary, noExecuteIn}
+use Rattle.model.specs.Sync.{Rules, Place, place, stepOf, step}
+use Rattle.model.specs.OnePage.{Page, News, synchronised, entered, left, nothing, turned, stepped, told}
+use Rattle.model.proofs.BitLaws.{approvedMark-approved, frameOf-approved, approvedMark-ordinary, noExecute-ordinary, present-switched, approvedMark-switched, frameOf-switched, noExecute-switched}
+
+-- A good page: its approval, if it has one, is a frame of code; an entry with bits 0 and 10 has its approval for its frame; and in kernel
+-- mode an entry with bit 0 set and bit 63 clear has bit 10.
+pub record Good (code : ℕ → Bool) (page : Page) : Type 0 where
+  pub approval : eqb (page .approval) none ≡ false → code (page .approval) ≡ true
+  pub marked : present (page .entry) ≡ true → approvedMark (page .entry) ≡ true → eqb (page .approval) none ≡ false
+  pub frame : present (page .entry) ≡ true → approvedMark (page .entry) ≡ true → frameOf (page .entry) ≡ page .approval
+  pub executable : page .user ≡ false → present (page .entry) ≡ true → noExecute (page .entry) ≡ false → approvedMark (page .entry) ≡ true
+
+-- In kernel mode, what may be fetched is code.
+pub good-code : (code : ℕ → Bool) (page : Page) → Good code page → page .user ≡ false → present (page .entry) ≡ true
+    → noExecute (page .entry) ≡ false → code (frameOf (page .entry)) ≡ true
+good-code code page h user there clear =
+    let mark : approvedMark (page .entry) ≡ true = h .executable user there clear in
+    rw (h .frame there mark) (h .approval (h .marked there mark))
+
+-- A yes and a no of one question.
+both-ways : {A : Type 0} (b : Bool) → b ≡ true → b ≡ false → A
+both-ways b p q = absurd (true≢false (sym p ∙ q))
+
+-- The page that a step leaves, and the three kinds of entry that it may have.
+abbrev pub placed : Page → Place → Page
+placed page p = record { user = page .user; entry = p .entry; approval = p .approval; excluded = page .excluded }
+
+module _ (code : ℕ → Bool) (page : Page) where
+  pub good-absent : (a : ℕ) → (eqb a none ≡ false → code a ≡ true) → Good code (placed page (place 0 a))
+  unfolding present bit
+  good-absent a h =
+      record {
+        approval = h;
+        marked = λ p q. absurd (false≢true p);
+        frame = λ p q. absurd (false≢true p);
+        executable = λ u p q. absurd (false≢true p);
+      }
+
+  pub good-approved : (f : ℕ) → code f ≡ true → f < 4096 → Good code (placed page (place (approved (page .user) f) f))
+  good-approved f h l =
+      record {
+        approval = λ p. h;
+        marked = λ p q. ne-eqb f none (λ e. omega arith);
+        frame = λ p q. frameOf-approved (page .user) f (omega arith);
+        executable = λ u p q. approvedMark-approved (page .user) f;
+      }
+
+  good-ordinary : (x : Fields) (a : ℕ) → x .frame < 4096 → (eqb a none ≡ false → code a ≡ true)
+      → Good code (placed page (place (ordinary (page .user) x) a))
+  unfolding ordinaryNoExecute
+  good-ordinary x a l h =
+      record {
+        approval = h;
+        marked = λ p q. both-ways _ q (approvedMark-ordinary (page .user) x);
+        frame = λ p q. both-ways _ q (approvedMark-ordinary (page .user) x);
+        executable = λ u p q. both-ways _ (noExecute-ordinary (page .user) x (omega arith) ∙ (rw u refl)) q;
+      }
+
+-- A choice has a property if each of the two has it where it is chosen.
+cond-cases : {A : Type 0} (P : A → Type 0) (b : Bool) {x y : A} → (b ≡ true → P x) → (b ≡ false → P y) → P (cond b x y)
+cond-cases P true p q = p refl
+cond-cases P false p q = q refl
+
+-- Steps 1 to 5: the place that a step gives has a property if an absent entry has it, an approved one with the map's frame, an approved one
+-- with an excluded frame, and an ordinary one.
+pub step-cases : (P : Place → Type 0) (rules : Rules) (k a : ℕ)
+    → P (place 0 a)
+    → (eqb a none ≡ false → P (place (approved (rules .user) a) a))
+    → (frameOf k < rules .frames → rules .excluded (frameOf k) ≡ true → P (place (approved (rules .user) (frameOf k)) (frameOf k)))
+    → (frameOf k < rules .frames → rules .excluded (frameOf k) ≡ false → P (place (ordinary (rules .user) (fieldsOf k)) a))
+    → P (step rules k a)
+unfolding step takenApart fieldsOf stepOf
+step-cases P rules k a absent mapped joins plain = by (present k)
+  where
+    by : (b : Bool) → P (stepOf rules (cond b (Present (fieldsOf k)) Absent) a)
+    by true =
+        cond-cases P (not (eqb a none)) (λ e. mapped (not-true (eqb a none) e)) (λ e.
+        cond-cases P (leb (rules .frames) (frameOf k)) (λ e. absent) (λ e.
+        let below : frameOf k < rules .frames = leb-false (rules .frames) (frameOf k) e in
+        cond-cases P (rules .excluded (frameOf k)) (joins below) (plain below)))
+    by false = absent
+
+-- A synchronisation keeps a page good, if code is below F and every excluded frame is code.
+pub stepped-good : (policy : Policy) (code : ℕ → Bool) (page : Page) (k : ℕ) → policy .frames ≤ 4096
+    → ((f : ℕ) → code f ≡ true → f < policy .frames) → ((f : ℕ) → page .excluded f ≡ true → code f ≡ true)
+    → Good code page → Good code (stepped policy page k)
+unfolding stepped fieldsOf
+stepped-good policy code page k most below excluded h =
+    step-cases (λ p. Good code (placed page p)) (record { user = page .user; frames = policy .frames; excluded = page .excluded }) k (page .approval)
+    (good-absent code page (page .approval) (h .approval))
+    (λ e. good-approved code page (page .approval) (h .approval e) (omega (arith, below (page .approval) (h .approval e))))
+    (λ l e. good-approved code page (frameOf k) (excluded (frameOf k) e) (omega arith))
+    (λ l e. good-ordinary code page (fieldsOf k) (page .approval) (omega arith) (h .approval))
+
+-- In kernel mode the rule for bit 63 clears it for an approved mark only.
+clear-marked : (entry : ℕ) → noExecuteIn false entry ≡ false → approvedMark entry ≡ true
+unfolding noExecuteIn ordinaryNoExecute
+clear-marked entry q = at (approvedMark entry) q
+  where
+    at : (b : Bool) → cond b (approvedNoExecute false) true ≡ false → b ≡ true
+    at true q = refl
+    at false q = absurd (true≢false q)
+
+-- A mode switch keeps a page good.
+pub turned-good : (user : Bool) (code : ℕ → Bool) (page : Page) → Good code page → Good code (turned user page)
+unfolding turned
+turned-good user code page h =
+    record {
+      approval = h .approval;
+      marked = λ p q. h .marked (rw present-switched at p) (rw approvedMark-switched at q);
+      frame = λ p q. frameOf-switched user (page .entry) ∙ h .frame (rw present-switched at p) (rw approvedMark-switched at q);
+      executable = λ u p q.
+          let ruled : noExecuteIn user (page .entry) ≡ false = sym (noExecute-switched user (page .entry) (rw present-switched at p)) ∙ q in
+          rw approvedMark-switched (clear-marked (page .entry) (rw u at ruled));
+    }
+
+-- Everything that a one-page guard is told keeps it good.
+pub told-good : (policy : Policy) (code : ℕ → Bool) (page : Page) (n : News) → policy .frames ≤ 4096
+    → ((f : ℕ) → code f ≡ true → f < policy .frames) → ((f : ℕ) → page .excluded f ≡ true → code f ≡ true)
+    → Good code page → Good code (told policy page n)
+unfolding told
+told-good policy code page (synchronised k) most below excluded h = stepped-good policy code page k most below excluded h
+told-good policy code page entered most below excluded h = turned-good false code page h
+told-good policy code page left most below excluded h = turned-good true code page h
+told-good policy code page nothing most below excluded h = h

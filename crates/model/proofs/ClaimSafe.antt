@@ -1,0 +1,57 @@
+-- Demand 3: what an accepted fetch reads is code in kernel mode, and what an accepted write or device write covers is clear.
+use Prim.Native.Nat.{ℕ, _+_, _*_, _/_, _%_, _<_}
+use mathlib.Core.Bool.{Bool, true, not}
+use mathlib.Core.Path.{_≡_, refl, sym, _∙_}
+use lib.Dec.{ltb}
+use lib.ListN.{getD}
+use native.Mathlib.Omega.{arith}
+use borrow.Author.Tests.{ltb-true, not-true}
+use Rattle.model.specs.Edges.{pageBytes, lastByte, lastPage}
+use Rattle.model.specs.Keeps.{Guard, excludedIn}
+use Rattle.model.specs.Policy.{Policy}
+use Rattle.model.specs.Bits.{frameOf}
+use Rattle.model.specs.Questions.{free}
+use Rattle.model.specs.Lists.{Call, syncPage, syncAll, fetch, write, enter, leave, deviceWrite, withMoved, withReply}
+use Rattle.model.specs.OnePage.{seenBy, settled}
+use Rattle.model.specs.Claim.{Carried, Clear, coveredBy, Safe}
+use Rattle.model.proofs.AskLaws.{both-first, both-second}
+use Rattle.model.proofs.ClaimPages.{good-code}
+use Rattle.model.proofs.ClaimAsks.{fetch-there, fetch-executable, write-free, deviceWrite-free}
+use Rattle.model.proofs.ClaimKept.{Kept, pageOf, acceptedOf}
+
+module _ (policy : Policy) (carried : Carried) (g : Guard) (h : Kept policy carried g) where
+  -- Any byte of a frame that question 13 lets pass is clear.
+  free-clear : (f x : ℕ) → free (seenBy policy (pageOf g)) f ≡ true → x / pageBytes ≡ f → Clear policy carried x
+  unfolding free
+  free-clear f x passed e =
+      let below : f < policy .frames = ltb-true f (policy .frames) (both-first _ _ passed) in
+      record {
+        below = omega arith;
+        unprotected = rw e (sym (h .excluded f) ∙ not-true (excludedIn (g .exclusion) f) (both-second (ltb f (policy .frames)) (not (excludedIn (g .exclusion) f)) passed));
+      }
+
+  -- Every accepted call is safe.
+  pub safe : (call : Call) → settled policy (pageOf g) g call ≡ 0 → Safe policy carried (pageOf g) call ((acceptedOf g call) .reply)
+  unfolding settled acceptedOf withMoved withReply coveredBy lastPage lastByte
+  safe (syncPage kernel page) passed = tt
+  safe (syncAll kernel) passed = tt
+  safe (fetch page) passed =
+      record {
+        first = refl;
+        second = refl;
+        code = λ kernel.
+            good-code (carried .code) (pageOf g page) (h .good page) kernel (fetch-there (seenBy policy (pageOf g)) page passed)
+            (fetch-executable (seenBy policy (pageOf g)) page passed);
+      }
+  safe (write address size) passed =
+      record {
+        first = refl;
+        second = refl;
+        bytes = λ a l m.
+            free-clear (frameOf (getD (g .shadow) (a / pageBytes) 0)) (frameOf (getD (g .shadow) (a / pageBytes) 0) * pageBytes + a % pageBytes)
+            (write-free (seenBy policy (pageOf g)) address size a passed l m) (omega arith);
+      }
+  safe (enter index) passed = tt
+  safe (leave page) passed = tt
+  safe (deviceWrite address size) passed =
+      record { bytes = λ a l m. free-clear (a / pageBytes) a (deviceWrite-free (seenBy policy (pageOf g)) address size a passed l m) refl }

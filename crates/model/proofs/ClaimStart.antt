@@ -1,0 +1,208 @@
+-- Demand 3: an accepted start leaves what always holds, and its tables show the one-page guards as they begin.
+use Prim.Native.Nat.{ℕ, suc, _+_, _*_, _/_, _%_, _≤_, _<_}
+use mathlib.Core.Bool.{Bool, true, false, cond, true≢false, false≢true}
+use mathlib.Core.List.{List, [], _∷_}
+use mathlib.Core.Logic.{_⊎_, inl, inr}
+use mathlib.Core.Path.{_≡_, refl, sym, ap, subst, fun-ext, _∙_}
+use lib.Dec.{leb, ltb, eqb}
+use lib.ListN.{length, getD, List·getD-eq-default}
+use native.Mathlib.Nat.{suc-inj}
+use native.Mathlib.Omega.{arith}
+use borrow.Author.Tests.{leb-true, ltb-true, ltb-false, eqb-true, ne-eqb}
+use Rattle.model.specs.Edges.{both, either, pagesInRange, framesInRange, table, member, bit}
+use Rattle.model.specs.Keeps.{none, vectorBytes, excludedIn, flag, byteOf, vectorOf, inUser, running}
+use Rattle.model.specs.Policy.{Policy, policyOf, frameFor, approvalFor, named, firstEntry, startState, startGuard}
+use Rattle.model.specs.Bits.{approved}
+use Rattle.model.specs.Questions.{firstNo, startAsks, rising}
+use Rattle.model.specs.OnePage.{Page, placeIn, firstPage}
+use Rattle.model.specs.Claim.{carriedFirst}
+use Rattle.model.proofs.AskLaws.{both-first, both-second, within-yes}
+use Rattle.model.proofs.TableLaws.{length-table, getD-table}
+use Rattle.model.proofs.PolicyLaws.{Passed, start-passed, length-numbersAt, allBelow-getD, allBelow-member, member-here, member-there, member-later, frameFor-unlisted, frameFor-member}
+use Rattle.model.proofs.VectorLaws.{byteOf-bit, byteOf-ext, vectorOf-length}
+use Rattle.model.proofs.ClaimPages.{Good, good-absent, good-approved}
+use Rattle.model.proofs.ClaimKept.{Sound, Kept, pageOf}
+
+-- A test that holds only below a limit fails past it.
+past-no : (test : ℕ → Bool) (limit : ℕ) → ((x : ℕ) → test x ≡ true → x < limit) → (x : ℕ) → limit ≤ x → test x ≡ false
+past-no test limit below x past = at (test x) refl
+  where
+    at : (b : Bool) → test x ≡ b → b ≡ false
+    at true e = absurd (omega (arith, below x e))
+    at false e = refl
+
+-- A table, read past its end too: there its function gives the default.
+table-read : (count : ℕ) (f : ℕ → ℕ) (p d : ℕ) → (count ≤ p → f p ≡ d) → getD (table count f) p d ≡ f p
+table-read count f p d past = at (ltb p count) refl
+  where
+    at : (b : Bool) → ltb p count ≡ b → getD (table count f) p d ≡ f p
+    at true e = getD-table count f p d (ltb-true p count e)
+    at false e =
+        let over : count ≤ p = ltb-false p count e in
+        List·getD-eq-default (table count f) d (rw length-table over) ∙ sym (past over)
+
+-- The start's vector excludes just the frames that a test holds of, also past F, if it holds of none there.
+excluded-is : (frames : ℕ) (test : ℕ → Bool) → ((f : ℕ) → test f ≡ true → f < frames) → (f : ℕ) → excludedIn (vectorOf frames test) f ≡ test f
+unfolding excludedIn vectorOf vectorBytes byteOf flag
+excluded-is frames test below f =
+    ap (bit (f % 8)) (table-read (vectorBytes frames) (λ i. byteOf (λ j. test (i * 8 + j))) (f / 8) 0 past)
+    ∙ byteOf-bit (λ j. test (f / 8 * 8 + j)) (f % 8) (omega arith)
+    ∙ ap test (omega arith)
+  where
+    past : vectorBytes frames ≤ f / 8 → byteOf (λ j. test (f / 8 * 8 + j)) ≡ 0
+    past over = byteOf-ext (λ j. test (f / 8 * 8 + j)) (λ j. false) (λ j l. past-no test frames below (f / 8 * 8 + j) (omega arith))
+
+-- The frame listed for a listed page is one of the frames, where there is one for each page.
+frameFor-listed : (ps fs : List ℕ) (page other : ℕ) → length ps ≡ length fs → member page ps ≡ true → member (frameFor ps fs page other) fs ≡ true
+unfolding frameFor member
+frameFor-listed [] fs page other same listed = absurd (false≢true listed)
+frameFor-listed (p ∷ ps) [] page other same listed = absurd (omega arith)
+frameFor-listed (p ∷ ps) (f ∷ fs) page other same listed =
+    at (eqb page p) refl (λ m. frameFor-listed ps fs page other (suc-inj same) m)
+  where
+    here : (r : ℕ) → (r ≡ f) ⊎ (member r fs ≡ true) → member r (f ∷ fs) ≡ true
+    here r (inl e) = member-here r f fs e
+    here r (inr m) = member-later r f fs m
+
+    at : (b : Bool) → eqb page p ≡ b → (member page ps ≡ true → member (frameFor ps fs page other) fs ≡ true)
+        → member (frameFor ps fs page (cond (eqb page p) f other)) (f ∷ fs) ≡ true
+    at true e rest = rw e (here (frameFor ps fs page f) (frameFor-member ps fs page f))
+    at false e rest = rw e (member-later (frameFor ps fs page other) f fs (rest (sym (member-there page p ps e) ∙ listed)))
+
+-- A page below all that a rising array still lists is not listed there.
+rising-unlisted : (pages least : ℕ) (ps : List ℕ) (page : ℕ) → rising pages least ps ≡ true → page < least → member page ps ≡ false
+unfolding rising member either
+rising-unlisted pages least [] page up low = refl
+rising-unlisted pages least (p ∷ ps) page up low =
+    let above : least ≤ p = leb-true least p (both-first _ _ (both-first _ _ up)) in
+    rw (ne-eqb page p (λ e. omega arith)) (rising-unlisted pages (suc p) ps page (both-second (both (leb least p) (ltb p pages)) (rising pages (suc p) ps) up) (omega arith))
+
+-- Of rising pages with a frame each, the frame that the start gives a listed page is the one at the page's own place.
+frameFor-placed : (pages least : ℕ) (ps fs : List ℕ) (page other : ℕ) → length ps ≡ length fs → rising pages least ps ≡ true → member page ps ≡ true
+    → frameFor ps fs page other ≡ getD fs (placeIn page ps) 0
+unfolding frameFor member placeIn rising
+frameFor-placed pages least [] fs page other same up there = absurd (false≢true there)
+frameFor-placed pages least (p ∷ ps) [] page other same up there = absurd (omega arith)
+frameFor-placed pages least (p ∷ ps) (f ∷ fs) page other same up there =
+    at (eqb page p) refl (λ m. frameFor-placed pages (suc p) ps fs page other (suc-inj same) later m)
+  where
+    later : rising pages (suc p) ps ≡ true
+    later = both-second (both (leb least p) (ltb p pages)) (rising pages (suc p) ps) up
+
+    at : (b : Bool) → eqb page p ≡ b → (member page ps ≡ true → frameFor ps fs page other ≡ getD fs (placeIn page ps) 0)
+        → frameFor ps fs page (cond (eqb page p) f other) ≡ getD (f ∷ fs) (cond (eqb page p) 0 (suc (placeIn page ps))) 0
+    at true e rest = rw e (frameFor-unlisted ps fs page f (rising-unlisted pages (suc p) ps page later (omega (arith, eqb-true page p e))))
+    at false e rest = rw e (rest (sym (member-there page p ps e) ∙ there))
+
+module _ (bytes : List ℕ) (s m x : ℕ) (accepted : firstNo (startAsks bytes (policyOf bytes) s m x) ≡ 0) where
+  abbrev policy : Policy
+  policy = policyOf bytes
+
+  -- Whether a page is listed, and the frame that the start gives it.
+  abbrev listed : ℕ → Bool
+  listed p = member p (policy .listed)
+
+  abbrev frame : ℕ → ℕ
+  frame p = frameFor (policy .listed) (policy .backing) p none
+
+  passed : Passed policy s m x
+  passed = start-passed bytes policy s m x accepted
+
+  listed-length : length (policy .listed) ≡ policy .count
+  unfolding policyOf
+  listed-length = length-numbersAt bytes 8 (policy .count)
+
+  backing-length : length (policy .backing) ≡ policy .count
+  unfolding policyOf
+  backing-length = length-numbersAt bytes (8 + 2 * policy .count) (policy .count)
+
+  pub sound : Sound policy
+  unfolding pagesInRange framesInRange named
+  sound =
+      record {
+        pages = within-yes 1 2048 (policy .pages) (passed .pages-low) (passed .pages-high);
+        frames = within-yes 1 4096 (policy .frames) (passed .frames-low) (passed .frames-high);
+        entries = within-yes 1 16 (policy .entries) (passed .entries-low) (passed .entries-high);
+        below = λ f e. allBelow-member (policy .frames) f (policy .backing) (passed .backing-below) e;
+      }
+
+  -- The frame of a listed page is named in the policy, so it is not 65535. No page past V is listed.
+  listed-named : (p : ℕ) → listed p ≡ true → named policy (frame p) ≡ true
+  unfolding named
+  listed-named p e = frameFor-listed (policy .listed) (policy .backing) p none (listed-length ∙ sym backing-length) e
+
+  listed-small : (p : ℕ) → listed p ≡ true → frame p < 4096
+  listed-small p e = omega (arith, sound .below (frame p) (listed-named p e), passed .frames-high)
+
+  past-unlisted : (p : ℕ) → policy .pages ≤ p → listed p ≡ false
+  past-unlisted = past-no listed (policy .pages) (λ p e. allBelow-member (policy .pages) p (policy .listed) (passed .listed-below) e)
+
+  -- The number at a page's own place of the second array.
+  abbrev placed : ℕ → ℕ
+  placed p = getD (policy .backing) (placeIn p (policy .listed)) 0
+
+  frame-placed : (p : ℕ) → listed p ≡ true → frame p ≡ placed p
+  frame-placed p e = frameFor-placed (policy .pages) 0 (policy .listed) (policy .backing) p none (listed-length ∙ sym backing-length) (passed .listed-rising) e
+
+  -- The map's number and the shadow entry of a page, by whether it is listed.
+  first-approval : (p : ℕ) (b : Bool) → listed p ≡ b → approvalFor policy p ≡ cond b (placed p) none
+  unfolding approvalFor
+  first-approval p true e = frame-placed p e
+  first-approval p false e = frameFor-unlisted (policy .listed) (policy .backing) p none e
+
+  placed-named : (p : ℕ) → listed p ≡ true → named policy (placed p) ≡ true
+  placed-named p e = rw (← (frame-placed p e)) (listed-named p e)
+
+  placed-small : (p : ℕ) → listed p ≡ true → placed p < 4096
+  placed-small p e = rw (← (frame-placed p e)) (listed-small p e)
+
+  first-entry : (p : ℕ) (b : Bool) → listed p ≡ b → firstEntry (approvalFor policy p) ≡ cond b (approved false (placed p)) 0
+  unfolding firstEntry
+  first-entry p true e = rw (first-approval p true e, ne-eqb (placed p) none (λ k. omega (arith, placed-small p e)))
+  first-entry p false e = rw (first-approval p false e)
+
+  -- The tables of the start show the one-page guards as they begin.
+  pub first-pages : pageOf (startGuard policy) ≡ firstPage policy
+  unfolding startGuard startState inUser firstPage
+  first-pages =
+      fun-ext λ p i.
+      record {
+        user = false;
+        entry = (at-entry p ∙ first-entry p (listed p) refl) i;
+        approval = (at-approval p ∙ first-approval p (listed p) refl) i;
+        excluded = (fun-ext (excluded-is (policy .frames) (named policy) (sound .below))) i;
+      }
+    where
+      at-approval : (p : ℕ) → getD (table (policy .pages) (approvalFor policy)) p none ≡ approvalFor policy p
+      at-approval p = table-read (policy .pages) (approvalFor policy) p none (λ past. first-approval p false (past-unlisted p past))
+
+      at-entry : (p : ℕ) → getD (table (policy .pages) (λ q. firstEntry (approvalFor policy q))) p 0 ≡ firstEntry (approvalFor policy p)
+      at-entry p = table-read (policy .pages) (λ q. firstEntry (approvalFor policy q)) p 0 (λ past. first-entry p false (past-unlisted p past))
+
+  first-good : (p : ℕ) → Good (named policy) (firstPage policy p)
+  unfolding firstPage
+  first-good p = at (listed p) refl
+    where
+      at : (b : Bool) → listed p ≡ b
+          → Good (named policy)
+          (record { user = false; entry = cond b (approved false (placed p)) 0; approval = cond b (placed p) none; excluded = named policy })
+      at true e = good-approved (named policy) (firstPage policy p) (placed p) (placed-named p e) (placed-small p e)
+      at false e = good-absent (named policy) (firstPage policy p) none (λ k. absurd (true≢false k))
+
+  pub start-kept : Kept policy (carriedFirst policy) (startGuard policy)
+  unfolding startGuard startState running carriedFirst
+  start-kept =
+      record {
+        pages = refl;
+        frames = refl;
+        entries = refl;
+        entry = refl;
+        runs = allBelow-getD (policy .pages) (policy .listed) 0 (passed .listed-below) (omega (arith, passed .count-low, listed-length));
+        shadowLength = length-table (policy .pages) (λ p. firstEntry (approvalFor policy p));
+        mapLength = length-table (policy .pages) (approvalFor policy);
+        exclusionLength = vectorOf-length (policy .frames) (named policy);
+        excluded = excluded-is (policy .frames) (named policy) (sound .below);
+        code = λ f e. e;
+        below = sound .below;
+        good = λ p. subst (λ (ps : ℕ → Page). Good (named policy) (ps p)) (sym first-pages) (first-good p);
+      }

@@ -1,0 +1,249 @@
+-- Laws of the policy record: numbers in a row, the rising pages, the frames below a limit, the frame listed for a page, members of a list,
+-- and what an accepted start has passed.
+use Prim.Native.Nat.{ℕ, zero, suc, _+_, _-_, _*_, _≤_, _<_, min}
+use mathlib.Core.Bool.{Bool, true, false, cond, false≢true}
+use mathlib.Core.List.{List, [], _∷_, map}
+use mathlib.Core.Logic.{_⊎_, inl, inr}
+use mathlib.Core.Path.{_≡_, refl, sym, ap, _∙_}
+use lib.Dec.{leb, ltb, eqb}
+use lib.ListN.{length, getD}
+use native.Mathlib.Nat.{le-of-suc-le-suc}
+use native.Mathlib.Omega.{arith}
+use borrow.Author.Tests.{ltb-true, lt-ltb, le-ltb, le-leb, lt-leb, eqb-true, eq-eqb}
+use Rattle.model.specs.Edges.{both, either, within, pagesInRange, framesInRange, member}
+use Rattle.model.specs.Keeps.{vectorBytes}
+use Rattle.model.specs.Policy.{Policy, numberAt, numbersAt, frameFor}
+use Rattle.model.specs.Questions.{firstNo, sizesInRange, countsInRange, rising, allBelow, inOrder, startAsks}
+use Rattle.model.proofs.AskLaws.{both-yes, both-no, both-no-after, both-first, both-second, within-low, within-high, asked, numbered, all-yes}
+
+either-second : (a : Bool) {b : Bool} → b ≡ true → either a b ≡ true
+unfolding either
+either-second true h = refl
+either-second false h = h
+
+-- Numbers in a row: none, one more at the front, how many, and each of them.
+pub numbersAt-none : (bytes : List ℕ) (at : ℕ) {left : ℕ} → left ≡ 0 → numbersAt bytes at left ≡ []
+unfolding numbersAt
+numbersAt-none bytes at e = rw e refl
+
+pub numbersAt-more : (bytes : List ℕ) (at left : ℕ) → 0 < left → numbersAt bytes at left ≡ numberAt bytes at ∷ numbersAt bytes (at + 2) (left - 1)
+unfolding numbersAt
+numbersAt-more bytes at zero h = absurd (omega arith)
+numbersAt-more bytes at (suc left) h =
+    let e : left ≡ suc left - 1 = omega arith in
+    ap (λ (k : ℕ). numberAt bytes at ∷ numbersAt bytes (at + 2) k) e
+
+pub length-numbersAt : (bytes : List ℕ) (at count : ℕ) → length (numbersAt bytes at count) ≡ count
+unfolding numbersAt
+length-numbersAt bytes at zero = refl
+length-numbersAt bytes at (suc count) = ap suc (length-numbersAt bytes (at + 2) count)
+
+pub getD-numbersAt : (bytes : List ℕ) (at count i : ℕ) → i < count → getD (numbersAt bytes at count) i 0 ≡ numberAt bytes (at + 2 * i)
+unfolding numbersAt
+getD-numbersAt bytes at zero i h = absurd (omega arith)
+getD-numbersAt bytes at (suc count) zero h = ap (numberAt bytes) (omega arith)
+getD-numbersAt bytes at (suc count) (suc i) h =
+    getD-numbersAt bytes (at + 2) count i (le-of-suc-le-suc h) ∙ ap (numberAt bytes) (omega arith)
+
+-- Question 5 at a page in front of others: it passes, or it refuses because the page is too low or too high.
+pub rising-none : (pages least : ℕ) {ps : List ℕ} → ps ≡ [] → rising pages least ps ≡ true
+unfolding rising
+rising-none pages least e = rw e refl
+
+pub rising-more : (pages least p : ℕ) (ps : List ℕ) → least ≤ p → p < pages → rising pages least (p ∷ ps) ≡ rising pages (p + 1) ps
+unfolding rising both
+rising-more pages least p ps h k = rw (le-leb least p h, lt-ltb p pages k) (ap (λ (n : ℕ). rising pages n ps) (omega arith))
+
+pub rising-low : (pages least p : ℕ) (ps : List ℕ) → p < least → rising pages least (p ∷ ps) ≡ false
+unfolding rising both
+rising-low pages least p ps h = rw (lt-leb least p h) refl
+
+pub rising-high : (pages least p : ℕ) (ps : List ℕ) → pages ≤ p → rising pages least (p ∷ ps) ≡ false
+unfolding rising
+rising-high pages least p ps h = both-no _ (both-no-after (leb least p) (le-ltb p pages h))
+
+-- Pages that rise below V are below V.
+pub rising-below : (pages least : ℕ) (ps : List ℕ) → rising pages least ps ≡ true → allBelow pages ps ≡ true
+unfolding rising allBelow
+rising-below pages least [] h = refl
+rising-below pages least (p ∷ ps) h =
+    both-yes (both-second (leb least p) (ltb p pages) (both-first (both (leb least p) (ltb p pages)) (rising pages (suc p) ps) h))
+    (rising-below pages (suc p) ps (both-second (both (leb least p) (ltb p pages)) (rising pages (suc p) ps) h))
+
+-- Question 6 at a frame in front of others, and what a yes says of each.
+pub allBelow-none : (limit : ℕ) {fs : List ℕ} → fs ≡ [] → allBelow limit fs ≡ true
+unfolding allBelow
+allBelow-none limit e = rw e refl
+
+pub allBelow-more : (limit f : ℕ) (fs : List ℕ) → f < limit → allBelow limit (f ∷ fs) ≡ allBelow limit fs
+unfolding allBelow both
+allBelow-more limit f fs h = rw (lt-ltb f limit h) refl
+
+pub allBelow-no : (limit f : ℕ) (fs : List ℕ) → limit ≤ f → allBelow limit (f ∷ fs) ≡ false
+unfolding allBelow
+allBelow-no limit f fs h = both-no _ (le-ltb f limit h)
+
+pub allBelow-head : (limit f : ℕ) (fs : List ℕ) → allBelow limit (f ∷ fs) ≡ true → f < limit
+unfolding allBelow
+allBelow-head limit f fs h = ltb-true f limit (both-first (ltb f limit) (allBelow limit fs) h)
+
+pub allBelow-tail : (limit f : ℕ) (fs : List ℕ) → allBelow limit (f ∷ fs) ≡ true → allBelow limit fs ≡ true
+unfolding allBelow
+allBelow-tail limit f fs h = both-second (ltb f limit) (allBelow limit fs) h
+
+pub allBelow-wider : (limit wider : ℕ) (fs : List ℕ) → limit ≤ wider → allBelow limit fs ≡ true → allBelow wider fs ≡ true
+allBelow-wider limit wider [] l h = allBelow-none wider refl
+allBelow-wider limit wider (f ∷ fs) l h =
+    let below : f < limit = allBelow-head limit f fs h in
+    allBelow-more wider f fs (omega arith) ∙ allBelow-wider limit wider fs l (allBelow-tail limit f fs h)
+
+pub allBelow-getD : (limit : ℕ) (fs : List ℕ) (i : ℕ) → allBelow limit fs ≡ true → i < length fs → getD fs i 0 < limit
+allBelow-getD limit [] i h l = absurd (omega arith)
+allBelow-getD limit (f ∷ fs) zero h l = allBelow-head limit f fs h
+allBelow-getD limit (f ∷ fs) (suc i) h l = allBelow-getD limit fs i (allBelow-tail limit f fs h) (le-of-suc-le-suc l)
+
+-- Members: the first, or one of the others.
+pub member-here : (x y : ℕ) (ys : List ℕ) → x ≡ y → member x (y ∷ ys) ≡ true
+unfolding member either
+member-here x y ys e = rw (eq-eqb x y e) refl
+
+pub member-there : (x y : ℕ) (ys : List ℕ) → eqb x y ≡ false → member x (y ∷ ys) ≡ member x ys
+unfolding member either
+member-there x y ys e = rw e refl
+
+pub member-later : (x y : ℕ) (ys : List ℕ) → member x ys ≡ true → member x (y ∷ ys) ≡ true
+unfolding member
+member-later x y ys h = either-second (eqb x y) h
+
+pub allBelow-member : (limit x : ℕ) (fs : List ℕ) → allBelow limit fs ≡ true → member x fs ≡ true → x < limit
+unfolding member
+allBelow-member limit x [] h m = absurd (false≢true m)
+allBelow-member limit x (f ∷ fs) h m = at (eqb x f) refl (allBelow-member limit x fs (allBelow-tail limit f fs h))
+  where
+    at : (b : Bool) → eqb x f ≡ b → (member x fs ≡ true → x < limit) → x < limit
+    at true e rest = rw (eqb-true x f e) (allBelow-head limit f fs h)
+    at false e rest = rest (sym (member-there x f fs e) ∙ m)
+
+-- The frame listed for a page: other where the page is not listed, and else one of the frames.
+pub frameFor-unlisted : (ps fs : List ℕ) (page other : ℕ) → member page ps ≡ false → frameFor ps fs page other ≡ other
+unfolding frameFor
+frameFor-unlisted [] fs page other h = refl
+frameFor-unlisted (p ∷ ps) [] page other h = refl
+frameFor-unlisted (p ∷ ps) (f ∷ fs) page other h = at (eqb page p) refl (λ o. frameFor-unlisted ps fs page o)
+  where
+    at : (b : Bool) → eqb page p ≡ b → ((o : ℕ) → member page ps ≡ false → frameFor ps fs page o ≡ o)
+        → frameFor ps fs page (cond (eqb page p) f other) ≡ other
+    at true e rest = absurd (false≢true (sym h ∙ member-here page p ps (eqb-true page p e)))
+    at false e rest = rw e (rest other (sym (member-there page p ps e) ∙ h))
+
+pub frameFor-member : (ps fs : List ℕ) (page other : ℕ)
+    → (frameFor ps fs page other ≡ other) ⊎ (member (frameFor ps fs page other) fs ≡ true)
+unfolding frameFor
+frameFor-member [] fs page other = inl refl
+frameFor-member (p ∷ ps) [] page other = inl refl
+frameFor-member (p ∷ ps) (f ∷ fs) page other = at (eqb page p) refl (frameFor-member ps fs page (cond (eqb page p) f other))
+  where
+    later : (o : ℕ) → frameFor ps fs page (cond (eqb page p) f other) ≡ o → (o ≡ other) ⊎ (member o (f ∷ fs) ≡ true)
+        → (frameFor ps fs page (cond (eqb page p) f other) ≡ other) ⊎ (member (frameFor ps fs page (cond (eqb page p) f other)) (f ∷ fs) ≡ true)
+    later o e h = rw e h
+
+    at : (b : Bool) → eqb page p ≡ b
+        → (frameFor ps fs page (cond (eqb page p) f other) ≡ cond (eqb page p) f other)
+        ⊎ (member (frameFor ps fs page (cond (eqb page p) f other)) fs ≡ true)
+        → (frameFor ps fs page (cond (eqb page p) f other) ≡ other)
+        ⊎ (member (frameFor ps fs page (cond (eqb page p) f other)) (f ∷ fs) ≡ true)
+    at b e (inr m) = inr (member-later _ f fs m)
+    at true e (inl s) = later f (s ∙ (rw e refl)) (inr (member-here f f fs refl))
+    at false e (inl s) = inl (s ∙ (rw e refl))
+
+-- A function of every frame and of other is the function of the frame for the page.
+pub frameFor-map : (h : ℕ → ℕ) (ps fs : List ℕ) (page other : ℕ) → frameFor ps (map h fs) page (h other) ≡ h (frameFor ps fs page other)
+unfolding frameFor
+frameFor-map h [] fs page other = refl
+frameFor-map h (p ∷ ps) [] page other = refl
+frameFor-map h (p ∷ ps) (f ∷ fs) page other =
+    ap (frameFor ps (map h fs) page) (at (eqb page p)) ∙ frameFor-map h ps fs page (cond (eqb page p) f other)
+  where
+    at : (b : Bool) → cond b (h f) (h other) ≡ h (cond b f other)
+    at true = refl
+    at false = refl
+
+-- What the questions of an accepted start say of its policy and of the lengths of the three tables.
+pub record Passed (policy : Policy) (shadow map exclusion : ℕ) : Type 0 where
+  pub pages-low : 1 ≤ policy .pages
+  pub pages-high : policy .pages ≤ 2048
+  pub frames-low : 1 ≤ policy .frames
+  pub frames-high : policy .frames ≤ 4096
+  pub count-low : 1 ≤ policy .count
+  pub count-high : policy .count ≤ policy .pages
+  pub entries-low : 1 ≤ policy .entries
+  pub entries-listed : policy .entries ≤ policy .count
+  pub entries-high : policy .entries ≤ 16
+  pub listed-rising : rising (policy .pages) 0 (policy .listed) ≡ true
+  pub listed-below : allBelow (policy .pages) (policy .listed) ≡ true
+  pub backing-below : allBelow (policy .frames) (policy .backing) ≡ true
+  pub shadow-fits : shadow ≡ policy .pages
+  pub map-fits : map ≡ policy .pages
+  pub exclusion-fits : exclusion ≡ vectorBytes (policy .frames)
+
+module _ (bytes : List ℕ) (policy : Policy) (shadow map exclusion : ℕ) (h : firstNo (startAsks bytes policy shadow map exclusion) ≡ 0) where
+  answered : (n : ℕ) → asked n (startAsks bytes policy shadow map exclusion) ≡ true
+  unfolding startAsks numbered both
+  answered n = all-yes n (startAsks bytes policy shadow map exclusion) refl h
+
+  sizes-yes : sizesInRange policy ≡ true
+  unfolding startAsks asked both either
+  sizes-yes = both-first (sizesInRange policy) true (answered 2)
+
+  pages-yes : pagesInRange (policy .pages) ≡ true
+  unfolding sizesInRange
+  pages-yes = both-first (pagesInRange (policy .pages)) (framesInRange (policy .frames)) sizes-yes
+
+  frames-yes : framesInRange (policy .frames) ≡ true
+  unfolding sizesInRange
+  frames-yes = both-second (pagesInRange (policy .pages)) (framesInRange (policy .frames)) sizes-yes
+
+  counts-yes : countsInRange policy ≡ true
+  unfolding startAsks asked both either
+  counts-yes = both-first (countsInRange policy) true (answered 3)
+
+  count-yes : within 1 (policy .pages) (policy .count) ≡ true
+  unfolding countsInRange
+  count-yes = both-first (within 1 (policy .pages) (policy .count)) (within 1 (min (policy .count) 16) (policy .entries)) counts-yes
+
+  entries-yes : within 1 (min (policy .count) 16) (policy .entries) ≡ true
+  unfolding countsInRange
+  entries-yes = both-second (within 1 (policy .pages) (policy .count)) (within 1 (min (policy .count) 16) (policy .entries)) counts-yes
+
+  rises-yes : rising (policy .pages) 0 (policy .listed) ≡ true
+  unfolding startAsks asked both either
+  rises-yes = both-first (rising (policy .pages) 0 (policy .listed)) true (answered 5)
+
+  below-yes : allBelow (policy .frames) (policy .backing) ≡ true
+  unfolding startAsks asked both either
+  below-yes = both-first (allBelow (policy .frames) (policy .backing)) true (answered 6)
+
+  lengths-yes : both (eqb shadow (policy .pages)) (both (eqb map (policy .pages)) (both (eqb exclusion (vectorBytes (policy .frames))) true)) ≡ true
+  unfolding startAsks asked both either inOrder
+  lengths-yes = both-first _ true (answered 7)
+
+  pub start-passed : Passed policy shadow map exclusion
+  unfolding pagesInRange framesInRange
+  start-passed =
+      record {
+        pages-low = within-low 1 2048 (policy .pages) pages-yes;
+        pages-high = within-high 1 2048 (policy .pages) pages-yes;
+        frames-low = within-low 1 4096 (policy .frames) frames-yes;
+        frames-high = within-high 1 4096 (policy .frames) frames-yes;
+        count-low = within-low 1 (policy .pages) (policy .count) count-yes;
+        count-high = within-high 1 (policy .pages) (policy .count) count-yes;
+        entries-low = within-low 1 (min (policy .count) 16) (policy .entries) entries-yes;
+        entries-listed = omega (arith, within-high 1 (min (policy .count) 16) (policy .entries) entries-yes);
+        entries-high = omega (arith, within-high 1 (min (policy .count) 16) (policy .entries) entries-yes);
+        listed-rising = rises-yes;
+        listed-below = rising-below (policy .pages) 0 (policy .listed) rises-yes;
+        backing-below = below-yes;
+        shadow-fits = eqb-true _ _ (both-first _ _ lengths-yes);
+        map-fits = eqb-true _ _ (both-first _ _ (both-second _ _ lengths-yes));
+        exclusion-fits = eqb-true _ _ (both-first _ true (both-second _ _ (both-second _ _ lengths-yes)));
+      }

@@ -1,0 +1,215 @@
+-- Laws of tables made by a function, of the bits of a byte, and of the exclusion vector: its length, a frame's bit, and a frame
+-- excluded too.
+use Prim.Native.Nat.{ℕ, zero, suc, _+_, _*_, _/_, _%_, _^_, _≤_, _<_}
+use mathlib.Core.Bool.{Bool, true, false, cond}
+use mathlib.Core.List.{List, [], _∷_}
+use mathlib.Core.Path.{_≡_, refl, sym, ap, _∙_}
+use mathlib.Core.Logic.{⊎-elim}
+use native.Mathlib.Nat.{not-suc-le-zero, le-of-suc-le-suc, add-zero, add-suc, suc-add}
+use native.Mathlib.Omega.{arith}
+use lib.Dec.{eqb}
+use lib.ListN.{length, getD, set, length-set}
+use lib.Pow.{mod-pow-add}
+use lib.Seq.{getD-set-same, getD-set-other, ext-getD}
+use borrow.Author.Tests.{eq-eqb, ne-eqb, eqb-true, eqb-false}
+use Rattle.model.specs.Edges.{either, tableFrom, table, bit}
+use Rattle.model.specs.Keeps.{vectorBytes, excludedIn, flag, byteOf, vectorOf, withExcluded}
+
+-- A table has its count of places, and f of its number at each.
+tableFrom-length : (f : ℕ → ℕ) (first n : ℕ) → length (tableFrom f first n) ≡ n
+unfolding tableFrom
+tableFrom-length f first zero = refl
+tableFrom-length f first (suc n) = ap suc (tableFrom-length f (suc first) n)
+
+pub table-length : (n : ℕ) (f : ℕ → ℕ) → length (table n f) ≡ n
+unfolding table
+table-length n f = tableFrom-length f 0 n
+
+tableFrom-at : (f : ℕ → ℕ) (first n i d : ℕ) → i < n → getD (tableFrom f first n) i d ≡ f (first + i)
+unfolding tableFrom
+tableFrom-at f first zero i d h = absurd (not-suc-le-zero h)
+tableFrom-at f first (suc n) zero d h = rw add-zero
+tableFrom-at f first (suc n) (suc i) d h = rw (add-suc, ← suc-add) (tableFrom-at f (suc first) n i d (le-of-suc-le-suc h))
+
+pub table-at : (n : ℕ) (f : ℕ → ℕ) (i d : ℕ) → i < n → getD (table n f) i d ≡ f i
+unfolding table
+table-at n f i d h = tableFrom-at f 0 n i d h ∙ ap f (omega arith)
+
+-- What holds of 0 to 7 holds of every number below 8.
+pub below8 : (P : ℕ → Type 0) → P 0 → P 1 → P 2 → P 3 → P 4 → P 5 → P 6 → P 7 → (j : ℕ) → j < 8 → P j
+below8 P a b c d e f g h zero l = a
+below8 P a b c d e f g h (suc zero) l = b
+below8 P a b c d e f g h (suc (suc zero)) l = c
+below8 P a b c d e f g h (suc (suc (suc zero))) l = d
+below8 P a b c d e f g h (suc (suc (suc (suc zero)))) l = e
+below8 P a b c d e f g h (suc (suc (suc (suc (suc zero))))) l = f
+below8 P a b c d e f g h (suc (suc (suc (suc (suc (suc zero)))))) l = g
+below8 P a b c d e f g h (suc (suc (suc (suc (suc (suc (suc zero))))))) l = h
+below8 P a b c d e f g h (suc (suc (suc (suc (suc (suc (suc (suc j)))))))) l = absurd (omega arith)
+
+-- A bit's weight is 0 or 1 times its power of two.
+pub flag-weight : (b : Bool) (k : ℕ) → flag b k ≡ flag b 0 * 2 ^ k
+unfolding flag
+flag-weight true k = omega arith
+flag-weight false k = omega arith
+
+pub flag-small : (b : Bool) → flag b 0 ≤ 1
+unfolding flag
+flag-small true = omega arith
+flag-small false = omega arith
+
+pub flag-test : (b : Bool) (x : ℕ) → x ≡ flag b 0 → eqb x 1 ≡ b
+unfolding flag
+flag-test true x p = eq-eqb x 1 p
+flag-test false x p = ne-eqb x 1 (λ q. omega arith)
+
+-- A number's bit as a number.
+pub flag-bit : (k x : ℕ) → flag (bit k x) 0 ≡ x / 2 ^ k % 2
+unfolding flag bit
+flag-bit k x = by (eqb (x / 2 ^ k % 2) 1) refl
+  where
+    by : (t : Bool) → eqb (x / 2 ^ k % 2) 1 ≡ t → cond (eqb (x / 2 ^ k % 2) 1) 1 0 ≡ x / 2 ^ k % 2
+    by true e = rw e (sym (eqb-true (x / 2 ^ k % 2) 1 e))
+    by false e =
+        let differs : x / 2 ^ k % 2 ≡ 1 → ⊥ = eqb-false (x / 2 ^ k % 2) 1 e in
+        rw e (omega arith)
+
+-- A byte and its bits: it is their sum, each 0 or 1 times its weight, so bit j of it is the bit j that it was made of.
+module _ (h : ℕ → Bool) where
+  pub byteOf-sum
+      : (byteOf h ≡ flag (h 0) 0 + flag (h 1) 0 * 2 + flag (h 2) 0 * 4 + flag (h 3) 0 * 8 + flag (h 4) 0 * 16 + flag (h 5) 0 * 32 + flag (h 6) 0 * 64 + flag (h 7) 0 * 128)
+      × (flag (h 0) 0 ≤ 1) × (flag (h 1) 0 ≤ 1) × (flag (h 2) 0 ≤ 1) × (flag (h 3) 0 ≤ 1)
+      × (flag (h 4) 0 ≤ 1) × (flag (h 5) 0 ≤ 1) × (flag (h 6) 0 ≤ 1) × (flag (h 7) 0 ≤ 1)
+  unfolding byteOf
+  byteOf-sum = (
+    cc (flag-weight (h 1) 1, flag-weight (h 2) 2, flag-weight (h 3) 3, flag-weight (h 4) 4, flag-weight (h 5) 5, flag-weight (h 6) 6, flag-weight (h 7) 7),
+    flag-small (h 0),
+    flag-small (h 1),
+    flag-small (h 2),
+    flag-small (h 3),
+    flag-small (h 4),
+    flag-small (h 5),
+    flag-small (h 6),
+    flag-small (h 7),
+  )
+
+  pub byteOf-small : byteOf h < 256
+  byteOf-small = omega (arith, byteOf-sum)
+
+  pub byteOf-bit : (j : ℕ) → j < 8 → bit j (byteOf h) ≡ h j
+  unfolding bit
+  byteOf-bit =
+      below8 (λ j. bit j (byteOf h) ≡ h j) (at 0 (omega (arith, byteOf-sum))) (at 1 (omega (arith, byteOf-sum)))
+      (at 2 (omega (arith, byteOf-sum))) (at 3 (omega (arith, byteOf-sum))) (at 4 (omega (arith, byteOf-sum)))
+      (at 5 (omega (arith, byteOf-sum))) (at 6 (omega (arith, byteOf-sum))) (at 7 (omega (arith, byteOf-sum)))
+    where
+      at : (j : ℕ) → byteOf h / 2 ^ j % 2 ≡ flag (h j) 0 → bit j (byteOf h) ≡ h j
+      at j p = flag-test (h j) (byteOf h / 2 ^ j % 2) p
+
+-- A byte is made of its own bits.
+pub byteOf-bits : (b : ℕ) → b < 256 → byteOf (λ j. bit j b) ≡ b
+byteOf-bits b small =
+    omega (arith, byteOf-sum (λ j. bit j b) .0, rw (digit 7, digit 6, digit 5, digit 4, digit 3, digit 2, digit 1, digit 0) at whole)
+  where
+    digit : (k : ℕ) → b % 2 ^ (1 + k) ≡ flag (bit k b) 0 * 2 ^ k + b % 2 ^ k
+    digit k = rw flag-bit (mod-pow-add b 1 k)
+
+    whole : b ≡ b % 2 ^ 8
+    whole = omega arith
+
+-- Two bytes are the same where their bits are.
+pub byteOf-ext : (h k : ℕ → Bool) → ((j : ℕ) → j < 8 → h j ≡ k j) → byteOf h ≡ byteOf k
+unfolding byteOf
+byteOf-ext h k e = cc (e 0 (omega arith), e 1 (omega arith), e 2 (omega arith), e 3 (omega arith), e 4 (omega arith), e 5 (omega arith), e 6 (omega arith), e 7 (omega arith))
+
+-- Two tests of equality that hold together.
+eqb-together : (a b c d : ℕ) → (a ≡ b → c ≡ d) → (c ≡ d → a ≡ b) → eqb a b ≡ eqb c d
+eqb-together a b c d to from = by (eqb a b) refl
+  where
+    by : (t : Bool) → eqb a b ≡ t → eqb a b ≡ eqb c d
+    by true e = e ∙ sym (eq-eqb c d (to (eqb-true a b e)))
+    by false e = e ∙ sym (ne-eqb c d (λ q. eqb-false a b e (from q)))
+
+-- The exclusion vector of F frames: its length, and the bit of a frame.
+pub vectorOf-length : (frames : ℕ) (h : ℕ → Bool) → length (vectorOf frames h) ≡ vectorBytes frames
+unfolding vectorOf
+vectorOf-length frames h = table-length (vectorBytes frames) (λ i. byteOf (λ j. h (i * 8 + j)))
+
+byte-below : (frames f : ℕ) → f < frames → f / 8 < vectorBytes frames
+unfolding vectorBytes
+byte-below frames f l = omega arith
+
+pub vectorOf-byte : (frames : ℕ) (h : ℕ → Bool) (i d : ℕ) → i < vectorBytes frames → getD (vectorOf frames h) i d ≡ byteOf (λ j. h (i * 8 + j))
+unfolding vectorOf
+vectorOf-byte frames h i d l = table-at (vectorBytes frames) (λ i. byteOf (λ j. h (i * 8 + j))) i d l
+
+pub vectorOf-excluded : (frames : ℕ) (h : ℕ → Bool) (f : ℕ) → f < frames → excludedIn (vectorOf frames h) f ≡ h f
+unfolding excludedIn
+vectorOf-excluded frames h f l =
+    ap (bit (f % 8)) (vectorOf-byte frames h (f / 8) 0 (byte-below frames f l))
+    ∙ byteOf-bit (λ j. h (f / 8 * 8 + j)) (f % 8) (omega arith)
+    ∙ ap h (omega arith)
+
+-- A frame excluded too: the length stays, the frame's bit is set, and every other bit stays.
+pub withExcluded-length : (x : List ℕ) (f : ℕ) → length (withExcluded x f) ≡ length x
+unfolding withExcluded
+withExcluded-length x f = simp length-set
+
+pub withExcluded-excluded : (x : List ℕ) (f g : ℕ) → f / 8 < length x → excludedIn (withExcluded x f) g ≡ either (eqb g f) (excludedIn x g)
+unfolding withExcluded excludedIn either
+withExcluded-excluded x f g l = by (eqb (g / 8) (f / 8)) refl
+  where
+    new : ℕ → Bool
+    new j = either (eqb j (f % 8)) (bit j (getD x (f / 8) 0))
+
+    by : (t : Bool) → eqb (g / 8) (f / 8) ≡ t
+        → bit (g % 8) (getD (set x (f / 8) (byteOf new)) (g / 8) 0) ≡ either (eqb g f) (bit (g % 8) (getD x (g / 8) 0))
+    by true e =
+        let q : g / 8 ≡ f / 8 = eqb-true (g / 8) (f / 8) e in
+        let same : eqb g f ≡ eqb (g % 8) (f % 8) = eqb-together g f (g % 8) (f % 8) (λ p. omega arith) (λ p. omega arith) in
+        rw (q, getD-set-same x (f / 8) (byteOf new) 0 l, same) (byteOf-bit new (g % 8) (omega arith))
+    by false e =
+        let other : eqb g f ≡ false = ne-eqb g f (λ p. eqb-false (g / 8) (f / 8) e (ap (λ n. n / 8) p)) in
+        rw (getD-set-other x (f / 8) (g / 8) (byteOf new) 0 (eqb-false (g / 8) (f / 8) e), other)
+
+pub withExcluded-vectorOf : (frames : ℕ) (h : ℕ → Bool) (f : ℕ) → f < frames
+    → withExcluded (vectorOf frames h) f ≡ vectorOf frames (λ g. either (eqb g f) (h g))
+unfolding withExcluded either
+withExcluded-vectorOf frames h f l =
+    ext-getD 0 (withExcluded v f) w (long ∙ sym (vectorOf-length frames both))
+    (λ i b. at i (rw long at b) (eqb i (f / 8)) refl)
+  where
+    v : List ℕ
+    v = vectorOf frames h
+
+    both : ℕ → Bool
+    both g = either (eqb g f) (h g)
+
+    w : List ℕ
+    w = vectorOf frames both
+
+    long : length (withExcluded v f) ≡ vectorBytes frames
+    long = withExcluded-length v f ∙ vectorOf-length frames h
+
+    new : ℕ → Bool
+    new j = either (eqb j (f % 8)) (bit j (getD v (f / 8) 0))
+
+    here : f / 8 < vectorBytes frames
+    here = byte-below frames f l
+
+    bit-same : (i j : ℕ) → i ≡ f / 8 → j < 8 → new j ≡ both (i * 8 + j)
+    bit-same i j q b =
+        rw (eqb-together j (f % 8) (i * 8 + j) f (λ p. omega arith) (λ p. omega arith), vectorOf-byte frames h (f / 8) 0 here, byteOf-bit (λ k. h (f / 8 * 8 + k)) j b, q)
+
+    bit-other : (i j : ℕ) → (i ≡ f / 8 → ⊥) → j < 8 → h (i * 8 + j) ≡ both (i * 8 + j)
+    bit-other i j q b = rw (ne-eqb (i * 8 + j) f (λ p. q (omega arith)))
+
+    at : (i : ℕ) → i < vectorBytes frames → (t : Bool) → eqb i (f / 8) ≡ t → getD (withExcluded v f) i 0 ≡ getD w i 0
+    at i b true e =
+        let q : i ≡ f / 8 = eqb-true i (f / 8) e in
+        rw (q, getD-set-same v (f / 8) (byteOf new) 0 (rw vectorOf-length here), vectorOf-byte frames both (f / 8) 0 here)
+        (byteOf-ext new (λ j. both (f / 8 * 8 + j)) (λ j. bit-same (f / 8) j refl))
+    at i b false e =
+        let q : i ≡ f / 8 → ⊥ = eqb-false i (f / 8) e in
+        rw (getD-set-other v (f / 8) i (byteOf new) 0 q, vectorOf-byte frames h i 0 b, vectorOf-byte frames both i 0 b)
+        (byteOf-ext (λ j. h (i * 8 + j)) (λ j. both (i * 8 + j)) (λ j. bit-other i j q))

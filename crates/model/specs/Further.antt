@@ -1,0 +1,162 @@
+-- Cases beside the twelve of document 01, each from one of its sentences: a policy with two entry pages and a repeated frame, the calls that
+-- C1 to C12 do not make, and refusals with what comes before them. Rows as in Cases.
+use Prim.Native.Nat.{ℕ, _+_}
+use mathlib.Core.List.{List, [], _∷_}
+use lib.ListN.{replicate, set}
+use Rattle.model.specs.declared.State.{State}
+use Rattle.model.specs.declared.Mode.{Mode}
+use Rattle.model.specs.declared.Mode.the-variants.{Kernel, User}
+use Rattle.model.specs.Keeps.{Guard}
+use Rattle.model.specs.Policy.{zeroState}
+use Rattle.model.specs.Calls.{Reply, Outcome, accepted, refused, startOf}
+use Rattle.model.specs.Lists.{Call, syncPage, syncAll, fetch, write, enter, leave, deviceWrite, answer}
+use Rattle.model.specs.Cases.{Case, row}
+
+-- V 6, F 8, n 3, e 2, pages 1, 2 and 4, frames 5, 3 and 5.
+unfoldable pub twoEntries : List ℕ
+twoEntries = 6 ∷ 0 ∷ 8 ∷ 0 ∷ 3 ∷ 0 ∷ 2 ∷ 0 ∷ 1 ∷ 0 ∷ 2 ∷ 0 ∷ 4 ∷ 0 ∷ 5 ∷ 0 ∷ 3 ∷ 0 ∷ 5 ∷ 0 ∷ []
+
+-- A start on tables of these lengths that hold ones.
+unfoldable pub startOn : List ℕ → ℕ → ℕ → ℕ → Outcome
+startOn bytes shadow map exclusion = startOf bytes (replicate shadow 1) (replicate map 1) (replicate exclusion 1)
+
+-- A refused start leaves those tables, and answers the state of zeros.
+unfoldable pub startRefused : ℕ → ℕ → ℕ → ℕ → Outcome
+startRefused number shadow map exclusion =
+    record {
+      reply = refused number;
+      guard = record { state = zeroState; shadow = replicate shadow 1; map = replicate map 1; exclusion = replicate exclusion 1 };
+    }
+
+unfoldable pub sixPages : Mode → State
+sixPages mode = record { pages = 6; frames = 8; entries = 2; entry = 1 ∷ 2 ∷ replicate 14 0; mode = mode }
+
+-- A guard of that policy in a mode, with these shadow entries; map and vector as the start leaves them.
+unfoldable pub with6 : Mode → List ℕ → Guard
+with6 mode shadow =
+    record { state = sixPages mode; shadow = shadow; map = 65535 ∷ 5 ∷ 3 ∷ 65535 ∷ 5 ∷ 65535 ∷ []; exclusion = 0x28 ∷ [] }
+
+unfoldable pub shadow6 : List ℕ
+shadow6 = 0 ∷ 0x5401 ∷ 0x3401 ∷ 0 ∷ 0x5401 ∷ 0 ∷ []
+
+unfoldable pub started6 : Guard
+started6 = with6 (Kernel 1) shadow6
+
+-- The started guard with another entry at page 0, and with entries at pages 0 and 1, in a mode.
+unfoldable pub at0 : Mode → ℕ → Guard
+at0 mode entry = with6 mode (set shadow6 0 entry)
+
+unfoldable pub at01 : Mode → ℕ → ℕ → Guard
+at01 mode entry next = with6 mode (set (set shadow6 0 entry) 1 next)
+
+-- A call that leaves the guard as it was: every refused one, every write.
+unfoldable pub stays : Guard → Call → Reply → Case
+stays g call reply = row (answer g call) (record { reply = reply; guard = g })
+
+-- A guard whose state is replaced.
+unfoldable pub inState : State → Guard
+inState s = record { state = s; shadow = shadow6; map = started6 .map; exclusion = 0x28 ∷ [] }
+
+-- A user page and a kernel page of frame 6, as they stand in each mode.
+unfoldable pub leaving : List ℕ
+leaving = set (set shadow6 5 0x8000000000006007) 3 0x8000000000007003
+
+unfoldable pub left6 : List ℕ
+left6 =
+    0 ∷ 0x8000000000005401 ∷ 0x8000000000003401 ∷ 0x8000000000007003 ∷ 0x8000000000005401 ∷ 0x6007 ∷ []
+
+unfoldable pub startCases : List Case
+startCases =
+    -- "two parallel arrays"; "frames, which may repeat"; "the first e pages are the entry pages"
+    row (startOn twoEntries 6 6 1) (record { reply = accepted 3 2; guard = started6 })
+    -- 1 to 7, each with all before it yes
+    ∷ row (startOn (6 ∷ 0 ∷ 8 ∷ 0 ∷ 3 ∷ 0 ∷ 2 ∷ []) 6 6 1) (startRefused 1 6 6 1)
+    ∷ row (startOn (set twoEntries 1 8) 6 6 1) (startRefused 2 6 6 1)
+    ∷ row (startOn (set twoEntries 2 0) 6 6 1) (startRefused 2 6 6 1)
+    ∷ row (startOn (set twoEntries 4 7) 6 6 1) (startRefused 3 6 6 1)
+    ∷ row (startOn (set twoEntries 6 4) 6 6 1) (startRefused 3 6 6 1)
+    ∷ row (startOn (set twoEntries 4 2) 6 6 1) (startRefused 4 6 6 1)
+    ∷ row (startOn (set twoEntries 10 1) 6 6 1) (startRefused 5 6 6 1)
+    ∷ row (startOn (set (set twoEntries 12 6) 14 8) 6 6 1) (startRefused 5 6 6 1)
+    ∷ row (startOn (set twoEntries 14 8) 6 6 1) (startRefused 6 6 6 1)
+    ∷ row (startOn twoEntries 5 6 1) (startRefused 7 5 6 1)
+    ∷ row (startOn twoEntries 6 7 1) (startRefused 7 6 7 1)
+    ∷ row (startOn twoEntries 6 6 2) (startRefused 7 6 6 2)
+    ∷ []
+
+unfoldable pub syncCases : List Case
+syncCases =
+    -- All pages: absent, approved from another frame, approved and absent, an alias that joins, approved from a frame at F, ordinary.
+    row (answer started6 (syncAll (0 ∷ 0x7003 ∷ 0x2 ∷ 0x5007 ∷ 0x8003 ∷ 0x8000000000006007 ∷ [])))
+    (record {
+      reply = accepted 3 1;
+      guard =
+          record {
+            state = sixPages (Kernel 1);
+            shadow = 0 ∷ 0x5401 ∷ 0 ∷ 0x5401 ∷ 0x5401 ∷ 0x8000000000006207 ∷ [];
+            map = 65535 ∷ 5 ∷ 3 ∷ 5 ∷ 5 ∷ 65535 ∷ [];
+            exclusion = 0x28 ∷ [];
+          };
+    })
+    -- 7 of the kernel table's length, and of each part of the state; 9 of the page
+    ∷ stays started6 (syncAll (replicate 5 0)) (refused 7)
+    ∷ stays started6 (syncPage (replicate 7 0) 0) (refused 7)
+    ∷ stays started6 (syncPage (replicate 6 0) 6) (refused 9)
+    ∷ stays (inState (record { pages = 6; frames = 4097; entries = 2; entry = replicate 16 0; mode = Kernel 1 })) (fetch 1) (refused 7)
+    ∷ stays (inState (record { pages = 6; frames = 8; entries = 0; entry = replicate 16 0; mode = Kernel 1 })) (fetch 1) (refused 7)
+    ∷ stays (inState (record { pages = 6; frames = 8; entries = 17; entry = replicate 16 0; mode = Kernel 1 })) (fetch 1) (refused 7)
+    ∷ stays (inState (record { pages = 6; frames = 8; entries = 2; entry = replicate 16 0; mode = Kernel 6 })) (fetch 1) (refused 7)
+    ∷ stays (inState (record { pages = 5; frames = 8; entries = 2; entry = replicate 16 0; mode = Kernel 1 })) (fetch 1) (refused 7)
+    ∷ []
+
+unfoldable pub accessCases : List Case
+accessCases =
+    -- "Fetch a page: its frame, twice; that page is now running. Needs bit 63 clear and, in user mode, bit 2."
+    row (answer started6 (fetch 2)) (record { reply = accepted 3 3; guard = with6 (Kernel 2) shadow6 })
+    ∷ row (answer (at0 (User 1) 0x4005) (fetch 0)) (record { reply = accepted 4 4; guard = at0 (User 0) 0x4005 })
+    ∷ stays started6 (fetch 6) (refused 9)
+    ∷ stays started6 (fetch 0) (refused 11)
+    ∷ stays (at0 (User 1) 0x4001) (fetch 0) (refused 12)
+    ∷ stays (at0 (Kernel 1) 0x8000000000004001) (fetch 0) (refused 12)
+    -- A write that crosses into the next page: "first and last frame"; 11 of both pages, then 12 of both, then 13 of both.
+    ∷ stays (at01 (Kernel 1) 0x8000000000006003 0x8000000000007003) (write 4095 2) (accepted 6 7)
+    ∷ stays (at01 (Kernel 1) 0x8000000000006001 0) (write 4095 2) (refused 11)
+    ∷ stays (at01 (Kernel 1) 0x8000000000006003 0x8000000000007001) (write 4095 2) (refused 12)
+    ∷ stays (at01 (User 1) 0x8000000000006007 0x8000000000007003) (write 4095 2) (refused 12)
+    ∷ stays (at01 (Kernel 1) 0x8000000000006003 0x8000000000005003) (write 4095 2) (refused 13)
+    ∷ stays (at01 (Kernel 1) 0x8000000000006003 0x8000000000008003) (write 4095 2) (refused 13)
+    ∷ stays (at01 (Kernel 1) 0x8000000000006003 0x8000000000008003) (write 4094 2) (accepted 6 6)
+    ∷ stays started6 (write 24575 2) (refused 9)
+    ∷ stays started6 (write 18446744073709551615 16) (refused 9)
+    -- Device write: "every frame touched"; 8 before 9; sums are exact
+    ∷ stays started6 (deviceWrite 1 12287) (accepted 0 2)
+    ∷ stays started6 (deviceWrite 1 12288) (refused 13)
+    ∷ stays started6 (deviceWrite 16384 4097) (refused 13)
+    ∷ stays started6 (deviceWrite 32767 1) (accepted 7 7)
+    ∷ stays started6 (deviceWrite 0 0) (refused 8)
+    ∷ stays started6 (deviceWrite 0 1048577) (refused 8)
+    ∷ stays started6 (deviceWrite 18446744073709551615 1048576) (refused 9)
+    ∷ []
+
+unfoldable pub switchCases : List Case
+switchCases =
+    -- "Leave to a page: it needs bit 2 set and bit 9 clear." "Both switch the mode, run that page, and give the count of changed shadow
+    -- entries and 0."
+    row (answer (with6 (Kernel 1) leaving) (leave 5)) (record { reply = accepted 4 0; guard = with6 (User 5) left6 })
+    ∷ stays (with6 (Kernel 1) leaving) (leave 6) (refused 9)
+    ∷ stays (with6 (User 5) left6) (leave 6) (refused 9)
+    ∷ stays (with6 (User 5) left6) (leave 5) (refused 10)
+    ∷ stays (with6 (Kernel 1) leaving) (leave 0) (refused 11)
+    ∷ stays (with6 (Kernel 1) leaving) (leave 3) (refused 12)
+    ∷ stays (at0 (Kernel 1) 0x8000000000006207) (leave 0) (refused 12)
+    -- "Enter by entry index: the page needs bit 10."
+    ∷ row (answer (with6 (User 5) left6) (enter 1)) (record { reply = accepted 4 0; guard = with6 (Kernel 2) leaving })
+    ∷ stays (with6 (User 5) left6) (enter 2) (refused 9)
+    ∷ stays started6 (enter 2) (refused 9)
+    ∷ stays started6 (enter 0) (refused 10)
+    ∷ stays (with6 (User 5) (set left6 2 0x3400)) (enter 1) (refused 11)
+    ∷ stays (with6 (User 5) (set left6 2 0x8000000000003001)) (enter 1) (refused 12)
+    -- "sets bit 63 of each present shadow entry [..], approved mark and bits 2 and 9 as found, other bits kept": an absent entry keeps all bits
+    ∷ row (answer (with6 (User 5) (set (set left6 0 0x8000000000006006) 3 0x8000000000007e1f)) (enter 1))
+    (record { reply = accepted 5 0; guard = with6 (Kernel 2) (set (set leaving 0 0x8000000000006006) 3 0x7e1f) })
+    ∷ []

@@ -1,0 +1,2 @@
+-- Laws of enter and leave that only their proofs cite.
+mod ModeLaws

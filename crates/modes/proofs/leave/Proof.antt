@@ -1,0 +1,22 @@
+use Rattle.modes.proofs.ModeLaws.{leave-unfit, leave-in, leave-refused, leave-accepted}
+use borrow.Author.Needs.{needs}
+use Rattle.modes.proofs.leave.Statement.{statement}
+use Rattle.modes.proofs.leave.Tie as tie
+
+returns : tie.Need-returns
+returns c = search (needs, leave-unfit)
+
+going-refusal-requires : tie.Need-going-refusal-requires
+going-refusal-requires c κs = search (needs, leave-in)
+
+returns-2 : tie.Need-returns-2
+returns-2 c = search (needs, leave-refused)
+
+returns-3 : tie.Need-returns-3
+returns-3 c = search (needs, leave-accepted)
+
+pub leave-spec : {M : Type 1} → statement M
+leave-spec =
+    tie.close
+    (tie.spec (λ c κs. search needs) returns (λ c κs. search needs) (λ c κs. search needs) going-refusal-requires
+    (λ c. search needs) returns-2 (λ c. search needs) (λ c κs. search needs) (λ c. search needs) returns-3)

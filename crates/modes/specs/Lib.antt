@@ -1,0 +1,2 @@
+-- The questions that enter and leave share.
+pub mod Going

@@ -1,0 +1,2 @@
+-- Laws of the policy record that this crate and the start cite.
+pub mod RecordLaws

@@ -1,0 +1,176 @@
+-- Laws of a policy record as it is read: a number at a place, questions 5 and 6 on the numbers that are left, the first no of questions 1 to 6,
+-- and what it says of the start's questions.
+use Prim.Native.Nat.{ℕ, suc, _+_, _-_, _*_, _≤_, _<_, min}
+use mathlib.Core.Bool.{Bool, true, false, not, cond}
+use mathlib.Core.List.{List, [], _∷_, _++_}
+use mathlib.Core.Path.{_≡_, refl, sym, ap, _∙_}
+use lib.Dec.{leb, eqb}
+use lib.ListN.{length, getD, List·getD-eq-default}
+use native.Mathlib.Omega.{arith}
+use borrow.Author.Tests.{not-true, not-false, le-leb, lt-leb, eq-eqb, ne-eqb, eqb-false}
+use Rattle.model.specs.Edges.{both, within, pagesInRange, framesInRange}
+use Rattle.model.specs.Keeps.{vectorBytes}
+use Rattle.model.specs.Policy.{numberAt, numbersAt, policyOf}
+use Rattle.model.specs.Questions.{Ask, ask, firstNo, sizesInRange, countsInRange, rising, allBelow, inOrder, startAsks}
+use Rattle.model.proofs.AskLaws.{both-first, both-second, firstNo-yes, firstNo-no, numbered}
+use Rattle.model.proofs.PolicyLaws.{numbersAt-none, numbersAt-more, rising-none, rising-more, rising-low, rising-high, allBelow-none, allBelow-more, allBelow-no}
+use Rattle.policy.specs.Record.{recordAsks}
+
+-- A number past the end, one whose second byte is, and one inside.
+pub number-none : (bytes : List ℕ) (at : ℕ) → length bytes ≤ at → 0 ≡ numberAt bytes at
+unfolding numberAt
+number-none bytes at h =
+    let low : getD bytes at 0 ≡ 0 = List·getD-eq-default bytes 0 h in
+    let high : getD bytes (at + 1) 0 ≡ 0 = List·getD-eq-default bytes 0 (omega arith) in
+    rw (low, high)
+
+pub number-low : (bytes : List ℕ) (at r : ℕ) → length bytes ≤ at + 1 → r ≡ getD bytes at 0 + 256 * 0 → r ≡ numberAt bytes at
+unfolding numberAt
+number-low bytes at r h e =
+    let high : getD bytes (at + 1) 0 ≡ 0 = List·getD-eq-default bytes 0 h in
+    rw high e
+
+pub number-both : (bytes : List ℕ) (at r : ℕ) → r ≡ getD bytes at 0 + 256 * getD bytes (at + 1) 0 → r ≡ numberAt bytes at
+unfolding numberAt
+number-both bytes at r e = e
+
+-- Question 5, at the page read where `left` pages are left. `whole` is the answer on all of them.
+module _ (bytes : List ℕ) (pages least at left : ℕ) (whole : Bool) (e : rising pages least (numbersAt bytes at left) ≡ whole) where
+  pub rising-ends : left ≤ 0 → true ≡ whole
+  rising-ends h = sym (rising-none pages least (numbersAt-none bytes at (omega arith))) ∙ e
+
+  module _ (page : ℕ) (read : page ≡ numberAt bytes at) (more : 0 < left) where
+    front : rising pages least (page ∷ numbersAt bytes (at + 2) (left - 1)) ≡ whole
+    front = rw read (rw (numbersAt-more bytes at left more) at e)
+
+    pub rising-refuses-low : page < least → false ≡ whole
+    rising-refuses-low h = sym (rising-low pages least page _ h) ∙ front
+
+    pub rising-refuses-high : pages ≤ page → false ≡ whole
+    rising-refuses-high h = sym (rising-high pages least page _ h) ∙ front
+
+    pub rising-goes-on : least ≤ page → page < pages → rising pages (page + 1) (numbersAt bytes (at + 2) (left - 1)) ≡ whole
+    rising-goes-on h k = sym (rising-more pages least page _ h k) ∙ front
+
+-- Question 6, at the frame read where `left` frames are left.
+module _ (bytes : List ℕ) (limit at left : ℕ) (whole : Bool) (e : allBelow limit (numbersAt bytes at left) ≡ whole) where
+  pub below-ends : left ≤ 0 → true ≡ whole
+  below-ends h = sym (allBelow-none limit (numbersAt-none bytes at (omega arith))) ∙ e
+
+  module _ (frame : ℕ) (read : frame ≡ numberAt bytes at) (more : 0 < left) where
+    listed : allBelow limit (frame ∷ numbersAt bytes (at + 2) (left - 1)) ≡ whole
+    listed = rw read (rw (numbersAt-more bytes at left more) at e)
+
+    pub below-refuses : limit ≤ frame → false ≡ whole
+    below-refuses h = sym (allBelow-no limit frame _ h) ∙ listed
+
+    pub below-goes-on : frame < limit → allBelow limit (numbersAt bytes (at + 2) (left - 1)) ≡ whole
+    below-goes-on h = sym (allBelow-more limit frame _ h) ∙ listed
+
+-- A question asked by a test t: past a yes, and at a no.
+past : (n : ℕ) {b t : Bool} (qs : List Ask) → t ≡ b → not t ≡ false → firstNo (ask n b ∷ qs) ≡ firstNo qs
+past n {t = t} qs e h = firstNo-yes n qs (sym e ∙ not-false t h)
+
+stops : (n : ℕ) {b t : Bool} (qs : List Ask) → t ≡ b → not t ≡ true → firstNo (ask n b ∷ qs) ≡ n
+stops n {t = t} qs e h = firstNo-no n qs (sym e ∙ not-true t h)
+
+firstNo-none : firstNo [] ≡ 0
+unfolding firstNo
+firstNo-none = refl
+
+-- Questions 1 to 6 in order, by the tests that the code makes of the numbers that it read.
+module _ (bytes : List ℕ) where
+  pub record-1 : length bytes < 8 → 1 ≡ firstNo (recordAsks bytes)
+  unfolding recordAsks startAsks
+  record-1 h = sym (firstNo-no 1 _ (lt-leb 8 (length bytes) h))
+
+  module _ (h1 : 8 ≤ length bytes) (pages frames : ℕ) (eV : pages ≡ numberAt bytes 0) (eF : frames ≡ numberAt bytes 2) (sizes : Bool)
+      (e2 : sizes ≡ both (pagesInRange pages) (framesInRange frames)) where
+    yes1 : (qs : List Ask) → firstNo (ask 1 (leb 8 (length bytes)) ∷ qs) ≡ firstNo qs
+    yes1 qs = firstNo-yes 1 qs (le-leb 8 (length bytes) h1)
+
+    is2 : sizes ≡ sizesInRange (policyOf bytes)
+    unfolding sizesInRange policyOf
+    is2 = rw (← eV, ← eF) e2
+
+    pub record-2 : not sizes ≡ true → 2 ≡ firstNo (recordAsks bytes)
+    unfolding recordAsks startAsks
+    record-2 h = sym (yes1 _ ∙ stops 2 _ is2 h)
+
+    module _ (h2 : not sizes ≡ false) (count entries : ℕ) (eN : count ≡ numberAt bytes 4) (eE : entries ≡ numberAt bytes 6) (counts : Bool)
+        (e3 : counts ≡ both (within 1 pages count) (within 1 (min count 16) entries)) where
+      is3 : counts ≡ countsInRange (policyOf bytes)
+      unfolding countsInRange policyOf
+      is3 = rw (← eV, ← eN, ← eE) e3
+
+      pub record-3 : not counts ≡ true → 3 ≡ firstNo (recordAsks bytes)
+      unfolding recordAsks startAsks
+      record-3 h = sym (yes1 _ ∙ (past 2 _ is2 h2 ∙ stops 3 _ is3 h))
+
+      module _ (h3 : not counts ≡ false) where
+        yes123 : (qs : List Ask)
+            → firstNo (ask 1 (leb 8 (length bytes)) ∷ ask 2 (sizesInRange (policyOf bytes)) ∷ ask 3 (countsInRange (policyOf bytes)) ∷ qs) ≡ firstNo qs
+        yes123 qs = yes1 _ ∙ (past 2 _ is2 h2 ∙ past 3 _ is3 h3)
+
+        pub record-4 : (length bytes ≡ 8 + 4 * count → ⊥) → 4 ≡ firstNo (recordAsks bytes)
+        unfolding recordAsks startAsks policyOf
+        record-4 h = sym (yes123 _ ∙ firstNo-no 4 _ (rw (← eN) (ne-eqb (length bytes) (8 + 4 * count) h)))
+
+        module _ (h4 : length bytes ≡ 8 + 4 * count) (rises : Bool) (e5 : rises ≡ rising pages 0 (numbersAt bytes 8 count)) where
+          yes1234 : (qs : List Ask) → firstNo (ask 1 (leb 8 (length bytes)) ∷ ask 2 (sizesInRange (policyOf bytes)) ∷ ask 3 (countsInRange (policyOf bytes))
+              ∷ ask 4 (eqb (length bytes) (8 + 4 * policyOf bytes .count)) ∷ qs) ≡ firstNo qs
+          unfolding policyOf
+          yes1234 qs = yes123 _ ∙ firstNo-yes 4 qs (rw (← eN) (eq-eqb (length bytes) (8 + 4 * count) h4))
+
+          is5 : rises ≡ rising (policyOf bytes .pages) 0 (policyOf bytes .listed)
+          unfolding policyOf
+          is5 = rw (← eV, ← eN) e5
+
+          pub record-5 : not rises ≡ true → 5 ≡ firstNo (recordAsks bytes)
+          unfolding recordAsks startAsks
+          record-5 h = sym (yes1234 _ ∙ stops 5 _ is5 h)
+
+          module _ (h5 : not rises ≡ false) (below : Bool) (e6 : below ≡ allBelow frames (numbersAt bytes (8 + 2 * count) count)) where
+            is6 : below ≡ allBelow (policyOf bytes .frames) (policyOf bytes .backing)
+            unfolding policyOf
+            is6 = rw (← eF, ← eN) e6
+
+            pub record-6 : not below ≡ true → 6 ≡ firstNo (recordAsks bytes)
+            unfolding recordAsks startAsks
+            record-6 h = sym (yes1234 _ ∙ (past 5 _ is5 h5 ∙ stops 6 _ is6 h))
+
+            pub record-yes : not below ≡ false → 0 ≡ firstNo (recordAsks bytes)
+            unfolding recordAsks startAsks
+            record-yes h = sym (yes1234 _ ∙ (past 5 _ is5 h5 ∙ (past 6 _ is6 h ∙ firstNo-none)))
+
+-- The first no of two lists in a row: that of the first list, where it has one, and else that of the second.
+firstNo-front : (xs ys : List Ask) → (firstNo xs ≡ 0 → ⊥) → firstNo (xs ++ ys) ≡ firstNo xs
+unfolding firstNo
+firstNo-front [] ys h = absurd (h refl)
+firstNo-front (x ∷ xs) ys h = at (x .holds) refl (firstNo-front xs ys)
+  where
+    at : (b : Bool) → x .holds ≡ b → ((firstNo xs ≡ 0 → ⊥) → firstNo (xs ++ ys) ≡ firstNo xs)
+        → cond (x .holds) (firstNo (xs ++ ys)) (x .number) ≡ cond (x .holds) (firstNo xs) (x .number)
+    at true e rest = rw e (rest (λ z. h (rw e z)))
+    at false e rest = rw e refl
+
+firstNo-back : (xs ys : List Ask) → numbered xs ≡ true → firstNo xs ≡ 0 → firstNo (xs ++ ys) ≡ firstNo ys
+unfolding firstNo numbered
+firstNo-back [] ys n h = refl
+firstNo-back (x ∷ xs) ys n h = at (x .holds) refl (firstNo-back xs ys (both-second (not (eqb (x .number) 0)) (numbered xs) n))
+  where
+    at : (b : Bool) → x .holds ≡ b → (firstNo xs ≡ 0 → firstNo (xs ++ ys) ≡ firstNo ys)
+        → cond (x .holds) (firstNo (xs ++ ys)) (x .number) ≡ firstNo ys
+    at true e rest = rw e (rest (rw e at h))
+    at false e rest = absurd (eqb-false (x .number) 0 (not-true (eqb (x .number) 0) (both-first (not (eqb (x .number) 0)) (numbered xs) n)) (rw e at h))
+
+-- What the record's answer is to the start, whatever the lengths of the tables are: its number where it has one, and else question 7 decides.
+module _ (bytes : List ℕ) (n shadow map exclusion : ℕ) (e : n ≡ firstNo (recordAsks bytes)) where
+  pub start-refused : (n ≡ 0 → ⊥) → firstNo (startAsks bytes (policyOf bytes) shadow map exclusion) ≡ n
+  unfolding recordAsks startAsks
+  start-refused h = firstNo-front (recordAsks bytes) (ask 7 (inOrder true (eqb shadow (policyOf bytes .pages) ∷ eqb map (policyOf bytes .pages) ∷ eqb exclusion (vectorBytes (policyOf bytes .frames)) ∷ [])) ∷ []) (λ z. h (e ∙ z)) ∙ sym e
+
+  pub start-asked : n ≡ 0 → firstNo (startAsks bytes (policyOf bytes) shadow map exclusion)
+      ≡ cond (inOrder true (eqb shadow (policyOf bytes .pages) ∷ eqb map (policyOf bytes .pages) ∷ eqb exclusion (vectorBytes (policyOf bytes .frames)) ∷ [])) 0 7
+  unfolding recordAsks startAsks firstNo numbered both
+  start-asked h = firstNo-back (recordAsks bytes) (ask 7 (inOrder true (eqb shadow (policyOf bytes .pages) ∷ eqb map (policyOf bytes .pages) ∷ eqb exclusion (vectorBytes (policyOf bytes .frames)) ∷ [])) ∷ []) refl (sym e ∙ h)

@@ -1,0 +1,34 @@
+-- The pages that are left are asked as all of them were.
+use Prim.Native.Nat.{_+_, _*_}
+use mathlib.Core.Path.{_≡_}
+use borrow.Author.Needs.{needs}
+use Rattle.model.specs.Policy.{numbersAt}
+use Rattle.model.specs.Questions.{rising}
+use Rattle.policy.proofs.RecordLaws.{rising-ends, rising-refuses-low, rising-refuses-high, rising-goes-on}
+use Rattle.policy.proofs.pages_rising.Statement.{statement}
+use Rattle.policy.proofs.pages_rising.Tie as tie
+
+abbrev Inv-loop : tie.InvT-loop
+Inv-loop bytes pages count at₀ least₀ left₀ at least left =
+    (at + 2 * left ≡ 8 + 2 * count) × (rising pages least (numbersAt bytes at left) ≡ rising pages 0 (numbersAt bytes 8 count))
+
+abbrev μ-loop : tie.MeasureT-loop
+μ-loop bytes pages count at₀ least₀ left₀ at least left = left
+
+returns : tie.Need-returns Inv-loop μ-loop
+returns c = search (needs, rising-refuses-low)
+
+returns-2 : tie.Need-returns-2 Inv-loop μ-loop
+returns-2 c = search (needs, rising-refuses-high)
+
+loop-again : tie.Need-loop-again Inv-loop μ-loop
+loop-again c = search (needs, rising-goes-on)
+
+returns-3 : tie.Need-returns-3 Inv-loop μ-loop
+returns-3 c = search (needs, rising-ends)
+
+pub pages-rising-spec : {M : Type 1} → statement M
+pages-rising-spec =
+    tie.close
+    (tie.spec Inv-loop μ-loop (λ c. search needs) (λ c κs. search needs) returns returns-2 (λ c. search needs) (λ c. search needs)
+    (λ c. search needs) (λ c. search needs) loop-again returns-3)

@@ -1,0 +1,2 @@
+-- What the policy record is asked.
+pub mod Record

@@ -1,0 +1,11 @@
+-- The questions that a policy record is asked before any table is looked at.
+-- They are the start's own, so a change of a question there is a change here.
+use mathlib.Core.List.{List}
+use Prim.Native.Nat.{ℕ}
+use lib.ListN.{take}
+use Rattle.model.specs.Policy.{policyOf}
+use Rattle.model.specs.Questions.{Ask, startAsks}
+
+-- Questions 1 to 6 of the start. None of them looks at the length of a table.
+unfoldable pub recordAsks : List ℕ → List Ask
+recordAsks bytes = take 6 (startAsks bytes (policyOf bytes) 0 0 0)

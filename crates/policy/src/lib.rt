@@ -1,0 +1,162 @@
+// Document 01, "The policy record", and questions 1 to 6, which are about the record alone.
+// Every number of the record is read by `number_from`, through a reader.
+
+ghost use mathlib.Core.Path.{_≡_};
+ghost use Prim.Native.Nat.{_+_, _*_, _<_, _^_, min};
+ghost use Rattle.model.specs.Edges.{both, within, pagesInRange, framesInRange};
+ghost use Rattle.model.specs.Policy.{numberAt, numbersAt};
+ghost use Rattle.model.specs.Questions.{firstNo, rising, allBelow};
+ghost use Rattle.policy.specs.Record.{recordAsks};
+
+// Two bytes as a number, the lower one first.
+fn joined(low: u8, high: u8) -> u16
+    ensures { λ r. ⌜ r ≡ low + 256 * high ⌝ }
+{
+    low as u16 + 256 * high as u16
+}
+
+// The 16-bit number at a place of the bytes. A byte past the end counts as 0.
+fn number_at(bytes: &[u8], at: usize) -> u16
+    ensures { λ r. ⌜ r ≡ numberAt (now (bytes .entry)) at ⌝ }
+{
+    if bytes.len() <= at {
+        return 0;
+    }
+    let next = at + 1;
+    if bytes.len() <= next {
+        return joined(bytes[at], 0);
+    }
+    joined(bytes[at], bytes[next])
+}
+
+// "Reading a record goes through a reader that carries the lent bytes and how far it has come."
+// Its functions are thin: the number is read by `number_at`, and callers use `number_from`.
+pub struct Reader<'a> {
+    pub src: &'a [u8],
+    pub at: usize,
+}
+
+pub fn new<'a>(src: &'a [u8]) -> Reader<'a>
+    ensures { λ r. ⌜ (r .src ≡ src .entry) × (r .at ≡ 0) ⌝ }
+{
+    Reader { src, at: 0 }
+}
+
+// The place after the bytes skipped is a `usize`.
+pub fn skip<'a>(r: Reader<'a>, count: usize) -> Reader<'a>
+    requires { ⌜ r .at + count < 2 ^ 64 ⌝ }
+    ensures { λ q. ⌜ (q .src ≡ r .entry .src) × (q .at ≡ r .entry .at + count) ⌝ }
+{
+    Reader {
+        src: r.src,
+        at: r.at + count,
+    }
+}
+
+// The number where the reader stands.
+pub fn number<'a>(r: Reader<'a>) -> u16
+    ensures { λ n. ⌜ n ≡ numberAt (now (r .entry .src)) (r .entry .at) ⌝ }
+{
+    number_at(r.src, r.at)
+}
+
+// The number at a place, read by a reader that has come so far. The parameters are plain.
+pub fn number_from(bytes: &[u8], at: usize) -> u16
+    ensures { λ r. ⌜ r ≡ numberAt (now (bytes .entry)) at ⌝ }
+{
+    number(skip(new(bytes), at))
+}
+
+// Question 2.
+pub fn sizes_in_range(pages: u16, frames: u16) -> bool
+    ensures { λ r. ⌜ r ≡ both (pagesInRange pages) (framesInRange frames) ⌝ }
+{
+    questions::both(
+        questions::pages_in_range(pages),
+        questions::frames_in_range(frames),
+    )
+}
+
+fn smaller(a: u16, b: u16) -> u16
+    ensures { λ r. ⌜ r ≡ min a b ⌝ }
+{
+    if a < b { a } else { b }
+}
+
+// Question 3.
+pub fn counts_in_range(pages: u16, count: u16, entries: u16) -> bool
+    ensures { λ r. ⌜ r ≡ both (within 1 pages count) (within 1 (min count 16) entries) ⌝ }
+{
+    let most = smaller(count, 16);
+    questions::both(
+        questions::in_range(1, pages as u64, count as u64),
+        questions::in_range(1, most as u64, entries as u64),
+    )
+}
+
+// Question 5, of the count pages from byte 8 on.
+pub fn pages_rising(bytes: &[u8], pages: u16, count: u16) -> bool
+    ensures { λ r. ⌜ r ≡ rising pages 0 (numbersAt (now (bytes .entry)) 8 count) ⌝ }
+{
+    let mut at: usize = 8;
+    let mut least: u16 = 0;
+    let mut left = count;
+    while 0 < left {
+        let page = number_from(bytes, at);
+        if page < least {
+            return false;
+        }
+        if pages <= page {
+            return false;
+        }
+        least = page + 1;
+        at += 2;
+        left -= 1;
+    }
+    true
+}
+
+// Question 6, of the count frames behind the pages.
+pub fn frames_below(bytes: &[u8], frames: u16, count: u16) -> bool
+    ensures { λ r. ⌜ r ≡ allBelow frames (numbersAt (now (bytes .entry)) (8 + 2 * count) count) ⌝ }
+{
+    let mut at = 8 + 2 * count as usize;
+    let mut left = count;
+    while 0 < left {
+        if frames <= number_from(bytes, at) {
+            return false;
+        }
+        at += 2;
+        left -= 1;
+    }
+    true
+}
+
+// The first no among questions 1 to 6, or 0.
+pub fn record_question(bytes: &[u8]) -> u64
+    ensures { λ r. ⌜ r ≡ firstNo (recordAsks (now (bytes .entry))) ⌝ }
+{
+    if bytes.len() < 8 {
+        return 1;
+    }
+    let pages = number_from(bytes, 0);
+    let frames = number_from(bytes, 2);
+    if !sizes_in_range(pages, frames) {
+        return 2;
+    }
+    let count = number_from(bytes, 4);
+    let entries = number_from(bytes, 6);
+    if !counts_in_range(pages, count, entries) {
+        return 3;
+    }
+    if bytes.len() != 8 + 4 * count as usize {
+        return 4;
+    }
+    if !pages_rising(bytes, pages, count) {
+        return 5;
+    }
+    if !frames_below(bytes, frames, count) {
+        return 6;
+    }
+    0
+}

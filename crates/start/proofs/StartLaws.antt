@@ -1,0 +1,91 @@
+-- Laws of the start's answers: made of the record, refused by it, refused by question 7, accepted.
+use Prim.Native.Nat.{ℕ, zero, suc, _+_, _*_, _/_, _≤_}
+use mathlib.Core.Bool.{Bool, true, false, not, cond}
+use mathlib.Core.List.{List, [], _∷_}
+use mathlib.Core.Path.{_≡_, refl, sym, ap, _∙_}
+use lib.Dec.{eqb}
+use lib.ListN.{length, getD, replicate, length-replicate}
+use native.Mathlib.Omega.{arith}
+use borrow.Author.Tests.{not-true, not-false}
+use Rattle.model.specs.declared.Called.{Called}
+use Rattle.model.specs.declared.Answer.the-variants.{Done, Refused}
+use Rattle.model.specs.declared.Mode.the-variants.{Kernel}
+use Rattle.model.specs.Keeps.{vectorBytes}
+use Rattle.model.specs.Policy.{numberAt, policyOf, startState, startGuard}
+use Rattle.model.specs.Questions.{firstNo, allBelow, inOrder, startAsks}
+use Rattle.model.specs.Calls.{replyOf, startOf}
+use Rattle.model.proofs.AskLaws.{settle-accepted, settle-refused}
+use Rattle.model.proofs.PolicyLaws.{allBelow-wider, Passed, start-passed}
+use Rattle.policy.specs.Record.{recordAsks}
+use Rattle.policy.proofs.RecordLaws.{start-refused, start-asked}
+use Rattle.start.specs.Start.{startedBy, refusedWith, acceptedOn, entryTable, withEach}
+use Rattle.start.proofs.TablesSet.{entries-are, first-is, each-length}
+
+-- The answer of an accepted start, made of the numbers that were read.
+pub accepted-is : (bytes : List ℕ) (count entries pages frames first : ℕ) (entry : List ℕ) → count ≡ numberAt bytes 4 → entries ≡ numberAt bytes 6
+    → entry ≡ entryTable bytes entries → pages ≡ numberAt bytes 0 → frames ≡ numberAt bytes 2 → first ≡ numberAt bytes 8
+    → policyOf bytes .entries ≤ policyOf bytes .count → 1 ≤ policyOf bytes .count
+    → _≡_ {A = Called}
+    (record { answer = Done count entries; state = record { pages = pages; frames = frames; entries = entries; entry = entry; mode = Kernel first } })
+    (acceptedOn bytes)
+unfolding acceptedOn startState policyOf
+accepted-is bytes count entries pages frames first entry n e t v f p listed some =
+    rw (t, entries-are bytes entries e listed, n, e, v, f, p, first-is bytes some) refl
+
+-- The buffer is as long as every vector.
+pub buffer-room : (frames n : ℕ) (fs buffer : List ℕ) → n ≡ vectorBytes frames → frames ≤ 4096 → buffer ≡ withEach fs (replicate 512 0) → n ≤ length buffer
+unfolding vectorBytes
+buffer-room frames n fs buffer e h b = rw (b, each-length, length-replicate) (omega arith)
+
+-- The start's questions: the record's, and then question 7 by the V and F that were read.
+module _ (bytes : List ℕ) (shadow map exclusion question : ℕ) (asked : question ≡ firstNo (recordAsks bytes)) where
+  pub asks-record : (question ≡ 0 → ⊥) → question ≡ firstNo (startAsks bytes (policyOf bytes) shadow map exclusion)
+  asks-record named = sym (start-refused bytes question shadow map exclusion asked named)
+
+  module _ (six : question ≡ 0) (pages frames : ℕ) (eV : pages ≡ numberAt bytes 0) (eF : frames ≡ numberAt bytes 2) (fits : Bool)
+      (e7 : fits ≡ inOrder true (eqb shadow pages ∷ eqb map pages ∷ eqb exclusion (vectorBytes frames) ∷ [])) where
+    last : firstNo (startAsks bytes (policyOf bytes) shadow map exclusion) ≡ cond fits 0 7
+    unfolding policyOf
+    last = start-asked bytes question shadow map exclusion asked six ∙ rw (e7, eV, eF) refl
+
+    pub asks-lengths : not fits ≡ true → 7 ≡ firstNo (startAsks bytes (policyOf bytes) shadow map exclusion)
+    asks-lengths short = sym (last ∙ rw (not-true fits short) refl)
+
+    pub asks-none : not fits ≡ false → 0 ≡ firstNo (startAsks bytes (policyOf bytes) shadow map exclusion)
+    asks-none ok = sym (last ∙ rw (not-false fits ok) refl)
+
+-- All were yes: what the tables and the answer require.
+module _ (bytes : List ℕ) (shadow map exclusion question : ℕ) (asked : question ≡ firstNo (startAsks bytes (policyOf bytes) shadow map exclusion))
+    (none : question ≡ 0) where
+  passed : Passed (policyOf bytes) shadow map exclusion
+  passed = start-passed bytes (policyOf bytes) shadow map exclusion (sym asked ∙ none)
+
+  backing-below : allBelow 4096 (policyOf bytes .backing) ≡ true
+  backing-below = allBelow-wider (policyOf bytes .frames) 4096 (policyOf bytes .backing) (passed .frames-high) (passed .backing-below)
+
+  pub pages-ready : (shadow ≡ policyOf bytes .pages) × (map ≡ policyOf bytes .pages)
+      × (allBelow (policyOf bytes .pages) (policyOf bytes .listed) ≡ true) × (allBelow 4096 (policyOf bytes .backing) ≡ true)
+  pages-ready = (passed .shadow-fits, passed .map-fits, passed .listed-below, backing-below)
+
+  pub vector-ready : (exclusion ≡ vectorBytes (policyOf bytes .frames)) × (policyOf bytes .frames ≤ 4096) × (allBelow 4096 (policyOf bytes .backing) ≡ true)
+  vector-ready = (passed .exclusion-fits, passed .frames-high, backing-below)
+
+  pub answer-ready : (policyOf bytes .entries ≤ 16) × (policyOf bytes .entries ≤ policyOf bytes .count) × (1 ≤ policyOf bytes .count)
+  answer-ready = (passed .entries-high, passed .entries-listed, passed .count-low)
+
+-- The two answers. A refused start leaves the tables as they were.
+module _ (bytes shadow map exclusion : List ℕ) (question : ℕ) (r : Called)
+    (asked : question ≡ firstNo (startAsks bytes (policyOf bytes) (length shadow) (length map) (length exclusion))) where
+  pub start-refuses : (question ≡ 0 → ⊥) → r ≡ refusedWith question → startedBy r shadow map exclusion ≡ startOf bytes shadow map exclusion
+  unfolding startOf startedBy refusedWith replyOf
+  start-refuses named e = at question (sym asked) named e
+    where
+      at : (q : ℕ) → firstNo (startAsks bytes (policyOf bytes) (length shadow) (length map) (length exclusion)) ≡ q → (q ≡ 0 → ⊥) → r ≡ refusedWith q
+          → startedBy r shadow map exclusion ≡ startOf bytes shadow map exclusion
+      at zero n z d = absurd (z refl)
+      at (suc k) n z d = rw d (sym (settle-refused k _ _ n))
+
+  pub start-accepts : (s m x : List ℕ) → question ≡ 0 → r ≡ acceptedOn bytes → s ≡ startGuard (policyOf bytes) .shadow
+      → m ≡ startGuard (policyOf bytes) .map → x ≡ startGuard (policyOf bytes) .exclusion → startedBy r s m x ≡ startOf bytes shadow map exclusion
+  unfolding startOf startedBy acceptedOn replyOf startGuard
+  start-accepts s m x none e es em ex = rw (e, es, em, ex) (sym (settle-accepted _ _ (sym asked ∙ none)))

@@ -1,0 +1,18 @@
+use borrow.Author.Needs.{needs}
+use Rattle.model.specs.Policy.{policyOf}
+use Rattle.start.proofs.StartLaws.{accepted-is}
+use Rattle.start.proofs.accepted.Statement.{statement}
+use Rattle.start.proofs.accepted.Tie as tie
+
+entry-pages-requires : tie.Need-entry-pages-requires
+unfolding policyOf
+entry-pages-requires c κs = search needs
+
+returns : tie.Need-returns
+returns c = search (needs, accepted-is)
+
+pub accepted-spec : {M : Type 1} → statement M
+accepted-spec =
+    tie.close
+    (tie.spec (λ c κs. search needs) (λ c κs. search needs) entry-pages-requires (λ c. search needs) (λ c. search needs)
+    (λ c κs. search needs) (λ c κs. search needs) (λ c κs. search needs) returns)

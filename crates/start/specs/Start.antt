@@ -1,0 +1,46 @@
+-- What the start gives, and the tables after each of its loops: places set one by one, frames excluded one by one.
+-- The start's own promise names startedBy alone; the others stand in the promises of the functions below it.
+use Prim.Native.Nat.{ℕ, _+_, _*_}
+use mathlib.Core.Bool.{Bool, false, cond}
+use mathlib.Core.List.{List, [], _∷_, map}
+use lib.Dec.{ltb}
+use lib.ListN.{set}
+use Rattle.model.specs.declared.Answer.{Answer}
+use Rattle.model.specs.declared.Answer.the-variants.{Done, Refused}
+use Rattle.model.specs.declared.Called.{Called}
+use Rattle.model.specs.Edges.{table}
+use Rattle.model.specs.Keeps.{withExcluded}
+use Rattle.model.specs.Policy.{numberAt, policyOf, startState, zeroState}
+use Rattle.model.specs.Bits.{approved}
+use Rattle.model.specs.Calls.{Outcome, replyOf}
+
+-- What a start gave, with the tables that it left, as an outcome.
+unfoldable pub startedBy : Called → List ℕ → List ℕ → List ℕ → Outcome
+startedBy r shadow map exclusion =
+    record { reply = replyOf (r .answer); guard = record { state = r .state; shadow = shadow; map = map; exclusion = exclusion } }
+
+-- A refused start, and an accepted one on these bytes.
+unfoldable pub refusedWith : ℕ → Called
+refusedWith number = record { answer = Refused number; state = zeroState }
+
+unfoldable pub acceptedOn : List ℕ → Called
+acceptedOn bytes = record { answer = Done (policyOf bytes .count) (policyOf bytes .entries); state = startState (policyOf bytes) }
+
+-- The table with a value stored at each of the places, in their order.
+unfoldable pub placed : List ℕ → List ℕ → List ℕ → List ℕ
+placed [] values t = t
+placed (p ∷ places) [] t = t
+placed (p ∷ places) (v ∷ values) t = placed places values (set t p v)
+
+-- The approved entry of each frame, in kernel mode.
+unfoldable pub approvedEach : List ℕ → List ℕ
+approvedEach frames = map (approved false) frames
+
+-- The vector with each of the frames excluded too.
+unfoldable pub withEach : List ℕ → List ℕ → List ℕ
+withEach [] vector = vector
+withEach (f ∷ frames) vector = withEach frames (withExcluded vector f)
+
+-- The sixteen entry pages: the first of the numbers from byte 8 on, as many as there are entries, and else 0.
+unfoldable pub entryTable : List ℕ → ℕ → List ℕ
+entryTable bytes entries = table 16 (λ i. cond (ltb i entries) (numberAt bytes (8 + 2 * i)) 0)

@@ -1,0 +1,185 @@
+// Document 01, "The policy record": the start. It asks questions 1 to 7, sets every table and answers the first state.
+// Each loop is a function, and the record is read through the policy crate's reader alone.
+
+ghost use mathlib.Core.Path.{_≡_};
+ghost use mathlib.Core.Bool.{true};
+ghost use Prim.Native.Nat.{_+_, _*_, _≤_};
+ghost use lib.ListN.{length, take, replicate};
+ghost use Rattle.model.specs.Keeps.{vectorBytes};
+ghost use Rattle.model.specs.Policy.{numbersAt, policyOf, startGuard};
+ghost use Rattle.model.specs.Questions.{firstNo, allBelow, startAsks};
+ghost use Rattle.model.specs.Calls.{startOf};
+ghost use Rattle.start.specs.Start.{startedBy, refusedWith, acceptedOn, placed, approvedEach, withEach, entryTable};
+use model::Answer;
+use model::Called;
+use model::Mode;
+use model::State;
+
+// The place of the first listed page.
+const PAGES: usize = 8;
+
+// The map's number for a page without approval.
+const NONE: u16 = 65535;
+
+fn clear_shadow(shadow: &mut [u64])
+    ensures { λ _. ⌜ now (shadow .exit) ≡ replicate (length (now (shadow .entry))) 0 ⌝ }
+{
+    let mut i = 0;
+    while i < shadow.len() {
+        shadow[i] = 0;
+        i += 1;
+    }
+}
+
+fn clear_map(map: &mut [u16])
+    ensures { λ _. ⌜ now (map .exit) ≡ replicate (length (now (map .entry))) 65535 ⌝ }
+{
+    let mut i = 0;
+    while i < map.len() {
+        map[i] = NONE;
+        i += 1;
+    }
+}
+
+// The listed places of both tables. Question 5 has put every listed page inside them, so no index is tested again.
+fn set_places(bytes: &[u8], count: u16, shadow: &mut [u64], map: &mut [u16])
+    requires { ⌜ (allBelow (length (now shadow)) (numbersAt (now bytes) 8 count) ≡ true) × (length (now map) ≡ length (now shadow)) ⌝ }
+    ensures { λ _. ⌜ (now (shadow .exit) ≡ placed (numbersAt (now (bytes .entry)) 8 count) (approvedEach (numbersAt (now (bytes .entry)) (8 + 2 * count) count)) (now (shadow .entry))) × (now (map .exit) ≡ placed (numbersAt (now (bytes .entry)) 8 count) (numbersAt (now (bytes .entry)) (8 + 2 * count) count) (now (map .entry))) ⌝ }
+{
+    let mut page_at = PAGES;
+    let mut frame_at = PAGES + 2 * count as usize;
+    let mut left = count;
+    while 0 < left {
+        let page = policy::number_from(bytes, page_at) as usize;
+        let frame = policy::number_from(bytes, frame_at);
+        shadow[page] = entry::approved(false, frame);
+        map[page] = frame;
+        page_at += 2;
+        frame_at += 2;
+        left -= 1;
+    }
+}
+
+// The exclusion bits of the listed frames, into a vector.
+fn gather(bytes: &[u8], count: u16, vector: &mut [u8])
+    ensures { λ _. ⌜ now (vector .exit) ≡ withEach (numbersAt (now (bytes .entry)) (8 + 2 * count) count) (now (vector .entry)) ⌝ }
+{
+    let mut at = PAGES + 2 * count as usize;
+    let mut left = count;
+    while 0 < left {
+        bitmap::exclude(vector, policy::number_from(bytes, at) as u64);
+        at += 2;
+        left -= 1;
+    }
+}
+
+// The front of one run of bytes into another. The one read is as long at least: the buffer has room for every vector.
+fn copy_front(from: &[u8], to: &mut [u8])
+    requires { ⌜ length (now to) ≤ length (now from) ⌝ }
+    ensures { λ _. ⌜ now (to .exit) ≡ take (length (now (to .entry))) (now (from .entry)) ⌝ }
+{
+    let mut i = 0;
+    while i < to.len() {
+        to[i] = from[i];
+        i += 1;
+    }
+}
+
+// Shadow table and map. Questions 5 to 7 have shown what is required.
+fn set_pages(bytes: &[u8], shadow: &mut [u64], map: &mut [u16])
+    requires { ⌜ (length (now shadow) ≡ policyOf (now bytes) .pages) × (length (now map) ≡ policyOf (now bytes) .pages) × (allBelow (policyOf (now bytes) .pages) (policyOf (now bytes) .listed) ≡ true) × (allBelow 4096 (policyOf (now bytes) .backing) ≡ true) ⌝ }
+    ensures { λ _. ⌜ (now (shadow .exit) ≡ startGuard (policyOf (now (bytes .entry))) .shadow) × (now (map .exit) ≡ startGuard (policyOf (now (bytes .entry))) .map) ⌝ }
+{
+    clear_shadow(shadow);
+    clear_map(map);
+    set_places(bytes, policy::number_from(bytes, 4), shadow, map);
+}
+
+// The exclusion vector. The bits are gathered in a buffer with room for 4,096 frames, and copied.
+// Questions 2, 6 and 7 have shown what is required.
+fn set_vector(bytes: &[u8], exclusion: &mut [u8])
+    requires { ⌜ (length (now exclusion) ≡ vectorBytes (policyOf (now bytes) .frames)) × (policyOf (now bytes) .frames ≤ 4096) × (allBelow 4096 (policyOf (now bytes) .backing) ≡ true) ⌝ }
+    ensures { λ _. ⌜ now (exclusion .exit) ≡ startGuard (policyOf (now (bytes .entry))) .exclusion ⌝ }
+{
+    let mut buffer = [0u8; 512];
+    gather(bytes, policy::number_from(bytes, 4), &mut buffer);
+    copy_front(&buffer, exclusion);
+}
+
+// Question 3 has bounded the entries by sixteen, the array's length.
+fn entry_pages(bytes: &[u8], entries: u16) -> [u16; 16]
+    requires { ⌜ entries ≤ 16 ⌝ }
+    ensures { λ r. ⌜ r ≡ entryTable (now (bytes .entry)) entries ⌝ }
+{
+    let mut pages = [0u16; 16];
+    let mut i = 0;
+    while i < entries {
+        pages[i as usize] = policy::number_from(bytes, PAGES + 2 * i as usize);
+        i += 1;
+    }
+    pages
+}
+
+// A refused start has no state to keep: zeros, in user mode on page 0.
+fn refused(number: u64) -> Called
+    ensures { λ r. ⌜ r ≡ refusedWith number ⌝ }
+{
+    Called {
+        answer: Answer::Refused(number),
+        state: State {
+            pages: 0,
+            frames: 0,
+            entries: 0,
+            entry: [0u16; 16],
+            mode: Mode::User(0),
+        },
+    }
+}
+
+// An accepted start stands in kernel mode on the first entry page. Question 3 has shown what is required.
+fn accepted(bytes: &[u8]) -> Called
+    requires { ⌜ (policyOf (now bytes) .entries ≤ 16) × (policyOf (now bytes) .entries ≤ policyOf (now bytes) .count) × (1 ≤ policyOf (now bytes) .count) ⌝ }
+    ensures { λ r. ⌜ r ≡ acceptedOn (now (bytes .entry)) ⌝ }
+{
+    let count = policy::number_from(bytes, 4);
+    let entries = policy::number_from(bytes, 6);
+    let entry = entry_pages(bytes, entries);
+    Called {
+        answer: Answer::Done(count as u64, entries as u64),
+        state: State {
+            pages: policy::number_from(bytes, 0),
+            frames: policy::number_from(bytes, 2),
+            entries,
+            entry,
+            mode: Mode::Kernel(policy::number_from(bytes, PAGES)),
+        },
+    }
+}
+
+// The first no of the start's questions, or 0. Its arguments are the lengths of the tables.
+fn start_question(bytes: &[u8], shadow: usize, map: usize, exclusion: usize) -> u64
+    ensures { λ r. ⌜ r ≡ firstNo (startAsks (now (bytes .entry)) (policyOf (now (bytes .entry))) shadow map exclusion) ⌝ }
+{
+    let question = policy::record_question(bytes);
+    if question != 0 {
+        return question;
+    }
+    let pages = policy::number_from(bytes, 0);
+    let frames = policy::number_from(bytes, 2);
+    if !questions::start_in_order(pages, frames, shadow, map, exclusion) {
+        return 7;
+    }
+    0
+}
+
+pub fn start(bytes: &[u8], shadow: &mut [u64], map: &mut [u16], exclusion: &mut [u8]) -> Called
+    ensures { λ r. ⌜ startedBy r (now (shadow .exit)) (now (map .exit)) (now (exclusion .exit)) ≡ startOf (now (bytes .entry)) (now (shadow .entry)) (now (map .entry)) (now (exclusion .entry)) ⌝ }
+{
+    let question = start_question(bytes, shadow.len(), map.len(), exclusion.len());
+    if question != 0 {
+        return refused(question);
+    }
+    set_pages(bytes, shadow, map);
+    set_vector(bytes, exclusion);
+    accepted(bytes)
+}

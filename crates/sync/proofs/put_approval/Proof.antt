@@ -1,0 +1,16 @@
+use Rattle.sync.proofs.SyncLaws.{kept, same-counts, other-counts}
+use borrow.Author.Needs.{needs}
+use Rattle.sync.proofs.put_approval.Statement.{statement}
+use Rattle.sync.proofs.put_approval.Tie as tie
+
+returns : tie.Need-returns
+returns c = search (needs, kept, same-counts)
+
+returns-2 : tie.Need-returns-2
+returns-2 c = search (needs, other-counts)
+
+pub put-approval-spec : {M : Type 1} → statement M
+put-approval-spec =
+    tie.close
+    (tie.spec (λ c. search needs) (λ c. search needs) returns (λ c. search needs) (λ c. search needs) (λ c. search needs)
+    returns-2)

@@ -1,0 +1,26 @@
+use Rattle.sync.proofs.SyncLaws.{step-absent, step-approved, step-above, step-excluded, step-ordinary}
+use borrow.Author.Needs.{needs}
+use Rattle.sync.proofs.step.Statement.{statement}
+use Rattle.sync.proofs.step.Tie as tie
+
+returns : tie.Need-returns
+returns c = search (needs, step-absent)
+
+returns-2 : tie.Need-returns-2
+returns-2 c = search (needs, step-approved)
+
+returns-3 : tie.Need-returns-3
+returns-3 c = search (needs, step-above)
+
+returns-4 : tie.Need-returns-4
+returns-4 c = search (needs, step-excluded)
+
+returns-5 : tie.Need-returns-5
+returns-5 c = search (needs, step-ordinary)
+
+pub step-spec : {M : Type 1} → statement M
+step-spec =
+    tie.close
+    (tie.spec (λ c κs. search needs) (λ c. search needs) (λ c. search needs) returns (λ c κs. search needs) returns-2
+    returns-3 (λ c κs. search needs) (λ c. search needs) (λ c κs. search needs) returns-4 (λ c κs. search needs)
+    returns-5)

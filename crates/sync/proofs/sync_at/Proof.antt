@@ -1,0 +1,13 @@
+use Rattle.sync.proofs.SyncLaws.{stored-step}
+use borrow.Author.Needs.{needs}
+use Rattle.sync.proofs.sync_at.Statement.{statement}
+use Rattle.sync.proofs.sync_at.Tie as tie
+
+returns : tie.Need-returns
+returns c = search (needs, stored-step)
+
+pub sync-at-spec : {M : Type 1} → statement M
+sync-at-spec =
+    tie.close
+    (tie.spec (λ c. search needs) (λ c. search needs) (λ c κs. search needs) (λ c κs. search needs)
+    (λ c κs. search needs) (λ c. search needs) (λ c. search needs) returns)
