@@ -1,7 +1,5 @@
 -- Laws about the definitions, each stated once. Code crates cite them.
 pub mod AskLaws
-mod Computed
-pub mod TouchLaws
 pub mod BitLaws
 pub mod TableLaws
 pub mod PolicyLaws
