@@ -1,0 +1,263 @@
+// Synchronise all pages: tables with every kind of page in both modes, and its two counts.
+use crate::guard;
+use crate::same;
+use crate::tally::Tally;
+use model::Answer;
+use model::Answer::Done;
+use model::Mode;
+use model::Mode::Kernel;
+use model::Mode::User;
+
+// Eight pages, nine frames, 2 and 8 of them excluded.
+struct Tables {
+    shadow: [u64; 8],
+    map: [u16; 8],
+}
+
+fn eight(
+    t: Tally,
+    name: &[u8],
+    mode: Mode,
+    kernel: [u64; 8],
+    given: Tables,
+    wanted: Answer,
+    left: Tables,
+) -> Tally {
+    let mut shadow = given.shadow;
+    let mut map = given.map;
+    let shadow_left = left.shadow;
+    let map_left = left.map;
+    let answer = sync::sync_all(
+        guard::state(8, 9, 1, [1, 0, 0, 0], mode),
+        &kernel,
+        &mut shadow,
+        &mut map,
+        &[0x04, 0x01],
+    );
+    let entries = same::entries(&shadow, &shadow_left);
+    let numbers = same::numbers(&map, &map_left);
+    t.case(
+        b"sync_all",
+        name,
+        same::answers(answer, wanted) && entries && numbers,
+    )
+}
+
+// Pages 0 to 7: absent, approved for 2, at F, an alias of 8, ordinary, ordinary as before, approved for 8 and absent, ordinary no-execute.
+fn every_kind() -> [u64; 8] {
+    [
+        0x3002,
+        0x3003,
+        0x9003,
+        0x8003,
+        0x4003,
+        0x5005,
+        0x8002,
+        0x8000000000006007,
+    ]
+}
+
+fn before() -> Tables {
+    Tables {
+        shadow: [
+            0x8000000000003003,
+            0x2401,
+            0x8000000000001001,
+            0,
+            0,
+            0x8000000000005005,
+            0x8401,
+            0,
+        ],
+        map: [65535, 2, 65535, 65535, 65535, 65535, 8, 65535],
+    }
+}
+
+fn after_in_kernel_mode() -> Tables {
+    Tables {
+        shadow: [
+            0,
+            0x2401,
+            0,
+            0x8401,
+            0x8000000000004003,
+            0x8000000000005005,
+            0,
+            0x8000000000006207,
+        ],
+        map: [65535, 2, 65535, 8, 65535, 65535, 8, 65535],
+    }
+}
+
+fn after_in_user_mode() -> Tables {
+    Tables {
+        shadow: [
+            0,
+            0x8000000000002401,
+            0,
+            0x8000000000008401,
+            0x8000000000004003,
+            0x5005,
+            0,
+            0x8000000000006207,
+        ],
+        map: [65535, 2, 65535, 8, 65535, 65535, 8, 65535],
+    }
+}
+
+// "All pages: the same for each, in rising order." "Synchronise: shadow entries whose value changed; pages that joined the map."
+fn kinds(t: Tally) -> Tally {
+    let t = eight(
+        t,
+        b"every kind of page in kernel mode",
+        Kernel(1),
+        every_kind(),
+        before(),
+        Done(6, 1),
+        after_in_kernel_mode(),
+    );
+    let t = eight(
+        t,
+        b"every kind of page in user mode",
+        User(1),
+        every_kind(),
+        before(),
+        Done(8, 1),
+        after_in_user_mode(),
+    );
+    let t = eight(
+        t,
+        b"a second time changes nothing",
+        Kernel(1),
+        every_kind(),
+        after_in_kernel_mode(),
+        Done(0, 0),
+        after_in_kernel_mode(),
+    );
+    // Pages 1, 3, 4 and 5 are approved or ordinary and present, and bit 63 of 1, 3 and 5 goes by the mode.
+    eight(
+        t,
+        b"after the mode changed",
+        User(1),
+        every_kind(),
+        after_in_kernel_mode(),
+        Done(3, 0),
+        after_in_user_mode(),
+    )
+}
+
+fn extremes(t: Tally) -> Tally {
+    // Step 4 for each page, several to one frame.
+    let t = eight(
+        t,
+        b"every page joins",
+        Kernel(1),
+        [
+            0x2003,
+            0x8003,
+            0x2001,
+            0x8001,
+            0x2007,
+            0x8007,
+            0x2005,
+            0x8005,
+        ],
+        Tables {
+            shadow: [0, 0x8401, 0, 0, 0, 0, 0, 0x8000000000008005],
+            map: [65535, 65535, 65535, 65535, 65535, 65535, 65535, 65535],
+        },
+        Done(7, 8),
+        Tables {
+            shadow: [
+                0x2401,
+                0x8401,
+                0x2401,
+                0x8401,
+                0x2401,
+                0x8401,
+                0x2401,
+                0x8401,
+            ],
+            map: [2, 8, 2, 8, 2, 8, 2, 8],
+        },
+    );
+    // Step 1 for each page: "map unchanged".
+    let t = eight(
+        t,
+        b"no page is present",
+        User(1),
+        [0, 0, 0, 0, 0, 0, 0, 0],
+        before(),
+        Done(5, 0),
+        Tables {
+            shadow: [0, 0, 0, 0, 0, 0, 0, 0],
+            map: [65535, 2, 65535, 65535, 65535, 65535, 8, 65535],
+        },
+    );
+    // Step 2 on a damaged map: 9 and 65534 are frames, 65535 is none.
+    eight(
+        t,
+        b"a damaged map",
+        Kernel(1),
+        [0x3003, 0x3003, 0x3003, 0, 0x9003, 0x8003, 0x2003, 0x3003],
+        Tables {
+            shadow: [0, 0, 0, 0x9401, 0, 0, 0, 0],
+            map: [9, 65534, 65535, 9, 65534, 15, 65535, 4096],
+        },
+        Done(8, 1),
+        Tables {
+            shadow: [
+                0x9401,
+                0xfffe401,
+                0x8000000000003003,
+                0,
+                0xfffe401,
+                0xf401,
+                0x2401,
+                0x1000401,
+            ],
+            map: [9, 65534, 65535, 9, 65534, 15, 2, 4096],
+        },
+    )
+}
+
+// The largest tables: V 2,048, F 4,096, frame 4095 excluded.
+fn largest(t: Tally) -> Tally {
+    let mut shadow = [0u64; 2048];
+    let mut map = [65535u16; 2048];
+    let mut exclusion = [0u8; 512];
+    exclusion[511] = 0x80;
+    let s = guard::state(2048, 4096, 1, [0, 0, 0, 0], Kernel(2047));
+    let answer = sync::sync_all(s, &[0xfff003; 2048], &mut shadow, &mut map, &exclusion);
+    let entries = same::entries(&shadow, &[0xfff401; 2048]);
+    let numbers = same::numbers(&map, &[4095; 2048]);
+    let counts = same::answers(answer, Done(2048, 2048));
+    t.case(
+        b"sync_all",
+        b"2048 pages join",
+        counts && entries && numbers,
+    )
+}
+
+// The smallest: V 1, F 1, no frame excluded.
+fn smallest(t: Tally) -> Tally {
+    let mut shadow = [0u64; 1];
+    let mut map = [65535u16; 1];
+    let s = guard::state(1, 1, 1, [0, 0, 0, 0], User(0));
+    let answer = sync::sync_all(s, &[0x7], &mut shadow, &mut map, &[0]);
+    let entries = same::entries(&shadow, &[0x7]);
+    let numbers = same::numbers(&map, &[65535]);
+    let counts = same::answers(answer, Done(1, 0));
+    t.case(
+        b"sync_all",
+        b"one page and one frame",
+        counts && entries && numbers,
+    )
+}
+
+pub fn all(t: Tally) -> Tally {
+    let t = kinds(t);
+    let t = extremes(t);
+    let t = largest(t);
+    smallest(t)
+}
