@@ -4,7 +4,7 @@ use mathlib.Core.Path.{_≡_}
 use borrow.Author.Needs.{needs}
 use borrow.Author.Count.{below-none, below-more}
 use lib.ListN.{length}
-use Rattle.cases.proofs.Same.{AlikeTo, lengths-differ, places-differ, all-alike}
+use Rattle.cases.proofs.SameLaws.{AlikeTo, lengths-differ, places-differ, all-alike}
 use Rattle.cases.proofs.same.entries.Statement.{statement}
 use Rattle.cases.proofs.same.entries.Tie as tie
 
