@@ -10,7 +10,7 @@ const MAX_WRITE: u64 = 16;
 const MAX_TRANSFER: u64 = 1 << 20;
 
 /// Fetches from a page, which then runs: its frame, twice.
-#[inline]
+#[inline(always)]
 pub fn fetch(state: &mut State, shadow: &[u64], page: u64) -> Answer {
     if !state.fits_pages(shadow.len()) {
         return Err(Refusal::StateOrTable);
@@ -32,7 +32,7 @@ pub fn fetch(state: &mut State, shadow: &[u64], page: u64) -> Answer {
 }
 
 /// Writes 1 to 16 bytes at an address: the frames of the first and of the last byte.
-#[inline]
+#[inline(always)]
 pub fn write(state: &State, shadow: &[u64], exclusion: &[u8], address: u64, length: u64) -> Answer {
     write_checking::<true>(state, shadow, exclusion, address, length)
 }
@@ -69,7 +69,7 @@ pub(crate) fn write_checking<const BOTH: bool>(
 }
 
 /// Lets a device write 1 to 1,048,576 bytes at an address: the first and the last frame.
-#[inline]
+#[inline(always)]
 pub fn device_write(state: &State, exclusion: &[u8], address: u64, length: u64) -> Answer {
     if !state.fits_vector(exclusion.len()) {
         return Err(Refusal::StateOrTable);

@@ -39,13 +39,8 @@ impl Claim {
         }
     }
 
-    /// The one-page guards, by page.
-    pub fn pages(&self) -> &[PageGuard] {
-        &self.pages
-    }
-
     /// Kernel or user, on which all one-page guards agree.
-    pub fn is_user(&self) -> bool {
+    fn is_user(&self) -> bool {
         self.pages[0].is_user()
     }
 
@@ -101,13 +96,44 @@ impl Claim {
         }
     }
 
+    /// Whether a shadow table, a map and a mode are those that the one-page guards hold.
+    pub fn agrees(&self, shadow: &[u64], map: &[u16], is_user: bool) -> bool {
+        let pages = || self.pages.iter();
+        pages().map(PageGuard::entry).eq(shadow.iter().copied())
+            && pages().map(PageGuard::approval).eq(map.iter().copied())
+            && pages().all(|page| page.is_user() == is_user)
+    }
+
+    /// Whether an allowed call answers and reaches what it may, by the one-page guards before it: a fetch in kernel mode
+    /// reads a frame of the policy, and no write covers one.
+    pub fn is_safe(&self, call: &Call, numbers: (u64, u64)) -> bool {
+        match *call {
+            Call::Fetch { page } => {
+                let frame = self.frame(page);
+                numbers == (frame, frame) && (self.is_user() || self.pages[0].excludes(frame))
+            }
+            Call::Write { address, length } => {
+                let frames: Vec<_> =
+                    touched(address, length).map(|page| self.frame(page)).collect();
+                (frames.first(), frames.last()) == (Some(&numbers.0), Some(&numbers.1))
+                    && frames.iter().all(|&frame| self.is_free(frame))
+            }
+            Call::DeviceWrite { address, length } => {
+                let mut frames = touched(address, length);
+                numbers == (address / 4096, (address + length - 1) / 4096)
+                    && frames.all(|frame| self.is_free(frame))
+            }
+            _ => true,
+        }
+    }
+
     /// The frame in the entry of a page's one-page guard.
-    pub fn frame(&self, page: u64) -> u64 {
+    fn frame(&self, page: u64) -> u64 {
         (self.entry(page) >> 12) % (1 << 40)
     }
 
     /// Whether a frame is below F and not excluded.
-    pub fn is_free(&self, frame: u64) -> bool {
+    fn is_free(&self, frame: u64) -> bool {
         frame < self.f && !self.pages[0].excludes(frame)
     }
 

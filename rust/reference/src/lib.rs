@@ -3,6 +3,7 @@
 #![forbid(unsafe_code)]
 
 mod access;
+pub mod boundary;
 pub mod claim;
 mod drill;
 mod entry;

@@ -95,7 +95,20 @@ fn are_rising_below(pages: &[Word], v: u16) -> bool {
 }
 
 /// Starts the guard: the state, and n and e or the refusal.
+#[inline(always)]
 pub fn start(
+    record: &[u8],
+    shadow: &mut [u64],
+    map: &mut [u16],
+    exclusion: &mut [u8],
+) -> (State, Answer) {
+    start_where(true, record, shadow, map, exclusion)
+}
+
+/// Starts the guard where what else question 7 asks for is in order.
+#[inline(always)]
+pub(crate) fn start_where(
+    in_order: bool,
     record: &[u8],
     shadow: &mut [u64],
     map: &mut [u16],
@@ -106,7 +119,8 @@ pub fn start(
         Err(refusal) => return (State::REFUSED, Err(refusal)),
     };
     let v = usize::from(policy.v);
-    if shadow.len() != v || map.len() != v || exclusion.len() != vector_len(policy.f) {
+    let tables_fit = shadow.len() == v && map.len() == v && exclusion.len() == vector_len(policy.f);
+    if !tables_fit || !in_order {
         return (State::REFUSED, Err(Refusal::StateOrTable));
     }
     set_tables(&policy, shadow, map, exclusion);

@@ -5,6 +5,7 @@ use crate::entry::{no_execute, APPROVED, KERNEL_NO_EXECUTE, PRESENT, USER};
 use crate::state::{Answer, Mode, Refusal, State, ENTRY_PAGES};
 
 /// Enters the kernel by an entry index: how many shadow entries changed, and 0.
+#[inline(always)]
 pub fn enter(state: &mut State, shadow: &mut [u64], index: u64) -> Answer {
     if !state.fits_pages(shadow.len()) {
         return Err(Refusal::StateOrTable);
@@ -31,6 +32,7 @@ pub fn enter(state: &mut State, shadow: &mut [u64], index: u64) -> Answer {
 }
 
 /// Leaves the kernel to a page: how many shadow entries changed, and 0.
+#[inline(always)]
 pub fn leave(state: &mut State, shadow: &mut [u64], page: u64) -> Answer {
     if !state.fits_pages(shadow.len()) {
         return Err(Refusal::StateOrTable);

@@ -121,6 +121,7 @@ fn run<const IN_USER: bool, const VARIANT: u8>(
 }
 
 /// Synchronises one page: how many shadow entries changed, and how many pages joined the map.
+#[inline(always)]
 pub fn synchronise_one(
     state: &State,
     kernel: &[u64],
@@ -133,6 +134,7 @@ pub fn synchronise_one(
 }
 
 /// Synchronises all pages in rising order; the numbers are those of [`synchronise_one`].
+#[inline(always)]
 pub fn synchronise_all(
     state: &State,
     kernel: &[u64],
@@ -148,6 +150,7 @@ pub fn synchronise_all(
 pub mod without_approval {
     use super::{all, fault, one, Answer, State};
 
+    #[inline(always)]
     pub fn synchronise_one(
         state: &State,
         kernel: &[u64],
@@ -159,6 +162,7 @@ pub mod without_approval {
         one::<{ fault::NO_APPROVAL }>(state, kernel, shadow, map, exclusion, page)
     }
 
+    #[inline(always)]
     pub fn synchronise_all(
         state: &State,
         kernel: &[u64],

@@ -2,15 +2,8 @@
 //! Each test file uses a part of it.
 #![allow(dead_code)]
 
-use reference::{Answer, Fault, Mode, Refusal, State};
-
-/// A policy record of these sizes and of listed pages with their frames.
-pub fn record(v: u16, f: u16, e: u16, listed: &[(u16, u16)]) -> Vec<u8> {
-    let sizes = [v, f, listed.len() as u16, e];
-    let pages = listed.iter().map(|&(page, _)| page);
-    let frames = listed.iter().map(|&(_, frame)| frame);
-    sizes.into_iter().chain(pages).chain(frames).flat_map(u16::to_le_bytes).collect()
-}
+pub use inputs::record;
+use reference::{Answer, Mode, Refusal, State};
 
 /// The policy of document 01's cases: V 4, F 4, page 1 with frame 2.
 pub fn cases_record() -> Vec<u8> {
@@ -101,29 +94,4 @@ impl Guard {
 /// A refusal by its number.
 pub fn refused(number: u8) -> Answer {
     Err(Refusal::ALL[usize::from(number) - 1])
-}
-
-/// Numbers that differ from run to run only by their seed (xorshift).
-pub struct Random(pub u64);
-
-impl Random {
-    pub fn next(&mut self) -> u64 {
-        self.0 ^= self.0 << 13;
-        self.0 ^= self.0 >> 7;
-        self.0 ^= self.0 << 17;
-        self.0.wrapping_mul(0x2545_f491_4f6c_dd1d)
-    }
-
-    pub fn below(&mut self, end: u64) -> u64 {
-        (self.next() >> 11) % end
-    }
-
-    pub fn one_in(&mut self, count: u64) -> bool {
-        self.below(count) == 0
-    }
-}
-
-/// All mistakes and the guard without one.
-pub fn all_faults() -> impl Iterator<Item = Fault> {
-    std::iter::once(Fault::None).chain(Fault::PLANTED)
 }

@@ -1,0 +1,189 @@
+//! Fetch, write and device write, each with arguments that are all answered with the same number.
+//! The arguments are chosen by asking the reference beforehand.
+
+use std::hint::black_box;
+
+use guard::archive;
+use reference::{Answer, State};
+
+use crate::plain::{self, on_runs};
+use crate::sides::{PlainSide, RunSide};
+use crate::tables::Tables;
+use crate::work::{in_turn, Side, Sides, Work, ARGUMENTS};
+
+/// 0 for an accepted call, else the number of the refusal.
+fn number(answer: Answer) -> u8 {
+    answer.map_or_else(|refusal| refusal.number(), |_| 0)
+}
+
+/// Fetch: the pages that are answered with one number, in turn.
+pub struct Fetch {
+    sides: Sides,
+    pages: Vec<u64>,
+}
+
+impl Fetch {
+    pub fn new(tables: &Tables, wanted: u8) -> Fetch {
+        let sides = Sides::new(tables, false);
+        let answered = |page: u64| {
+            let mut state: State = sides.plain.state;
+            number(reference::fetch(&mut state, &sides.plain.shadow, page))
+        };
+        let pages = (0..tables.v.into()).filter(|&page| answered(page) == wanted).collect();
+        Fetch { pages: in_turn(pages), sides }
+    }
+}
+
+#[inline(always)]
+fn fetch_on_runs(
+    side: &mut RunSide,
+    pages: impl Iterator<Item = u64>,
+    call: impl Fn(&mut [u64], &[u64], u64, &mut [u64]) -> u64,
+) {
+    let RunSide { state, numbers, shadow, .. } = side;
+    for page in pages {
+        black_box(call(state, shadow, black_box(page), numbers));
+    }
+}
+
+#[inline(always)]
+fn fetch_on_state(side: &mut PlainSide, pages: impl Iterator<Item = u64>) {
+    let PlainSide { state, shadow, .. } = side;
+    for page in pages {
+        black_box(&plain::fetch(state, shadow, black_box(page)));
+    }
+}
+
+impl Work for Fetch {
+    fn repeat(&mut self, side: Side, count: u64) -> bool {
+        let pages = (0..count as usize).map(|i| self.pages[i % ARGUMENTS]);
+        match side {
+            Side::Archive => fetch_on_runs(&mut self.sides.archive, pages, archive::fetch),
+            Side::Reference => fetch_on_state(&mut self.sides.plain, pages),
+            Side::OnRuns => fetch_on_runs(&mut self.sides.on_runs, pages, on_runs::fetch),
+            Side::WithoutApproval => return false,
+        }
+        true
+    }
+
+    fn sides(&self) -> &Sides {
+        &self.sides
+    }
+}
+
+/// Write: the addresses that are answered with one number, in turn, with one length.
+pub struct Write {
+    sides: Sides,
+    addresses: Vec<u64>,
+    length: u64,
+}
+
+impl Write {
+    /// Writes that begin this many bytes before the end of a page.
+    pub fn new(tables: &Tables, before_end: u64, length: u64, wanted: u8) -> Write {
+        let sides = Sides::new(tables, false);
+        let PlainSide { state, shadow, exclusion, .. } = &sides.plain;
+        let answered =
+            |address| number(reference::write(state, shadow, exclusion, address, length));
+        let ends = (1..u64::from(tables.v)).map(|page| page * 4096 - before_end);
+        let addresses = ends.filter(|&address| answered(address) == wanted).collect();
+        Write { addresses: in_turn(addresses), length, sides }
+    }
+}
+
+#[inline(always)]
+fn write_on_runs(
+    side: &mut RunSide,
+    places: impl Iterator<Item = (u64, u64)>,
+    call: impl Fn(&[u64], &[u64], &[u8], u64, u64, &mut [u64]) -> u64,
+) {
+    let RunSide { state, numbers, shadow, exclusion, .. } = side;
+    for place in places {
+        let (address, length) = black_box(place);
+        black_box(call(state, shadow, exclusion, address, length, numbers));
+    }
+}
+
+#[inline(always)]
+fn write_on_state(side: &PlainSide, places: impl Iterator<Item = (u64, u64)>) {
+    let PlainSide { state, shadow, exclusion, .. } = side;
+    for place in places {
+        let (address, length) = black_box(place);
+        black_box(&plain::write(state, shadow, exclusion, address, length));
+    }
+}
+
+impl Work for Write {
+    fn repeat(&mut self, side: Side, count: u64) -> bool {
+        let places = (0..count as usize).map(|i| (self.addresses[i % ARGUMENTS], self.length));
+        match side {
+            Side::Archive => write_on_runs(&mut self.sides.archive, places, archive::write),
+            Side::Reference => write_on_state(&self.sides.plain, places),
+            Side::OnRuns => write_on_runs(&mut self.sides.on_runs, places, on_runs::write),
+            Side::WithoutApproval => return false,
+        }
+        true
+    }
+
+    fn sides(&self) -> &Sides {
+        &self.sides
+    }
+}
+
+/// Device write: accepted addresses at the beginning of a frame, in turn, with one length.
+pub struct DeviceWrite {
+    sides: Sides,
+    addresses: Vec<u64>,
+    length: u64,
+}
+
+impl DeviceWrite {
+    pub fn new(tables: &Tables, length: u64) -> DeviceWrite {
+        let sides = Sides::new(tables, false);
+        let PlainSide { state, exclusion, .. } = &sides.plain;
+        let is_accepted =
+            |&address: &u64| reference::device_write(state, exclusion, address, length).is_ok();
+        let begins = (0..2 * u64::from(tables.v)).rev().map(|frame| frame * 4096);
+        let addresses = begins.filter(is_accepted).collect();
+        DeviceWrite { addresses: in_turn(addresses), length, sides }
+    }
+}
+
+#[inline(always)]
+fn device_on_runs(
+    side: &mut RunSide,
+    places: impl Iterator<Item = (u64, u64)>,
+    call: impl Fn(&[u64], &[u8], u64, u64, &mut [u64]) -> u64,
+) {
+    let RunSide { state, numbers, exclusion, .. } = side;
+    for place in places {
+        let (address, length) = black_box(place);
+        black_box(call(state, exclusion, address, length, numbers));
+    }
+}
+
+#[inline(always)]
+fn device_on_state(side: &PlainSide, places: impl Iterator<Item = (u64, u64)>) {
+    let PlainSide { state, exclusion, .. } = side;
+    for place in places {
+        let (address, length) = black_box(place);
+        black_box(&plain::device_write(state, exclusion, address, length));
+    }
+}
+
+impl Work for DeviceWrite {
+    fn repeat(&mut self, side: Side, count: u64) -> bool {
+        let places = (0..count as usize).map(|i| (self.addresses[i % ARGUMENTS], self.length));
+        match side {
+            Side::Archive => device_on_runs(&mut self.sides.archive, places, archive::device_write),
+            Side::Reference => device_on_state(&self.sides.plain, places),
+            Side::OnRuns => device_on_runs(&mut self.sides.on_runs, places, on_runs::device_write),
+            Side::WithoutApproval => return false,
+        }
+        true
+    }
+
+    fn sides(&self) -> &Sides {
+        &self.sides
+    }
+}

@@ -1,0 +1,76 @@
+//! The measured cases by name.
+//! Preparing a case starts all its sides; only the repetitions are measured.
+
+use crate::access::{DeviceWrite, Fetch, Write};
+use crate::switch::{LeaveAndEnter, Start};
+use crate::synchronise::{SynchroniseAll, SynchroniseOne};
+use crate::tables::{Contents, Tables};
+use crate::work::Work;
+
+pub struct Case {
+    pub name: String,
+    pub prepare: Box<dyn Fn() -> Box<dyn Work>>,
+}
+
+const SIZES: [u16; 3] = [16, 256, 2048];
+const MIDDLE: u16 = 256;
+const LARGEST: u16 = 2048;
+const MEBIBYTE: u64 = 1 << 20;
+
+pub fn cases() -> Vec<Case> {
+    let mut cases = synchronisations();
+    cases.extend(accesses());
+    cases.extend(switches());
+    cases
+}
+
+fn case<W: Work + 'static>(
+    name: impl Into<String>,
+    prepare: impl Fn() -> W + Copy + 'static,
+) -> Case {
+    Case { name: name.into(), prepare: Box::new(move || Box::new(prepare())) }
+}
+
+fn synchronisations() -> Vec<Case> {
+    let mut cases = Vec::new();
+    for contents in Contents::ALL {
+        let name = format!("synchronise one, {}", contents.words());
+        cases.push(case(name, move || SynchroniseOne::new(Tables::new(contents, MIDDLE))));
+    }
+    for (v, in_user) in SIZES.map(|v| (v, false)).into_iter().chain([(LARGEST, true)]) {
+        for contents in Contents::ALL {
+            let mode = if in_user { ", user mode" } else { "" };
+            let name = format!("synchronise all, V {v}, {}{mode}", contents.words());
+            cases.push(case(name, move || SynchroniseAll::new(Tables::new(contents, v), in_user)));
+        }
+    }
+    cases
+}
+
+fn accesses() -> Vec<Case> {
+    let approved = || Tables::new(Contents::Approved, MIDDLE);
+    let ordinary = || Tables::new(Contents::Ordinary, MIDDLE);
+    let largest = || Tables::new(Contents::Ordinary, LARGEST);
+    vec![
+        case("fetch", move || Fetch::new(&approved(), 0)),
+        case("fetch, refused with 12", move || Fetch::new(&ordinary(), 12)),
+        case("write in one page", move || Write::new(&ordinary(), 64, 16, 0)),
+        case("write across two pages", move || Write::new(&ordinary(), 8, 16, 0)),
+        case("write, refused with 12", move || Write::new(&approved(), 64, 16, 12)),
+        case("device write, 1 byte", move || DeviceWrite::new(&largest(), 1)),
+        case("device write, 1 MiB", move || DeviceWrite::new(&largest(), MEBIBYTE)),
+    ]
+}
+
+fn switches() -> Vec<Case> {
+    let mut cases = Vec::new();
+    for v in SIZES {
+        let pair = move || LeaveAndEnter::new(&Tables::new(Contents::Ordinary, v));
+        cases.push(case(format!("leave and enter, V {v}"), pair));
+    }
+    for v in SIZES {
+        let start = move || Start::new(Tables::new(Contents::Approved, v));
+        cases.push(case(format!("start, V {v}, most pages listed"), start));
+    }
+    cases
+}

@@ -1,0 +1,178 @@
+//! The plain calls, none of them inlined: each is one call, as the archive's is.
+//! Otherwise the compiler could take parts of the plain sides out of the measured loop.
+
+use reference::{Answer, State};
+
+#[inline(never)]
+pub fn start(
+    policy: &[u8],
+    shadow: &mut [u64],
+    map: &mut [u16],
+    exclusion: &mut [u8],
+) -> (State, Answer) {
+    reference::start(policy, shadow, map, exclusion)
+}
+
+#[inline(never)]
+pub fn sync_page(
+    state: &State,
+    kernel: &[u64],
+    shadow: &mut [u64],
+    map: &mut [u16],
+    exclusion: &[u8],
+    page: u64,
+) -> Answer {
+    reference::synchronise_one(state, kernel, shadow, map, exclusion, page)
+}
+
+#[inline(never)]
+pub fn sync_all(
+    state: &State,
+    kernel: &[u64],
+    shadow: &mut [u64],
+    map: &mut [u16],
+    exclusion: &[u8],
+) -> Answer {
+    reference::synchronise_all(state, kernel, shadow, map, exclusion)
+}
+
+#[inline(never)]
+pub fn fetch(state: &mut State, shadow: &[u64], page: u64) -> Answer {
+    reference::fetch(state, shadow, page)
+}
+
+#[inline(never)]
+pub fn write(state: &State, shadow: &[u64], exclusion: &[u8], address: u64, length: u64) -> Answer {
+    reference::write(state, shadow, exclusion, address, length)
+}
+
+#[inline(never)]
+pub fn enter(state: &mut State, shadow: &mut [u64], index: u64) -> Answer {
+    reference::enter(state, shadow, index)
+}
+
+#[inline(never)]
+pub fn leave(state: &mut State, shadow: &mut [u64], page: u64) -> Answer {
+    reference::leave(state, shadow, page)
+}
+
+#[inline(never)]
+pub fn device_write(state: &State, exclusion: &[u8], address: u64, length: u64) -> Answer {
+    reference::device_write(state, exclusion, address, length)
+}
+
+/// Synchronising with the kernel's frame always taken, which guards nothing: the price of steps 2 and 4.
+pub mod without_approval {
+    use reference::{Answer, State};
+
+    #[inline(never)]
+    pub fn sync_page(
+        state: &State,
+        kernel: &[u64],
+        shadow: &mut [u64],
+        map: &mut [u16],
+        exclusion: &[u8],
+        page: u64,
+    ) -> Answer {
+        reference::without_approval::synchronise_one(state, kernel, shadow, map, exclusion, page)
+    }
+
+    #[inline(never)]
+    pub fn sync_all(
+        state: &State,
+        kernel: &[u64],
+        shadow: &mut [u64],
+        map: &mut [u16],
+        exclusion: &[u8],
+    ) -> Answer {
+        reference::without_approval::synchronise_all(state, kernel, shadow, map, exclusion)
+    }
+}
+
+/// The reference behind the archive's own boundary, with the archive's parameters.
+pub mod on_runs {
+    use reference::boundary;
+
+    #[inline(never)]
+    pub fn start(
+        policy: &[u8],
+        run: &mut [u64],
+        shadow: &mut [u64],
+        map: &mut [u16],
+        exclusion: &mut [u8],
+        numbers: &mut [u64],
+    ) -> u64 {
+        boundary::start(policy, run, shadow, map, exclusion, numbers)
+    }
+
+    #[inline(never)]
+    pub fn sync_page(
+        run: &[u64],
+        kernel: &[u64],
+        shadow: &mut [u64],
+        map: &mut [u16],
+        exclusion: &[u8],
+        page: u64,
+        numbers: &mut [u64],
+    ) -> u64 {
+        boundary::ask(run, numbers, |state| {
+            reference::synchronise_one(state, kernel, shadow, map, exclusion, page)
+        })
+    }
+
+    #[inline(never)]
+    pub fn sync_all(
+        run: &[u64],
+        kernel: &[u64],
+        shadow: &mut [u64],
+        map: &mut [u16],
+        exclusion: &[u8],
+        numbers: &mut [u64],
+    ) -> u64 {
+        boundary::ask(run, numbers, |state| {
+            reference::synchronise_all(state, kernel, shadow, map, exclusion)
+        })
+    }
+
+    #[inline(never)]
+    pub fn fetch(run: &mut [u64], shadow: &[u64], page: u64, numbers: &mut [u64]) -> u64 {
+        boundary::go(run, numbers, |state| reference::fetch(state, shadow, page))
+    }
+
+    #[inline(never)]
+    pub fn write(
+        run: &[u64],
+        shadow: &[u64],
+        exclusion: &[u8],
+        address: u64,
+        length: u64,
+        numbers: &mut [u64],
+    ) -> u64 {
+        boundary::ask(run, numbers, |state| {
+            reference::write(state, shadow, exclusion, address, length)
+        })
+    }
+
+    #[inline(never)]
+    pub fn enter(run: &mut [u64], shadow: &mut [u64], index: u64, numbers: &mut [u64]) -> u64 {
+        boundary::go(run, numbers, |state| reference::enter(state, shadow, index))
+    }
+
+    #[inline(never)]
+    pub fn leave(run: &mut [u64], shadow: &mut [u64], page: u64, numbers: &mut [u64]) -> u64 {
+        boundary::go(run, numbers, |state| reference::leave(state, shadow, page))
+    }
+
+    #[inline(never)]
+    pub fn device_write(
+        run: &[u64],
+        exclusion: &[u8],
+        address: u64,
+        length: u64,
+        numbers: &mut [u64],
+    ) -> u64 {
+        boundary::ask(run, numbers, |state| {
+            reference::device_write(state, exclusion, address, length)
+        })
+    }
+}

@@ -1,0 +1,78 @@
+//! What the sides hold: a state run or a state, and tables of their own.
+//! All are started by the same policy and synchronised from the same kernel table.
+
+use guard::archive::{self, NUMBERS, STATE_MODE, STATE_RUNNING, STATE_WORDS};
+use reference::{vector_len, Answer, State};
+
+use crate::tables::Tables;
+
+/// A side with a state run: the archive, and the reference behind its boundary.
+#[derive(Clone)]
+pub struct RunSide {
+    pub state: [u64; STATE_WORDS],
+    pub numbers: [u64; NUMBERS],
+    pub shadow: Vec<u64>,
+    pub map: Vec<u16>,
+    pub exclusion: Vec<u8>,
+}
+
+/// A side with a state: the reference, and the reference without approval.
+#[derive(Clone)]
+pub struct PlainSide {
+    pub state: State,
+    pub shadow: Vec<u64>,
+    pub map: Vec<u16>,
+    pub exclusion: Vec<u8>,
+}
+
+/// How a synchronisation of all pages is called.
+type SyncAll = fn(&State, &[u64], &mut [u64], &mut [u16], &[u8]) -> Answer;
+
+impl RunSide {
+    pub fn started(tables: &Tables, in_user: bool) -> RunSide {
+        let v = usize::from(tables.v);
+        let mut side = RunSide {
+            state: [0; STATE_WORDS],
+            numbers: [0; NUMBERS],
+            shadow: vec![0; v],
+            map: vec![0; v],
+            exclusion: vec![0; vector_len(2 * tables.v)],
+        };
+        let RunSide { state, numbers, shadow, map, exclusion } = &mut side;
+        let started = archive::start(&tables.policy, state, shadow, map, exclusion, numbers);
+        let synchronised =
+            archive::sync_all(state, &tables.kernels[1], shadow, map, exclusion, numbers);
+        let last = u64::from(tables.v) - 1;
+        let left = if in_user { archive::leave(state, shadow, last, numbers) } else { 0 };
+        assert_eq!([started, synchronised, left], [0; 3], "the archive refuses to begin");
+        side
+    }
+}
+
+impl PlainSide {
+    pub fn started(tables: &Tables, in_user: bool, synchronise: SyncAll) -> PlainSide {
+        let v = usize::from(tables.v);
+        let (mut shadow, mut map) = (vec![0; v], vec![0; v]);
+        let mut exclusion = vec![0; vector_len(2 * tables.v)];
+        let (mut state, started) =
+            reference::start(&tables.policy, &mut shadow, &mut map, &mut exclusion);
+        started.expect("the policy is accepted");
+        synchronise(&state, &tables.kernels[1], &mut shadow, &mut map, &exclusion)
+            .expect("the kernel table is accepted");
+        if in_user {
+            let last = u64::from(tables.v) - 1;
+            reference::leave(&mut state, &mut shadow, last).expect("the last page is user code");
+        }
+        PlainSide { state, shadow, map, exclusion }
+    }
+
+    /// Whether a side with a state run stands where this one does, in mode, running page and tables.
+    pub fn agrees(&self, other: &RunSide) -> bool {
+        let mode = self.state.mode;
+        other.state[STATE_MODE] == u64::from(mode.is_user())
+            && other.state[STATE_RUNNING] == u64::from(mode.page())
+            && other.shadow == self.shadow
+            && other.map == self.map
+            && other.exclusion == self.exclusion
+    }
+}

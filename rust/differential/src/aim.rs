@@ -1,0 +1,139 @@
+//! Where a list aims: policies, kernel tables and arguments near the edges of what exists and of what is excluded.
+//! An aimed list goes for aliases, ends of pages and neighbours of excluded frames; another is mostly random.
+
+use inputs::{random_kernel_entry, random_record, Random};
+use reference::claim::Call;
+
+/// The sizes of a list's policy and some of its excluded frames.
+pub struct Aim {
+    v: u64,
+    f: u64,
+    e: u64,
+    excluded: Vec<u64>,
+    is_aimed: bool,
+}
+
+/// A valid record: mostly with few pages and frames, so that aliases are frequent, and now and then of the largest sizes.
+pub fn policy(random: &mut Random) -> Vec<u8> {
+    let (v, f) = match random.below(60) {
+        0 => (2048, 4096),
+        1 => (1 + random.below(2048), 1 + random.below(4096)),
+        2..=9 => (1 + random.below(80), 1 + random.below(600)),
+        _ => (1 + random.below(12), 1 + random.below(20)),
+    };
+    random_record(random, v as u16, f as u16)
+}
+
+/// The sizes of a record that is long enough to have them: V, F, n, e.
+pub fn sizes(policy: &[u8]) -> [u16; 4] {
+    std::array::from_fn(|place| u16::from_le_bytes([policy[2 * place], policy[2 * place + 1]]))
+}
+
+impl Aim {
+    pub fn new(random: &mut Random, policy: &[u8]) -> Aim {
+        let [v, f, n, e] = sizes(policy).map(u64::from);
+        let frame_at = 8 + 2 * n as usize;
+        let frames = policy[frame_at..].chunks_exact(2).take(64);
+        let excluded =
+            frames.map(|frame| u16::from_le_bytes([frame[0], frame[1]]).into()).collect();
+        Aim { v, f, e, excluded, is_aimed: random.one_in(2) }
+    }
+
+    /// A kernel table with two places to spare, so that a call can be brought one of another length.
+    pub fn kernel(&self, random: &mut Random) -> Vec<u64> {
+        (0..self.v + 2).map(|_| self.entry(random)).collect()
+    }
+
+    fn entry(&self, random: &mut Random) -> u64 {
+        let entry = random_kernel_entry(random, self.f);
+        if !self.is_aimed || random.one_in(2) {
+            return entry;
+        }
+        let frame = self.near_excluded(random);
+        entry & !(((1 << 40) - 1) << 12) | frame << 12
+    }
+
+    /// An excluded frame, or one beside it.
+    fn near_excluded(&self, random: &mut Random) -> u64 {
+        (random.pick(&self.excluded) + random.below(3)).saturating_sub(random.below(2))
+    }
+
+    /// Edits some entries, or now and then all.
+    pub fn edit(&self, random: &mut Random, kernel: &mut Vec<u64>) {
+        if random.one_in(30) {
+            *kernel = self.kernel(random);
+        }
+        for _ in 0..random.below(3) {
+            let page = random.below(kernel.len() as u64) as usize;
+            kernel[page] = self.entry(random);
+        }
+    }
+
+    /// How many entries of the kernel table a call is brought: V, or now and then another number.
+    pub fn brought(&self, random: &mut Random) -> usize {
+        let length = if random.one_in(20) { random.below(self.v + 3) } else { self.v };
+        length as usize
+    }
+
+    pub fn call<'a>(&self, random: &mut Random, kernel: &'a [u64]) -> Call<'a> {
+        match random.below(15) {
+            0..3 => Call::SynchroniseOne { kernel, page: self.page(random) },
+            3 | 4 => Call::SynchroniseAll { kernel },
+            5 | 6 => Call::Fetch { page: self.page(random) },
+            7 | 8 => {
+                let length = if random.one_in(30) { random.word() } else { random.below(18) };
+                Call::Write { address: self.address(random, self.v), length }
+            }
+            9 | 10 => Call::Enter { index: near(random, self.e) },
+            11 | 12 => Call::Leave { page: self.page_to_leave_to(random, kernel) },
+            _ => self.device_write(random),
+        }
+    }
+
+    /// Often a page that the kernel maps as present, user and executable: a list is to reach user mode.
+    fn page_to_leave_to(&self, random: &mut Random, kernel: &[u64]) -> u64 {
+        let is_user_code = |page: u64| {
+            let entry = usize::try_from(page).ok().and_then(|page| kernel.get(page));
+            entry.is_some_and(|entry| entry & (1 << 63 | 0b101) == 0b101)
+        };
+        let tries = random.below(6);
+        let found = (0..tries).map(|_| self.page(random)).find(|&page| is_user_code(page));
+        found.unwrap_or_else(|| self.page(random))
+    }
+
+    fn page(&self, random: &mut Random) -> u64 {
+        near(random, self.v)
+    }
+
+    /// An address in `count` pages or frames: often within 20 bytes of the end of one, or near the largest number.
+    fn address(&self, random: &mut Random, count: u64) -> u64 {
+        match random.below(20) {
+            0 => random.word(),
+            1 => u64::MAX - random.below(20),
+            2..10 => ((random.below(count) + 1) * 4096).saturating_sub(random.below(20)),
+            _ => random.below(count * 4096 + 1),
+        }
+    }
+
+    fn device_write<'a>(&self, random: &mut Random) -> Call<'a> {
+        let most = random.pick(&[20, 5000, 20_000, 1_048_600]);
+        let length = if random.one_in(30) { random.word() } else { random.below(most) };
+        let address = if self.is_aimed && random.one_in(2) {
+            // It ends at an excluded frame, before it or in it.
+            let end = self.near_excluded(random) * 4096 + random.below(3);
+            end.saturating_sub(length)
+        } else {
+            self.address(random, self.f)
+        };
+        Call::DeviceWrite { address, length }
+    }
+}
+
+/// A number mostly below `count`, or `count` itself, or now and then any, also one that is small in its lower 16 bits.
+fn near(random: &mut Random, count: u64) -> u64 {
+    match random.below(30) {
+        0 => random.word(),
+        1 => random.below(count) + (1 << random.pick(&[16, 32, 63])),
+        _ => random.below(count + 1),
+    }
+}

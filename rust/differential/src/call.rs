@@ -1,0 +1,65 @@
+//! A call with its arguments, and the runs and tables that it is lent.
+//! Both sides take the same call on equal copies of what is lent.
+
+use guard::archive::{NUMBERS, STATE_WORDS};
+use inputs::Random;
+use reference::{claim, vector_len};
+
+/// The calls, in document 01's order.
+pub const KINDS: [&str; 8] = [
+    "start",
+    "synchronise one",
+    "synchronise all",
+    "fetch",
+    "write",
+    "enter",
+    "leave",
+    "device write",
+];
+
+/// A start, or a call that a list of demand 3 may have.
+#[derive(Clone, Copy, Debug)]
+pub enum Call<'a> {
+    Start { policy: &'a [u8] },
+    Listed(claim::Call<'a>),
+}
+
+impl Call<'_> {
+    /// Its place in [`KINDS`].
+    pub fn kind(&self) -> usize {
+        match self {
+            Call::Start { .. } => 0,
+            Call::Listed(claim::Call::SynchroniseOne { .. }) => 1,
+            Call::Listed(claim::Call::SynchroniseAll { .. }) => 2,
+            Call::Listed(claim::Call::Fetch { .. }) => 3,
+            Call::Listed(claim::Call::Write { .. }) => 4,
+            Call::Listed(claim::Call::Enter { .. }) => 5,
+            Call::Listed(claim::Call::Leave { .. }) => 6,
+            Call::Listed(claim::Call::DeviceWrite { .. }) => 7,
+        }
+    }
+}
+
+/// The runs and guard tables that a call is lent; each call uses a part of them.
+#[derive(Clone, Debug, PartialEq, Eq)]
+pub struct Lent {
+    pub state: Vec<u64>,
+    pub numbers: Vec<u64>,
+    pub shadow: Vec<u64>,
+    pub map: Vec<u16>,
+    pub exclusion: Vec<u8>,
+}
+
+impl Lent {
+    /// Runs and tables of the right lengths for V and F, with contents that a start has to overwrite.
+    pub fn garbage(random: &mut Random, v: u16, f: u16) -> Lent {
+        let v = usize::from(v);
+        Lent {
+            state: vec![random.word(); STATE_WORDS],
+            numbers: vec![random.word(); NUMBERS],
+            shadow: vec![random.word(); v],
+            map: vec![random.word() as u16; v],
+            exclusion: vec![random.word() as u8; vector_len(f)],
+        }
+    }
+}

@@ -1,0 +1,141 @@
+//! Damage to what a call is lent: the runs, the fields of the state, the lengths of the tables, and the contents of all.
+//! Contents stay damaged through a list; the other kinds concern one call.
+
+use guard::archive::{
+    STATE_ENTRIES, STATE_ENTRY, STATE_FRAMES, STATE_MODE, STATE_PAGES, STATE_RUNNING,
+};
+use inputs::Random;
+
+use crate::call::Lent;
+
+/// A kind of damage to what one call is lent.
+#[derive(Clone, Copy, Debug, PartialEq, Eq)]
+pub enum Damage {
+    /// Contents alone.
+    Contents,
+    /// A state run of another length.
+    StateRun,
+    /// A numbers run of another length.
+    NumbersRun,
+    /// A mode word other than 0 and 1.
+    ModeWord,
+    /// V, F, e, the running page or an entry page wider than 16 bits, with lower bits that are in range.
+    WideWord,
+    /// V, F, e or the running page out of range, or V or F of other tables.
+    Field,
+    /// A shadow table, map or exclusion vector of another length.
+    Table,
+}
+
+impl Damage {
+    pub const ALL: [Damage; 7] = [
+        Damage::Contents,
+        Damage::StateRun,
+        Damage::NumbersRun,
+        Damage::ModeWord,
+        Damage::WideWord,
+        Damage::Field,
+        Damage::Table,
+    ];
+
+    pub fn words(self) -> &'static str {
+        match self {
+            Damage::Contents => "contents alone",
+            Damage::StateRun => "length of the state run",
+            Damage::NumbersRun => "length of the numbers run",
+            Damage::ModeWord => "mode word",
+            Damage::WideWord => "word too wide",
+            Damage::Field => "field of the state",
+            Damage::Table => "length of a table",
+        }
+    }
+
+    /// Half of the calls find damaged contents alone.
+    pub fn random(random: &mut Random) -> Damage {
+        if random.one_in(2) {
+            Damage::Contents
+        } else {
+            random.pick(&Damage::ALL[1..])
+        }
+    }
+
+    pub fn apply(self, random: &mut Random, lent: &mut Lent) {
+        match self {
+            Damage::Contents => {}
+            Damage::StateRun => resize(random, &mut lent.state),
+            Damage::NumbersRun => resize(random, &mut lent.numbers),
+            Damage::ModeWord => {
+                let wide = 1 << random.pick(&[16, 32, 63]);
+                lent.state[STATE_MODE] = random.pick(&[2, 3, wide, wide + 1, u64::MAX]);
+            }
+            Damage::WideWord => {
+                let entry = STATE_ENTRY + random.below(16) as usize;
+                let fields =
+                    [STATE_PAGES, STATE_FRAMES, STATE_ENTRIES, STATE_RUNNING, entry, entry];
+                let word = &mut lent.state[random.pick(&fields)];
+                *word |= 1 << random.pick(&[16, 17, 31, 32, 63]);
+            }
+            Damage::Field => damage_field(random, &mut lent.state),
+            Damage::Table => match random.below(3) {
+                0 => resize(random, &mut lent.shadow),
+                1 => resize(random, &mut lent.map),
+                _ => resize(random, &mut lent.exclusion),
+            },
+        }
+    }
+}
+
+/// Another length: mostly one more or less, or none.
+fn resize<T: Copy + Default>(random: &mut Random, run: &mut Vec<T>) {
+    let length = run.len();
+    let other = match random.below(6) {
+        0 => 0,
+        1 => 2 * length,
+        2 | 3 => length - length.min(1),
+        _ => length + 1,
+    };
+    run.resize(if other == length { length + 1 } else { other }, T::default());
+}
+
+fn damage_field(random: &mut Random, state: &mut [u64]) {
+    // A start is lent words of any size.
+    let (v, f) = (state[STATE_PAGES] % (1 << 32), state[STATE_FRAMES] % (1 << 32));
+    let (place, value) = match random.below(4) {
+        0 => (STATE_PAGES, random.pick(&[0, v + 1, v.saturating_sub(1), 2049, 65535])),
+        1 => (STATE_FRAMES, random.pick(&[0, f + 8, f.saturating_sub(8), 4097, 65535])),
+        2 => (STATE_ENTRIES, random.pick(&[0, 17, 65535])),
+        _ => (STATE_RUNNING, random.pick(&[v, v + 1, 65535])),
+    };
+    state[place] = value;
+}
+
+/// Contents that no accepted start leaves, in a state and in tables that still pass question 7.
+pub fn damage_contents(random: &mut Random, lent: &mut Lent) {
+    let (v, f) = (lent.state[STATE_PAGES], lent.state[STATE_FRAMES]);
+    lent.shadow.iter_mut().for_each(|entry| *entry = shadow_entry(random, f));
+    for frame in &mut lent.map {
+        *frame = match random.below(4) {
+            0 => random.below(f + 2) as u16,
+            1 => random.word() as u16,
+            _ => u16::MAX,
+        };
+    }
+    let share = random.pick(&[2, 8, 64]);
+    for byte in &mut lent.exclusion {
+        *byte = (0..8).map(|bit| u8::from(random.one_in(share)) << bit).sum();
+    }
+    for page in &mut lent.state[STATE_ENTRY..STATE_MODE] {
+        *page = if random.one_in(8) { random.word() } else { random.below(v + 1) };
+    }
+    lent.state[STATE_ENTRIES] = 1 + random.below(16);
+    lent.state[STATE_MODE] = random.below(2);
+    lent.state[STATE_RUNNING] = random.below(v);
+}
+
+/// A shadow entry with any bits: mostly present, with a frame near those below F.
+fn shadow_entry(random: &mut Random, frames: u64) -> u64 {
+    let frame = if random.one_in(10) { random.word() >> 24 } else { random.below(frames + 2) };
+    let bits = random.word() & !(((1 << 40) - 1) << 12);
+    let present = u64::from(!random.one_in(6));
+    bits & !1 | frame << 12 | present
+}

@@ -1,0 +1,85 @@
+//! A list on damaged runs and tables: damaged contents pass from call to call, other damage concerns one call.
+//! Among the calls are starts, on sound and on damaged records.
+
+use inputs::Random;
+use reference::Fault;
+
+use crate::aim::{policy, sizes};
+use crate::call::{Call, Lent};
+use crate::damage::{damage_contents, Damage};
+use crate::list::List;
+use crate::run::{compare, Plan};
+use crate::sides::by_reference;
+use crate::tally::Tally;
+
+pub fn run_list(plan: &Plan, seed: u64, tally: &mut Tally) -> Result<(), String> {
+    let mut list = List::new(seed);
+    let mut lent = list.garbage();
+    by_reference(Fault::None, &mut lent, &Call::Start { policy: &list.policy });
+    damage_contents(&mut list.random, &mut lent);
+    for _ in 0..plan.calls {
+        if list.random.one_in(6) {
+            start_call(plan.fault, &mut list.random, tally)?;
+            continue;
+        }
+        if list.random.one_in(20) {
+            damage_contents(&mut list.random, &mut lent);
+        }
+        let mut damaged = lent.clone();
+        let damage = Damage::random(&mut list.random);
+        damage.apply(&mut list.random, &mut damaged);
+        let call = Call::Listed(list.next_call());
+        let number = compare(plan.fault, &mut damaged, &call)?;
+        tally.count_damaged(call.kind(), number, damage);
+        if damage == Damage::Contents {
+            lent = damaged;
+        }
+    }
+    Ok(())
+}
+
+/// A start: half of them on a damaged record, half of them on damaged runs or tables.
+fn start_call(fault: Fault, random: &mut Random, tally: &mut Tally) -> Result<(), String> {
+    let mut policy = policy(random);
+    let [v, f, ..] = sizes(&policy);
+    if random.one_in(2) {
+        damage_record(random, &mut policy);
+    }
+    let mut lent = Lent::garbage(random, v, f);
+    let damage = Damage::random(random);
+    damage.apply(random, &mut lent);
+    let call = Call::Start { policy: &policy };
+    let number = compare(fault, &mut lent, &call)?;
+    tally.count_damaged(call.kind(), number, damage);
+    Ok(())
+}
+
+/// Damages a sound record in one place or in several, so that more than one question would refuse it.
+fn damage_record(random: &mut Random, policy: &mut Vec<u8>) {
+    let sizes = sizes(policy);
+    for _ in 0..1 + random.below(3) {
+        damage_place(random, policy, sizes);
+    }
+}
+
+fn damage_place(random: &mut Random, policy: &mut Vec<u8>, [v, f, n, _]: [u16; 4]) {
+    let page_at = 8 + 2 * random.below(n.into()) as usize;
+    let frame_at = page_at + 2 * usize::from(n);
+    let page = policy.get(page_at..page_at + 2).map_or(0, |at| u16::from_le_bytes([at[0], at[1]]));
+    let (at, value) = match random.below(14) {
+        0 => return policy.truncate(random.below(8) as usize),
+        1 => (0, random.pick(&[0, 2049, 65535])),
+        2 => (2, random.pick(&[0, 4097, 65535])),
+        3 => (4, random.pick(&[0, v + 1, 65535])),
+        4 => (6, random.pick(&[0, n + 1, 17, 65535])),
+        5 => return policy.truncate(8 + random.below(4 * u64::from(n)) as usize),
+        6 => return policy.push(0),
+        // A page beside the listed one is often listed too.
+        7..=10 => (page_at, random.pick(&[v, 65535, page.wrapping_sub(1), page.wrapping_add(1)])),
+        _ => (frame_at, random.pick(&[f, f + 1, 65535])),
+    };
+    // A record that was cut short may not reach so far.
+    if let Some(number) = policy.get_mut(at..at + 2) {
+        number.copy_from_slice(&value.to_le_bytes());
+    }
+}

@@ -1,0 +1,18 @@
+//! The proved archive and the reference on the same lists of calls: answers, state and every table are compared.
+//! Half of the lists begin with an accepted start, and one-page guards check demand 3 there; the rest damage what they lend.
+#![forbid(unsafe_code)]
+
+mod aim;
+mod call;
+mod damage;
+mod damaged;
+mod list;
+mod run;
+mod sides;
+mod started;
+mod tally;
+
+pub use call::{Call, KINDS};
+pub use run::{run, Difference, Plan};
+pub use started::run_claim;
+pub use tally::{Tally, CELL_MINIMUM};

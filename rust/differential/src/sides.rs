@@ -1,0 +1,95 @@
+//! One call on each side: the archive, the reference behind the same boundary, and the safe guard over the archive.
+//! Archive and reference are lent the same runs and tables.
+
+use guard::{archive, Guard};
+use reference::claim::Call as Listed;
+use reference::{boundary, fault, Fault};
+
+use crate::call::{Call, Lent};
+
+/// The archive's number for a call.
+pub fn by_archive(lent: &mut Lent, call: &Call) -> u64 {
+    let Lent { state, numbers, shadow, map, exclusion } = lent;
+    let call = match *call {
+        Call::Start { policy } => {
+            return archive::start(policy, state, shadow, map, exclusion, numbers)
+        }
+        Call::Listed(call) => call,
+    };
+    match call {
+        Listed::SynchroniseOne { kernel, page } => {
+            archive::sync_page(state, kernel, shadow, map, exclusion, page, numbers)
+        }
+        Listed::SynchroniseAll { kernel } => {
+            archive::sync_all(state, kernel, shadow, map, exclusion, numbers)
+        }
+        Listed::Fetch { page } => archive::fetch(state, shadow, page, numbers),
+        Listed::Write { address, length } => {
+            archive::write(state, shadow, exclusion, address, length, numbers)
+        }
+        Listed::Enter { index } => archive::enter(state, shadow, index, numbers),
+        Listed::Leave { page } => archive::leave(state, shadow, page, numbers),
+        Listed::DeviceWrite { address, length } => {
+            archive::device_write(state, exclusion, address, length, numbers)
+        }
+    }
+}
+
+/// The reference's number for a call.
+pub fn by_reference(fault: Fault, lent: &mut Lent, call: &Call) -> u64 {
+    let Lent { state: run, numbers, shadow, map, exclusion } = lent;
+    let call = match *call {
+        Call::Start { policy } => {
+            return boundary::start(policy, run, shadow, map, exclusion, numbers)
+        }
+        Call::Listed(call) => call,
+    };
+    match call {
+        Listed::SynchroniseOne { kernel, page } => boundary::ask(run, numbers, |state| {
+            fault::synchronise_one(fault, state, kernel, shadow, map, exclusion, page)
+        }),
+        Listed::SynchroniseAll { kernel } => boundary::ask(run, numbers, |state| {
+            fault::synchronise_all(fault, state, kernel, shadow, map, exclusion)
+        }),
+        Listed::Fetch { page } => {
+            boundary::go(run, numbers, |state| reference::fetch(state, shadow, page))
+        }
+        Listed::Write { address, length } => boundary::ask(run, numbers, |state| {
+            fault::write(fault, state, shadow, exclusion, address, length)
+        }),
+        Listed::Enter { index } => {
+            boundary::go(run, numbers, |state| reference::enter(state, shadow, index))
+        }
+        Listed::Leave { page } => {
+            boundary::go(run, numbers, |state| reference::leave(state, shadow, page))
+        }
+        Listed::DeviceWrite { address, length } => boundary::ask(run, numbers, |state| {
+            reference::device_write(state, exclusion, address, length)
+        }),
+    }
+}
+
+/// The call on the safe guard: its number, and its two numbers as a run.
+pub fn by_guard(guard: &mut Guard, call: &Listed) -> (u64, [u64; 2]) {
+    let answer = match *call {
+        Listed::SynchroniseOne { kernel, page } => {
+            guard.synchronise_page(kernel, page).map(|counts| [counts.changed, counts.joined])
+        }
+        Listed::SynchroniseAll { kernel } => {
+            guard.synchronise_all(kernel).map(|counts| [counts.changed, counts.joined])
+        }
+        Listed::Fetch { page } => guard.fetch(page).map(|frame| [frame, frame]),
+        Listed::Write { address, length } => {
+            guard.write(address, length).map(|frames| [frames.first, frames.last])
+        }
+        Listed::Enter { index } => guard.enter(index).map(|changed| [changed, 0]),
+        Listed::Leave { page } => guard.leave(page).map(|changed| [changed, 0]),
+        Listed::DeviceWrite { address, length } => {
+            guard.device_write(address, length).map(|frames| [frames.first, frames.last])
+        }
+    };
+    match answer {
+        Ok(numbers) => (0, numbers),
+        Err(refusal) => (refusal.number().into(), [0, 0]),
+    }
+}

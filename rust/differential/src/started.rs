@@ -1,0 +1,115 @@
+//! A list from an accepted start, with tables passed on: the archive, the reference, the safe guard and the one-page guards.
+//! Demand 3 is checked at every call: the number, the entries, approvals and mode, the frames reached, and the counts.
+
+use guard::archive::{MODE_USER, STATE_MODE};
+use guard::Guard;
+use reference::claim::{Call as Listed, Claim};
+
+use crate::call::{Call, Lent};
+use crate::list::List;
+use crate::run::{compare, Plan};
+use crate::sides::{by_guard, by_reference};
+use crate::tally::Tally;
+
+pub fn run_list(plan: &Plan, seed: u64, tally: &mut Tally) -> Result<(), String> {
+    let mut list = List::new(seed);
+    let mut lent = list.garbage();
+    let start = Call::Start { policy: &list.policy };
+    let number = compare(plan.fault, &mut lent, &start)?;
+    tally.count_started(start.kind(), number);
+    let mut guard =
+        Guard::start(&list.policy).map_err(|refusal| format!("the start is {refusal}"))?;
+    let mut claim = Claim::told_start(&list.policy);
+    for _ in 0..plan.calls {
+        let listed = list.next_call();
+        let call = Call::Listed(listed);
+        let before = lent.clone();
+        let number = compare(plan.fault, &mut lent, &call)?;
+        tally.count_started(call.kind(), number);
+        compare_guard(&mut guard, &listed, number, &lent)?;
+        check_claim(&mut claim, &listed, number, &before, &lent)?;
+    }
+    Ok(())
+}
+
+/// The same list on the reference alone: the one-page guards find its mistake without another guard.
+pub fn run_claim(plan: &Plan, seed: u64) -> Result<(), String> {
+    let mut list = List::new(seed);
+    let mut lent = list.garbage();
+    by_reference(plan.fault, &mut lent, &Call::Start { policy: &list.policy });
+    let mut claim = Claim::told_start(&list.policy);
+    for _ in 0..plan.calls {
+        let listed = list.next_call();
+        let before = lent.clone();
+        let number = by_reference(plan.fault, &mut lent, &Call::Listed(listed));
+        check_claim(&mut claim, &listed, number, &before, &lent)?;
+    }
+    Ok(())
+}
+
+/// The safe guard answers the same and holds the same.
+fn compare_guard(
+    guard: &mut Guard,
+    call: &Listed,
+    number: u64,
+    after: &Lent,
+) -> Result<(), String> {
+    let answer = by_guard(guard, call);
+    let is_same = answer == (number, [after.numbers[0], after.numbers[1]])
+        && guard.state()[..] == after.state
+        && guard.shadow() == after.shadow
+        && guard.map() == after.map
+        && guard.exclusion() == after.exclusion;
+    if is_same {
+        Ok(())
+    } else {
+        Err(format!("the safe guard differs: {answer:?} after {call:?}"))
+    }
+}
+
+/// Demand 3 at one call. The one-page guards are told of it where it is accepted.
+fn check_claim(
+    claim: &mut Claim,
+    call: &Listed,
+    number: u64,
+    before: &Lent,
+    after: &Lent,
+) -> Result<(), String> {
+    let settled = claim.settled(call);
+    let numbers = (after.numbers[0], after.numbers[1]);
+    let holds = if settled == 0 {
+        claim.is_safe(call, numbers) && counts_fit(call, before, after)
+    } else {
+        tables_are_same(before, after) && before.state == after.state && numbers == (0, 0)
+    };
+    if settled == 0 {
+        claim.tell(call);
+    }
+    let is_user = after.state[STATE_MODE] == MODE_USER;
+    if holds && number == settled.into() && claim.agrees(&after.shadow, &after.map, is_user) {
+        return Ok(());
+    }
+    Err(format!("demand 3 fails: settled as {settled}, answered {number} {numbers:?}, {call:?}"))
+}
+
+fn tables_are_same(before: &Lent, after: &Lent) -> bool {
+    before.shadow == after.shadow && before.map == after.map && before.exclusion == after.exclusion
+}
+
+/// The counts of a synchronisation and of a switch are those of the places that differ; an access changes none.
+fn counts_fit(call: &Listed, before: &Lent, after: &Lent) -> bool {
+    match call {
+        Listed::Fetch { .. } | Listed::Write { .. } | Listed::DeviceWrite { .. } => {
+            tables_are_same(before, after)
+        }
+        _ => {
+            let changed = differing(&before.shadow, &after.shadow);
+            let joined = differing(&before.map, &after.map);
+            after.numbers == [changed, joined] && before.exclusion == after.exclusion
+        }
+    }
+}
+
+fn differing<T: PartialEq>(before: &[T], after: &[T]) -> u64 {
+    before.iter().zip(after).filter(|(old, new)| old != new).count() as u64
+}

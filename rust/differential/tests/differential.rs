@@ -1,0 +1,47 @@
+//! A million calls agree, every cell that can be reached is reached, and a planted mistake is found.
+//! The counts go to standard output, past the test program's own capture.
+
+use std::io::{self, Write};
+
+use differential::{run, run_claim, Plan};
+use reference::Fault;
+
+const SEED: u64 = 1;
+
+#[test]
+fn a_million_calls_agree() {
+    let plan = Plan { seed: SEED, lists: Plan::LISTS, calls: Plan::CALLS, fault: Fault::None };
+    let tally = run(&plan).unwrap_or_else(|difference| panic!("seed {SEED}, {difference}"));
+    let mut out = io::stdout().lock();
+    writeln!(out, "seed {SEED}, {} calls", tally.calls()).unwrap();
+    tally.print(&mut out).unwrap();
+    assert!(tally.calls() >= 1_000_000, "{} calls", tally.calls());
+    let complaints = tally.complaints();
+    assert!(complaints.is_empty(), "{}", complaints.join("\n"));
+}
+
+#[test]
+fn every_planted_mistake_is_found() {
+    for fault in Fault::PLANTED {
+        let plan = Plan { seed: SEED, lists: 200, calls: Plan::CALLS, fault };
+        let difference = run(&plan).expect_err(&format!("{fault:?} is not found"));
+        println!("{fault:?}: {difference}");
+    }
+}
+
+/// The one-page guards alone find every mistake, and none where there is none.
+#[test]
+fn demand_3_sees_every_planted_mistake() {
+    for fault in std::iter::once(Fault::None).chain(Fault::PLANTED) {
+        let plan = Plan { seed: SEED, lists: 0, calls: Plan::CALLS, fault };
+        let broken = (0..200).filter(|&seed| run_claim(&plan, seed).is_err()).count();
+        assert_eq!(broken > 0, fault != Fault::None, "{fault:?} breaks {broken} of 200 lists");
+    }
+}
+
+#[test]
+fn too_few_calls_are_noticed() {
+    let plan = Plan { seed: SEED, lists: 20, calls: Plan::CALLS, fault: Fault::None };
+    let tally = run(&plan).unwrap_or_else(|difference| panic!("seed {SEED}, {difference}"));
+    assert!(!tally.complaints().is_empty());
+}

@@ -1,0 +1,315 @@
+//! The functions of the proved archive, as include/guard.h documents them, and a safe function over each.
+//! All `unsafe` of the crate is here; tests/declarations.rs compares both halves with the Rattle source.
+//!
+//! A safe function takes the runs as slices, which settles the three things that the archive leaves to its caller: a pointer
+//! is valid for its length, a run lent for writing overlaps no other, and one run is lent to one call at a time. All else is
+//! tested by the archive, so slices of any length and contents may be passed.
+//!
+//! Each returns 0 where the call is accepted, else the number of the question that refused it.
+
+/// The words of a state run; the places of its fields follow.
+pub const STATE_WORDS: usize = 21;
+/// V, the number of virtual pages.
+pub const STATE_PAGES: usize = 0;
+/// F, the number of physical frames.
+pub const STATE_FRAMES: usize = 1;
+/// e, the number of entry pages.
+pub const STATE_ENTRIES: usize = 2;
+/// The first of the sixteen entry pages.
+pub const STATE_ENTRY: usize = 3;
+/// [`MODE_KERNEL`] or [`MODE_USER`].
+pub const STATE_MODE: usize = 19;
+/// The page now running.
+pub const STATE_RUNNING: usize = 20;
+
+pub const MODE_KERNEL: u64 = 0;
+pub const MODE_USER: u64 = 1;
+
+/// The words of a numbers run.
+pub const NUMBERS: usize = 2;
+
+extern "C" {
+    fn guard_start(
+        policy: *const u8,
+        policy_length: usize,
+        state: *mut u64,
+        state_length: usize,
+        shadow: *mut u64,
+        shadow_length: usize,
+        map: *mut u16,
+        map_length: usize,
+        exclusion: *mut u8,
+        exclusion_length: usize,
+        numbers: *mut u64,
+        numbers_length: usize,
+    ) -> u64;
+    fn guard_sync_page(
+        state: *const u64,
+        state_length: usize,
+        kernel: *const u64,
+        kernel_length: usize,
+        shadow: *mut u64,
+        shadow_length: usize,
+        map: *mut u16,
+        map_length: usize,
+        exclusion: *const u8,
+        exclusion_length: usize,
+        page: u64,
+        numbers: *mut u64,
+        numbers_length: usize,
+    ) -> u64;
+    fn guard_sync_all(
+        state: *const u64,
+        state_length: usize,
+        kernel: *const u64,
+        kernel_length: usize,
+        shadow: *mut u64,
+        shadow_length: usize,
+        map: *mut u16,
+        map_length: usize,
+        exclusion: *const u8,
+        exclusion_length: usize,
+        numbers: *mut u64,
+        numbers_length: usize,
+    ) -> u64;
+    fn guard_fetch(
+        state: *mut u64,
+        state_length: usize,
+        shadow: *const u64,
+        shadow_length: usize,
+        page: u64,
+        numbers: *mut u64,
+        numbers_length: usize,
+    ) -> u64;
+    fn guard_write(
+        state: *const u64,
+        state_length: usize,
+        shadow: *const u64,
+        shadow_length: usize,
+        exclusion: *const u8,
+        exclusion_length: usize,
+        address: u64,
+        length: u64,
+        numbers: *mut u64,
+        numbers_length: usize,
+    ) -> u64;
+    fn guard_enter(
+        state: *mut u64,
+        state_length: usize,
+        shadow: *mut u64,
+        shadow_length: usize,
+        index: u64,
+        numbers: *mut u64,
+        numbers_length: usize,
+    ) -> u64;
+    fn guard_leave(
+        state: *mut u64,
+        state_length: usize,
+        shadow: *mut u64,
+        shadow_length: usize,
+        page: u64,
+        numbers: *mut u64,
+        numbers_length: usize,
+    ) -> u64;
+    fn guard_device_write(
+        state: *const u64,
+        state_length: usize,
+        exclusion: *const u8,
+        exclusion_length: usize,
+        address: u64,
+        length: u64,
+        numbers: *mut u64,
+        numbers_length: usize,
+    ) -> u64;
+}
+
+/// Starts the guard by a policy record: n and e.
+#[inline]
+pub fn start(
+    policy: &[u8],
+    state: &mut [u64],
+    shadow: &mut [u64],
+    map: &mut [u16],
+    exclusion: &mut [u8],
+    numbers: &mut [u64],
+) -> u64 {
+    // SAFETY: each pair is a slice's own pointer and length; see the module's text.
+    unsafe {
+        guard_start(
+            policy.as_ptr(),
+            policy.len(),
+            state.as_mut_ptr(),
+            state.len(),
+            shadow.as_mut_ptr(),
+            shadow.len(),
+            map.as_mut_ptr(),
+            map.len(),
+            exclusion.as_mut_ptr(),
+            exclusion.len(),
+            numbers.as_mut_ptr(),
+            numbers.len(),
+        )
+    }
+}
+
+/// Synchronises one page: shadow entries changed, pages that joined the map.
+#[inline]
+pub fn sync_page(
+    state: &[u64],
+    kernel: &[u64],
+    shadow: &mut [u64],
+    map: &mut [u16],
+    exclusion: &[u8],
+    page: u64,
+    numbers: &mut [u64],
+) -> u64 {
+    // SAFETY: each pair is a slice's own pointer and length; see the module's text.
+    unsafe {
+        guard_sync_page(
+            state.as_ptr(),
+            state.len(),
+            kernel.as_ptr(),
+            kernel.len(),
+            shadow.as_mut_ptr(),
+            shadow.len(),
+            map.as_mut_ptr(),
+            map.len(),
+            exclusion.as_ptr(),
+            exclusion.len(),
+            page,
+            numbers.as_mut_ptr(),
+            numbers.len(),
+        )
+    }
+}
+
+/// Synchronises all pages: shadow entries changed, pages that joined the map.
+#[inline]
+pub fn sync_all(
+    state: &[u64],
+    kernel: &[u64],
+    shadow: &mut [u64],
+    map: &mut [u16],
+    exclusion: &[u8],
+    numbers: &mut [u64],
+) -> u64 {
+    // SAFETY: each pair is a slice's own pointer and length; see the module's text.
+    unsafe {
+        guard_sync_all(
+            state.as_ptr(),
+            state.len(),
+            kernel.as_ptr(),
+            kernel.len(),
+            shadow.as_mut_ptr(),
+            shadow.len(),
+            map.as_mut_ptr(),
+            map.len(),
+            exclusion.as_ptr(),
+            exclusion.len(),
+            numbers.as_mut_ptr(),
+            numbers.len(),
+        )
+    }
+}
+
+/// Fetches a page, which then runs: its frame, twice.
+#[inline]
+pub fn fetch(state: &mut [u64], shadow: &[u64], page: u64, numbers: &mut [u64]) -> u64 {
+    // SAFETY: each pair is a slice's own pointer and length; see the module's text.
+    unsafe {
+        guard_fetch(
+            state.as_mut_ptr(),
+            state.len(),
+            shadow.as_ptr(),
+            shadow.len(),
+            page,
+            numbers.as_mut_ptr(),
+            numbers.len(),
+        )
+    }
+}
+
+/// Writes 1 to 16 bytes at a virtual address: the first and the last frame.
+#[inline]
+pub fn write(
+    state: &[u64],
+    shadow: &[u64],
+    exclusion: &[u8],
+    address: u64,
+    length: u64,
+    numbers: &mut [u64],
+) -> u64 {
+    // SAFETY: each pair is a slice's own pointer and length; see the module's text.
+    unsafe {
+        guard_write(
+            state.as_ptr(),
+            state.len(),
+            shadow.as_ptr(),
+            shadow.len(),
+            exclusion.as_ptr(),
+            exclusion.len(),
+            address,
+            length,
+            numbers.as_mut_ptr(),
+            numbers.len(),
+        )
+    }
+}
+
+/// Enters the kernel by an entry index: shadow entries changed, and 0.
+#[inline]
+pub fn enter(state: &mut [u64], shadow: &mut [u64], index: u64, numbers: &mut [u64]) -> u64 {
+    // SAFETY: each pair is a slice's own pointer and length; see the module's text.
+    unsafe {
+        guard_enter(
+            state.as_mut_ptr(),
+            state.len(),
+            shadow.as_mut_ptr(),
+            shadow.len(),
+            index,
+            numbers.as_mut_ptr(),
+            numbers.len(),
+        )
+    }
+}
+
+/// Leaves the kernel to a page: shadow entries changed, and 0.
+#[inline]
+pub fn leave(state: &mut [u64], shadow: &mut [u64], page: u64, numbers: &mut [u64]) -> u64 {
+    // SAFETY: each pair is a slice's own pointer and length; see the module's text.
+    unsafe {
+        guard_leave(
+            state.as_mut_ptr(),
+            state.len(),
+            shadow.as_mut_ptr(),
+            shadow.len(),
+            page,
+            numbers.as_mut_ptr(),
+            numbers.len(),
+        )
+    }
+}
+
+/// Lets a device write 1 to 1,048,576 bytes at a physical address: the first and the last frame.
+#[inline]
+pub fn device_write(
+    state: &[u64],
+    exclusion: &[u8],
+    address: u64,
+    length: u64,
+    numbers: &mut [u64],
+) -> u64 {
+    // SAFETY: each pair is a slice's own pointer and length; see the module's text.
+    unsafe {
+        guard_device_write(
+            state.as_ptr(),
+            state.len(),
+            exclusion.as_ptr(),
+            exclusion.len(),
+            address,
+            length,
+            numbers.as_mut_ptr(),
+            numbers.len(),
+        )
+    }
+}

@@ -1,0 +1,181 @@
+//! The guard: its state run and tables, and a method for each call of document 01.
+//! A refused call changes nothing.
+
+use crate::archive;
+use crate::archive::{
+    MODE_USER, NUMBERS, STATE_ENTRIES, STATE_ENTRY, STATE_FRAMES, STATE_MODE, STATE_PAGES,
+    STATE_RUNNING, STATE_WORDS,
+};
+use crate::Refusal;
+
+/// The number in the approval map of a page without an approved frame.
+pub const NO_FRAME: u16 = u16::MAX;
+
+const MAX_PAGES: u16 = 2048;
+const MAX_FRAMES: u16 = 4096;
+
+/// Kernel or user, together with the page now running.
+#[derive(Clone, Copy, Debug, PartialEq, Eq)]
+pub enum Mode {
+    Kernel(u64),
+    User(u64),
+}
+
+/// What a synchronisation changed.
+#[derive(Clone, Copy, Debug, PartialEq, Eq)]
+pub struct Synchronised {
+    /// Shadow entries whose value changed.
+    pub changed: u64,
+    /// Pages that joined the approval map.
+    pub joined: u64,
+}
+
+/// The frames that the first and the last byte of a write go to.
+#[derive(Clone, Copy, Debug, PartialEq, Eq)]
+pub struct Frames {
+    pub first: u64,
+    pub last: u64,
+}
+
+/// A started guard.
+#[derive(Clone, Debug, PartialEq, Eq)]
+pub struct Guard {
+    state: [u64; STATE_WORDS],
+    shadow: Vec<u64>,
+    map: Vec<u16>,
+    exclusion: Vec<u8>,
+}
+
+impl Guard {
+    /// Starts a guard by a policy record, in kernel mode on the first entry page.
+    pub fn start(policy: &[u8]) -> Result<Guard, Refusal> {
+        let (pages, frames) = sizes(policy);
+        let mut guard = Guard {
+            state: [0; STATE_WORDS],
+            shadow: vec![0; pages],
+            map: vec![0; pages],
+            exclusion: vec![0; frames.div_ceil(8)],
+        };
+        let Guard { state, shadow, map, exclusion } = &mut guard;
+        answer(|numbers| archive::start(policy, state, shadow, map, exclusion, numbers))?;
+        Ok(guard)
+    }
+
+    /// Makes the shadow entry of one page from the kernel table.
+    pub fn synchronise_page(&mut self, kernel: &[u64], page: u64) -> Result<Synchronised, Refusal> {
+        let Guard { state, shadow, map, exclusion } = self;
+        let [changed, joined] = answer(|numbers| {
+            archive::sync_page(state, kernel, shadow, map, exclusion, page, numbers)
+        })?;
+        Ok(Synchronised { changed, joined })
+    }
+
+    /// Makes the shadow entries of all pages from the kernel table.
+    pub fn synchronise_all(&mut self, kernel: &[u64]) -> Result<Synchronised, Refusal> {
+        let Guard { state, shadow, map, exclusion } = self;
+        let [changed, joined] =
+            answer(|numbers| archive::sync_all(state, kernel, shadow, map, exclusion, numbers))?;
+        Ok(Synchronised { changed, joined })
+    }
+
+    /// Fetches from a page, which then runs: its frame.
+    pub fn fetch(&mut self, page: u64) -> Result<u64, Refusal> {
+        let Guard { state, shadow, .. } = self;
+        let [frame, _] = answer(|numbers| archive::fetch(state, shadow, page, numbers))?;
+        Ok(frame)
+    }
+
+    /// Asks for a write of 1 to 16 bytes at a virtual address.
+    pub fn write(&self, address: u64, length: u64) -> Result<Frames, Refusal> {
+        let Guard { state, shadow, exclusion, .. } = self;
+        let [first, last] =
+            answer(|numbers| archive::write(state, shadow, exclusion, address, length, numbers))?;
+        Ok(Frames { first, last })
+    }
+
+    /// Enters the kernel by an entry index: how many shadow entries changed.
+    pub fn enter(&mut self, index: u64) -> Result<u64, Refusal> {
+        let Guard { state, shadow, .. } = self;
+        let [changed, _] = answer(|numbers| archive::enter(state, shadow, index, numbers))?;
+        Ok(changed)
+    }
+
+    /// Leaves the kernel to a page: how many shadow entries changed.
+    pub fn leave(&mut self, page: u64) -> Result<u64, Refusal> {
+        let Guard { state, shadow, .. } = self;
+        let [changed, _] = answer(|numbers| archive::leave(state, shadow, page, numbers))?;
+        Ok(changed)
+    }
+
+    /// Asks for a device's write of 1 to 1,048,576 bytes at a physical address.
+    pub fn device_write(&self, address: u64, length: u64) -> Result<Frames, Refusal> {
+        let Guard { state, exclusion, .. } = self;
+        let [first, last] =
+            answer(|numbers| archive::device_write(state, exclusion, address, length, numbers))?;
+        Ok(Frames { first, last })
+    }
+
+    /// V, the number of virtual pages.
+    pub fn pages(&self) -> u64 {
+        self.state[STATE_PAGES]
+    }
+
+    /// F, the number of physical frames.
+    pub fn frames(&self) -> u64 {
+        self.state[STATE_FRAMES]
+    }
+
+    /// The entry pages, by their index.
+    pub fn entry_pages(&self) -> &[u64] {
+        &self.state[STATE_ENTRY..][..self.state[STATE_ENTRIES] as usize]
+    }
+
+    /// Kernel or user, and the page now running.
+    pub fn mode(&self) -> Mode {
+        let page = self.state[STATE_RUNNING];
+        if self.state[STATE_MODE] == MODE_USER {
+            Mode::User(page)
+        } else {
+            Mode::Kernel(page)
+        }
+    }
+
+    /// The shadow table, which the processor walks.
+    pub fn shadow(&self) -> &[u64] {
+        &self.shadow
+    }
+
+    /// The approval map: the frame approved for each page, or [`NO_FRAME`].
+    pub fn map(&self) -> &[u16] {
+        &self.map
+    }
+
+    /// The exclusion vector, a bit a frame.
+    pub fn exclusion(&self) -> &[u8] {
+        &self.exclusion
+    }
+
+    /// The words of the state, laid out as [`archive`] says.
+    pub fn state(&self) -> &[u64; STATE_WORDS] {
+        &self.state
+    }
+}
+
+/// V and F of a record. Sizes out of range are cut to the largest: the start refuses them before it looks at a table.
+fn sizes(policy: &[u8]) -> (usize, usize) {
+    let &[v0, v1, f0, f1, ..] = policy else {
+        return (0, 0);
+    };
+    let pages = u16::from_le_bytes([v0, v1]).min(MAX_PAGES);
+    let frames = u16::from_le_bytes([f0, f1]).min(MAX_FRAMES);
+    (pages.into(), frames.into())
+}
+
+/// The two numbers of an accepted call.
+fn answer(call: impl FnOnce(&mut [u64]) -> u64) -> Result<[u64; NUMBERS], Refusal> {
+    let mut numbers = [0; NUMBERS];
+    match call(&mut numbers) {
+        0 => Ok(numbers),
+        number => Err(Refusal::from_number(number).expect("the archive answers 0 to 13")),
+    }
+}

@@ -1,0 +1,27 @@
+//! The proved page guard as a Rust type: [`Guard`] owns its state and tables, and every call is safe on every input.
+//! The calls run in the archive of `crates/exports`, where each is proved to answer what document 01 says.
+//!
+//! ```
+//! use guard::{Frames, Guard, Mode, Refusal, Synchronised};
+//!
+//! // V 4, F 4, one listed page, which is an entry page: page 1 with frame 2.
+//! let policy = [4, 0, 4, 0, 1, 0, 1, 0, 1, 0, 2, 0];
+//! let mut guard = Guard::start(&policy)?;
+//! assert_eq!(guard.mode(), Mode::Kernel(1));
+//!
+//! // The kernel maps page 0 to the approved frame, and page 3 to frame 3.
+//! let kernel = [0x2003, 0, 0, 0x3007];
+//! assert_eq!(guard.synchronise_all(&kernel)?, Synchronised { changed: 3, joined: 1 });
+//! assert_eq!(guard.write(0, 1), Err(Refusal::NotPermitted));
+//! assert_eq!(guard.write(3 * 4096, 16)?, Frames { first: 3, last: 3 });
+//! # Ok::<(), Refusal>(())
+//! ```
+#![deny(unsafe_code)]
+
+#[allow(unsafe_code)]
+pub mod archive;
+mod calls;
+mod refusal;
+
+pub use calls::{Frames, Guard, Mode, Synchronised, NO_FRAME};
+pub use refusal::Refusal;

@@ -1,0 +1,28 @@
+//! Policy records as bytes.
+//! A record may be any, valid or not; a random one is valid.
+
+use crate::Random;
+
+/// A policy record of these sizes and of listed pages with their frames.
+pub fn record(v: u16, f: u16, e: u16, listed: &[(u16, u16)]) -> Vec<u8> {
+    let sizes = [v, f, listed.len() as u16, e];
+    let pages = listed.iter().map(|&(page, _)| page);
+    let frames = listed.iter().map(|&(_, frame)| frame);
+    sizes.into_iter().chain(pages).chain(frames).flat_map(u16::to_le_bytes).collect()
+}
+
+/// A valid record of these sizes that lists few or many pages, and at least one.
+pub fn random_record(random: &mut Random, v: u16, f: u16) -> Vec<u8> {
+    let share = random.pick(&[1, 3, 4, 8, 100]);
+    let mut listed = Vec::new();
+    for page in 0..v {
+        if random.one_in(share) {
+            listed.push((page, random.below(f.into()) as u16));
+        }
+    }
+    if listed.is_empty() {
+        listed.push((random.below(v.into()) as u16, random.below(f.into()) as u16));
+    }
+    let e = 1 + random.below(16.min(listed.len() as u64));
+    record(v, f, e as u16, &listed)
+}

@@ -1,0 +1,101 @@
+//! The reference behind the boundary of include/guard.h: the state in a run of 21 words, the two numbers in a run of two.
+//! Both runs are part of question 7; a refused call changes neither the state run nor a table, and a numbers run of two gets zeros.
+
+use crate::start::start_where;
+use crate::state::{Answer, Mode, Refusal, State};
+
+const STATE_WORDS: usize = 21;
+const PAGES: usize = 0;
+const FRAMES: usize = 1;
+const ENTRIES: usize = 2;
+const ENTRY: usize = 3;
+const MODE: usize = 19;
+const RUNNING: usize = 20;
+
+const NUMBERS: usize = 2;
+
+/// A call that leaves the state as it is.
+#[inline(always)]
+pub fn ask(run: &[u64], numbers: &mut [u64], call: impl FnOnce(&State) -> Answer) -> u64 {
+    let answer = match state_in(run) {
+        Some(state) if numbers.len() == NUMBERS => call(&state),
+        _ => Err(Refusal::StateOrTable),
+    };
+    reply(numbers, answer)
+}
+
+/// A call that may change the mode and the running page, and nothing else of the state.
+#[inline(always)]
+pub fn go(run: &mut [u64], numbers: &mut [u64], call: impl FnOnce(&mut State) -> Answer) -> u64 {
+    let answer = match state_in(run) {
+        Some(mut state) if numbers.len() == NUMBERS => {
+            let answer = call(&mut state);
+            if answer.is_ok() {
+                put_mode(run, state.mode);
+            }
+            answer
+        }
+        _ => Err(Refusal::StateOrTable),
+    };
+    reply(numbers, answer)
+}
+
+/// The start, which reads nothing of the state run. The lengths of both runs are the last that it asks for.
+pub fn start(
+    policy: &[u8],
+    run: &mut [u64],
+    shadow: &mut [u64],
+    map: &mut [u16],
+    exclusion: &mut [u8],
+    numbers: &mut [u64],
+) -> u64 {
+    let runs_fit = run.len() == STATE_WORDS && numbers.len() == NUMBERS;
+    let (state, answer) = start_where(runs_fit, policy, shadow, map, exclusion);
+    if answer.is_ok() {
+        put_state(run, &state);
+    }
+    reply(numbers, answer)
+}
+
+/// The state of a run with the right length, in which each field has its width. An entry page too wide is above every V.
+#[inline(always)]
+fn state_in(run: &[u64]) -> Option<State> {
+    let run: &[u64; STATE_WORDS] = run.try_into().ok()?;
+    let field = |place: usize| u16::try_from(run[place]).ok();
+    let page = field(RUNNING)?;
+    let mode = match run[MODE] {
+        0 => Mode::Kernel(page),
+        1 => Mode::User(page),
+        _ => return None,
+    };
+    let entry_pages = std::array::from_fn(|place| field(ENTRY + place).unwrap_or(u16::MAX));
+    Some(State { v: field(PAGES)?, f: field(FRAMES)?, e: field(ENTRIES)?, entry_pages, mode })
+}
+
+fn put_state(run: &mut [u64], state: &State) {
+    run[PAGES] = state.v.into();
+    run[FRAMES] = state.f.into();
+    run[ENTRIES] = state.e.into();
+    for (word, &page) in run[ENTRY..MODE].iter_mut().zip(&state.entry_pages) {
+        *word = page.into();
+    }
+    put_mode(run, state.mode);
+}
+
+#[inline(always)]
+fn put_mode(run: &mut [u64], mode: Mode) {
+    run[MODE] = mode.is_user().into();
+    run[RUNNING] = mode.page().into();
+}
+
+#[inline(always)]
+fn reply(numbers: &mut [u64], answer: Answer) -> u64 {
+    let (number, (first, second)) = match answer {
+        Ok(numbers) => (0, numbers),
+        Err(refusal) => (refusal.number().into(), (0, 0)),
+    };
+    if let Ok(numbers) = <&mut [u64; NUMBERS]>::try_from(numbers) {
+        *numbers = [first, second];
+    }
+    number
+}
