@@ -1,8 +1,8 @@
 // The guard that most cases stand on: V 4, F 9, two entry pages, page 1 approved for frame 2 and page 3 for frame 8.
 // Its exclusion vector is 0x04, 0x01. And the first places of a table, lent as a table of that length.
-use model::Answer;
-use model::Mode;
-use model::State;
+use crate::calls::Answer;
+use crate::calls::Mode;
+use crate::calls::State;
 
 // A state whose first four entry pages are given; the others are 0.
 pub fn state(pages: u16, frames: u16, entries: u16, entry: [u16; 4], mode: Mode) -> State {
@@ -11,13 +11,7 @@ pub fn state(pages: u16, frames: u16, entries: u16, entry: [u16; 4], mode: Mode)
     all[1] = entry[1];
     all[2] = entry[2];
     all[3] = entry[3];
-    State {
-        pages,
-        frames,
-        entries,
-        entry: all,
-        mode,
-    }
+    State { pages, frames, entries, entry: all, mode }
 }
 
 pub fn state_in(mode: Mode) -> State {

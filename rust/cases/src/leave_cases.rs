@@ -1,18 +1,18 @@
 // Leave to a page: "it needs bit 2 set and bit 9 clear"; it switches to user mode, runs that page, and gives "the count of changed
 // shadow entries and 0". Questions 9 to 12, and what the switch makes of each shadow entry.
+use crate::calls::Answer;
+use crate::calls::Answer::Done;
+use crate::calls::Answer::Refused;
+use crate::calls::Mode;
+use crate::calls::Mode::Kernel;
+use crate::calls::Mode::User;
 use crate::guard;
 use crate::same;
 use crate::tally::Tally;
-use model::Answer;
-use model::Answer::Done;
-use model::Answer::Refused;
-use model::Mode;
-use model::Mode::Kernel;
-use model::Mode::User;
 
 fn leave(
     t: Tally,
-    name: &[u8],
+    name: &str,
     given: Mode,
     page: u64,
     shadow: [u64; 4],
@@ -21,34 +21,21 @@ fn leave(
     shadow_left: [u64; 4],
 ) -> Tally {
     let mut table = shadow;
-    let called = modes::leave(guard::state_in(given), &mut table, page);
+    let called = crate::calls::leave(guard::state_in(given), &mut table, page);
     let answer = called.answer;
     let state = called.state;
     let entries = same::entries(&table, &shadow_left);
     let moved = same::states(state, guard::state_in(left));
-    t.case(
-        b"leave",
-        name,
-        same::answers(answer, wanted) && moved && entries,
-    )
+    t.case("leave", name, same::answers(answer, wanted) && moved && entries)
 }
 
 // An accepted leave to page 0: the count of changed entries and the table that is left.
-fn left(t: Tally, name: &[u8], shadow: [u64; 4], changed: u64, shadow_left: [u64; 4]) -> Tally {
-    leave(
-        t,
-        name,
-        Kernel(1),
-        0,
-        shadow,
-        Done(changed, 0),
-        User(0),
-        shadow_left,
-    )
+fn left(t: Tally, name: &str, shadow: [u64; 4], changed: u64, shadow_left: [u64; 4]) -> Tally {
+    leave(t, name, Kernel(1), 0, shadow, Done(changed, 0), User(0), shadow_left)
 }
 
 // A refused one: state and table stay.
-fn refused(t: Tally, name: &[u8], mode: Mode, page: u64, shadow: [u64; 4], number: u64) -> Tally {
+fn refused(t: Tally, name: &str, mode: Mode, page: u64, shadow: [u64; 4], number: u64) -> Tally {
     leave(t, name, mode, page, shadow, Refused(number), mode, shadow)
 }
 
@@ -56,83 +43,48 @@ fn refused(t: Tally, name: &[u8], mode: Mode, page: u64, shadow: [u64; 4], numbe
 fn switches(t: Tally) -> Tally {
     let t = left(
         t,
-        b"to a user page",
+        "to a user page",
         [0x8000000000003007, 0x2401, 0, 0x8401],
         3,
         [0x3007, 0x8000000000002401, 0, 0x8000000000008401],
     );
     let t = left(
         t,
-        b"pages of the kernel's and no-execute pages do not run",
-        [
-            0x8000000000003005,
-            0x2401,
-            0x8000000000005207,
-            0x8000000000006003,
-        ],
+        "pages of the kernel's and no-execute pages do not run",
+        [0x8000000000003005, 0x2401, 0x8000000000005207, 0x8000000000006003],
         2,
-        [
-            0x3005,
-            0x8000000000002401,
-            0x8000000000005207,
-            0x8000000000006003,
-        ],
+        [0x3005, 0x8000000000002401, 0x8000000000005207, 0x8000000000006003],
     );
     // Bit 63 is set where it was clear against the rules.
     let t = left(
         t,
-        b"bit 63 that was clear is set",
+        "bit 63 that was clear is set",
         [0x3007, 0x8000000000002401, 0x5207, 0x6003],
         2,
-        [
-            0x3007,
-            0x8000000000002401,
-            0x8000000000005207,
-            0x8000000000006003,
-        ],
+        [0x3007, 0x8000000000002401, 0x8000000000005207, 0x8000000000006003],
     );
     let t = left(
         t,
-        b"damaged entries with bit 0 clear stay",
-        [
-            0x8000000000003007,
-            0x2400,
-            0x8000000000005006,
-            0xfffffffffffffffe,
-        ],
+        "damaged entries with bit 0 clear stay",
+        [0x8000000000003007, 0x2400, 0x8000000000005006, 0xfffffffffffffffe],
         1,
         [0x3007, 0x2400, 0x8000000000005006, 0xfffffffffffffffe],
     );
     // "Approved entry: [..] bit 63 set in user mode only", whatever bits 2 and 9 are; page 0 too.
     let t = left(
         t,
-        b"damaged approved entries with bits 2 and 9",
+        "damaged approved entries with bits 2 and 9",
         [0x3407, 0x2605, 0x3601, 0x8000000000003405],
         3,
-        [
-            0x8000000000003407,
-            0x8000000000002605,
-            0x8000000000003601,
-            0x8000000000003405,
-        ],
+        [0x8000000000003407, 0x8000000000002605, 0x8000000000003601, 0x8000000000003405],
     );
     // "other bits kept": bits 3 to 8, 11 and 52 to 62 are set too.
     left(
         t,
-        b"other bits are kept",
-        [
-            0xfffffffffffff9ff,
-            0x7fffffffffffffff,
-            0x7ffffffffffffbff,
-            0x7ffffffffffff9fb,
-        ],
+        "other bits are kept",
+        [0xfffffffffffff9ff, 0x7fffffffffffffff, 0x7ffffffffffffbff, 0x7ffffffffffff9fb],
         4,
-        [
-            0x7ffffffffffff9ff,
-            0xffffffffffffffff,
-            0xfffffffffffffbff,
-            0xfffffffffffff9fb,
-        ],
+        [0x7ffffffffffff9ff, 0xffffffffffffffff, 0xfffffffffffffbff, 0xfffffffffffff9fb],
     )
 }
 
@@ -141,7 +93,7 @@ fn question_9(t: Tally) -> Tally {
     let kernel = [0x8000000000003007, 0x2401, 0, 0x8000000000005007];
     let t = leave(
         t,
-        b"to the last page",
+        "to the last page",
         Kernel(1),
         3,
         kernel,
@@ -149,49 +101,28 @@ fn question_9(t: Tally) -> Tally {
         User(3),
         [0x3007, 0x8000000000002401, 0, 0x5007],
     );
-    let t = refused(t, b"page 4 of 4", Kernel(1), 4, kernel, 9);
+    let t = refused(t, "page 4 of 4", Kernel(1), 4, kernel, 9);
     // No number is narrowed: 65536 is not page 0.
-    let t = refused(t, b"page 65536 of 4", Kernel(1), 65536, kernel, 9);
-    let t = refused(
-        t,
-        b"the highest page number",
-        Kernel(1),
-        18446744073709551615,
-        kernel,
-        9,
-    );
-    refused(t, b"page 4 of 4 in user mode", User(0), 4, kernel, 9)
+    let t = refused(t, "page 65536 of 4", Kernel(1), 65536, kernel, 9);
+    let t = refused(t, "the highest page number", Kernel(1), 18446744073709551615, kernel, 9);
+    refused(t, "page 4 of 4 in user mode", User(0), 4, kernel, 9)
 }
 
 // "10. Does the mode suit: [..] kernel to leave", before 11; 11 before 12.
 fn questions_10_to_12(t: Tally) -> Tally {
+    let t = refused(t, "from user mode", User(3), 0, [0x3007, 0x8000000000002401, 0, 0x5007], 10);
     let t = refused(
         t,
-        b"from user mode",
-        User(3),
-        0,
-        [0x3007, 0x8000000000002401, 0, 0x5007],
-        10,
-    );
-    let t = refused(
-        t,
-        b"from user mode to an absent page",
+        "from user mode to an absent page",
         User(0),
         2,
         [0x3007, 0x8000000000002401, 0, 0],
         10,
     );
+    let t = refused(t, "an absent page", Kernel(1), 2, [0x8000000000003007, 0x2401, 0, 0x8401], 11);
     let t = refused(
         t,
-        b"an absent page",
-        Kernel(1),
-        2,
-        [0x8000000000003007, 0x2401, 0, 0x8401],
-        11,
-    );
-    let t = refused(
-        t,
-        b"a damaged entry with bit 0 clear",
+        "a damaged entry with bit 0 clear",
         Kernel(1),
         0,
         [0x8000000000003006, 0x2401, 0, 0x8401],
@@ -199,7 +130,7 @@ fn questions_10_to_12(t: Tally) -> Tally {
     );
     let t = refused(
         t,
-        b"a page of the kernel's",
+        "a page of the kernel's",
         Kernel(1),
         0,
         [0x8000000000003003, 0x2401, 0, 0x8401],
@@ -207,36 +138,25 @@ fn questions_10_to_12(t: Tally) -> Tally {
     );
     let t = refused(
         t,
-        b"a no-execute user page",
+        "a no-execute user page",
         Kernel(1),
         0,
         [0x8000000000003207, 0x2401, 0, 0x8401],
         12,
     );
-    refused(
-        t,
-        b"an approved page",
-        Kernel(1),
-        3,
-        [0x8000000000003007, 0x2401, 0, 0x8401],
-        12,
-    )
+    refused(t, "an approved page", Kernel(1), 3, [0x8000000000003007, 0x2401, 0, 0x8401], 12)
 }
 
 // All of 2,048 shadow entries change.
 fn largest(t: Tally) -> Tally {
     let mut shadow = [0x8000000000fff007; 2048];
     let given = guard::state(2048, 4096, 1, [0, 0, 0, 0], Kernel(0));
-    let called = modes::leave(given, &mut shadow, 2047);
+    let called = crate::calls::leave(given, &mut shadow, 2047);
     let answer = called.answer;
     let state = called.state;
     let entries = same::entries(&shadow, &[0xfff007; 2048]);
     let moved = same::states(state, guard::state(2048, 4096, 1, [0, 0, 0, 0], User(2047)));
-    t.case(
-        b"leave",
-        b"2048 entries change",
-        same::answers(answer, Done(2048, 0)) && moved && entries,
-    )
+    t.case("leave", "2048 entries change", same::answers(answer, Done(2048, 0)) && moved && entries)
 }
 
 pub fn all(t: Tally) -> Tally {

@@ -1,20 +1,20 @@
 // Enter by entry index: "the page needs bit 10"; it switches to kernel mode, runs that page, and gives "the count of changed shadow
 // entries and 0". Questions 9 to 12, and what the switch makes of each shadow entry.
+use crate::calls::Answer;
+use crate::calls::Answer::Done;
+use crate::calls::Answer::Refused;
+use crate::calls::Mode;
+use crate::calls::Mode::Kernel;
+use crate::calls::Mode::User;
+use crate::calls::State;
 use crate::guard;
 use crate::same;
 use crate::tally::Tally;
-use model::Answer;
-use model::Answer::Done;
-use model::Answer::Refused;
-use model::Mode;
-use model::Mode::Kernel;
-use model::Mode::User;
-use model::State;
 
 // Enters by an index on a guard with these states and shadow tables, given and wanted.
 fn enter_on(
     t: Tally,
-    name: &[u8],
+    name: &str,
     given: State,
     index: u64,
     shadow: [u64; 4],
@@ -23,20 +23,16 @@ fn enter_on(
     shadow_left: [u64; 4],
 ) -> Tally {
     let mut table = shadow;
-    let called = modes::enter(given, &mut table, index);
+    let called = crate::calls::enter(given, &mut table, index);
     let answer = called.answer;
     let state = called.state;
     let entries = same::entries(&table, &shadow_left);
     let moved = same::states(state, left);
-    t.case(
-        b"enter",
-        name,
-        same::answers(answer, wanted) && moved && entries,
-    )
+    t.case("enter", name, same::answers(answer, wanted) && moved && entries)
 }
 
 // An accepted enter of entry page 1 from user mode on page 0: the count of changed entries and the table that is left.
-fn entered(t: Tally, name: &[u8], shadow: [u64; 4], changed: u64, shadow_left: [u64; 4]) -> Tally {
+fn entered(t: Tally, name: &str, shadow: [u64; 4], changed: u64, shadow_left: [u64; 4]) -> Tally {
     enter_on(
         t,
         name,
@@ -50,7 +46,7 @@ fn entered(t: Tally, name: &[u8], shadow: [u64; 4], changed: u64, shadow_left: [
 }
 
 // A refused one: state and table stay.
-fn refused(t: Tally, name: &[u8], mode: Mode, index: u64, shadow: [u64; 4], number: u64) -> Tally {
+fn refused(t: Tally, name: &str, mode: Mode, index: u64, shadow: [u64; 4], number: u64) -> Tally {
     let s = guard::state_in(mode);
     enter_on(t, name, s, index, shadow, Refused(number), s, shadow)
 }
@@ -59,26 +55,21 @@ fn refused(t: Tally, name: &[u8], mode: Mode, index: u64, shadow: [u64; 4], numb
 fn switches(t: Tally) -> Tally {
     let t = entered(
         t,
-        b"from a user page",
+        "from a user page",
         [0x3007, 0x8000000000002401, 0, 0x8000000000008401],
         3,
         [0x8000000000003007, 0x2401, 0, 0x8401],
     );
     let t = entered(
         t,
-        b"entries that stay are not counted",
-        [
-            0x8000000000003003,
-            0x8000000000002401,
-            0x8000000000005207,
-            0x8401,
-        ],
+        "entries that stay are not counted",
+        [0x8000000000003003, 0x8000000000002401, 0x8000000000005207, 0x8401],
         1,
         [0x8000000000003003, 0x2401, 0x8000000000005207, 0x8401],
     );
     let t = entered(
         t,
-        b"nothing changes",
+        "nothing changes",
         [0, 0x2401, 0x8000000000003001, 0],
         0,
         [0, 0x2401, 0x8000000000003001, 0],
@@ -86,46 +77,26 @@ fn switches(t: Tally) -> Tally {
     // "each present shadow entry": damaged ones with bit 0 clear stay as they are.
     let t = entered(
         t,
-        b"damaged entries with bit 0 clear stay",
-        [
-            0x3006,
-            0x8000000000002401,
-            0x8000000000005406,
-            0xfffffffffffffffe,
-        ],
+        "damaged entries with bit 0 clear stay",
+        [0x3006, 0x8000000000002401, 0x8000000000005406, 0xfffffffffffffffe],
         1,
         [0x3006, 0x2401, 0x8000000000005406, 0xfffffffffffffffe],
     );
     // "Approved entry: [..] bit 63 set in user mode only", whatever bits 2 and 9 are.
     let t = entered(
         t,
-        b"damaged approved entries with bits 2 and 9",
-        [
-            0x8000000000003605,
-            0x8000000000002605,
-            0x3601,
-            0x8000000000003407,
-        ],
+        "damaged approved entries with bits 2 and 9",
+        [0x8000000000003605, 0x8000000000002605, 0x3601, 0x8000000000003407],
         3,
         [0x3605, 0x2605, 0x3601, 0x3407],
     );
     // "other bits kept": bits 3 to 8, 11 and 52 to 62 are set too.
     entered(
         t,
-        b"other bits are kept",
-        [
-            0x7ffffffffffff9ff,
-            0xffffffffffffffff,
-            0x7ffffffffffffbfb,
-            0xfffffffffffff9f9,
-        ],
+        "other bits are kept",
+        [0x7ffffffffffff9ff, 0xffffffffffffffff, 0x7ffffffffffffbfb, 0xfffffffffffff9f9],
         3,
-        [
-            0xfffffffffffff9ff,
-            0x7fffffffffffffff,
-            0xfffffffffffffbfb,
-            0xfffffffffffff9f9,
-        ],
+        [0xfffffffffffff9ff, 0x7fffffffffffffff, 0xfffffffffffffbfb, 0xfffffffffffff9f9],
     )
 }
 
@@ -134,7 +105,7 @@ fn question_9(t: Tally) -> Tally {
     let user = [0x3007, 0x8000000000002401, 0, 0x8000000000008401];
     let t = enter_on(
         t,
-        b"the last entry index",
+        "the last entry index",
         guard::state_in(User(0)),
         1,
         user,
@@ -142,70 +113,27 @@ fn question_9(t: Tally) -> Tally {
         guard::state_in(Kernel(3)),
         [0x8000000000003007, 0x2401, 0, 0x8401],
     );
-    let t = refused(t, b"index 2 of 2", User(0), 2, user, 9);
-    let t = refused(t, b"index 16", User(0), 16, user, 9);
+    let t = refused(t, "index 2 of 2", User(0), 2, user, 9);
+    let t = refused(t, "index 16", User(0), 16, user, 9);
     // No number is narrowed: 65536 is not index 0.
-    let t = refused(t, b"index 65536", User(0), 65536, user, 9);
-    let t = refused(
-        t,
-        b"the highest index",
-        User(0),
-        18446744073709551615,
-        user,
-        9,
-    );
-    let t = refused(t, b"index 2 of 2 in kernel mode", Kernel(1), 2, user, 9);
+    let t = refused(t, "index 65536", User(0), 65536, user, 9);
+    let t = refused(t, "the highest index", User(0), 18446744073709551615, user, 9);
+    let t = refused(t, "index 2 of 2 in kernel mode", Kernel(1), 2, user, 9);
     let damaged = guard::state(4, 9, 2, [4, 65535, 0, 0], User(0));
-    let t = enter_on(
-        t,
-        b"an entry page at V",
-        damaged,
-        0,
-        user,
-        Refused(9),
-        damaged,
-        user,
-    );
-    enter_on(
-        t,
-        b"an entry page far above V",
-        damaged,
-        1,
-        user,
-        Refused(9),
-        damaged,
-        user,
-    )
+    let t = enter_on(t, "an entry page at V", damaged, 0, user, Refused(9), damaged, user);
+    enter_on(t, "an entry page far above V", damaged, 1, user, Refused(9), damaged, user)
 }
 
 // The last of sixteen entry pages; an index from e on is refused though its page is approved.
 fn sixteen(t: Tally) -> Tally {
     let user = [0, 0, 0, 0x8000000000008401];
     let entry = [0, 0, 0, 0, 0, 0, 0, 0, 0, 0, 0, 0, 0, 0, 0, 3];
-    let given = State {
-        pages: 4,
-        frames: 9,
-        entries: 16,
-        entry,
-        mode: User(0),
-    };
-    let left = State {
-        pages: 4,
-        frames: 9,
-        entries: 16,
-        entry,
-        mode: Kernel(3),
-    };
-    let fewer = State {
-        pages: 4,
-        frames: 9,
-        entries: 15,
-        entry,
-        mode: User(0),
-    };
+    let given = State { pages: 4, frames: 9, entries: 16, entry, mode: User(0) };
+    let left = State { pages: 4, frames: 9, entries: 16, entry, mode: Kernel(3) };
+    let fewer = State { pages: 4, frames: 9, entries: 15, entry, mode: User(0) };
     let t = enter_on(
         t,
-        b"the last of sixteen indices",
+        "the last of sixteen indices",
         given,
         15,
         user,
@@ -213,47 +141,18 @@ fn sixteen(t: Tally) -> Tally {
         left,
         [0, 0, 0, 0x8401],
     );
-    enter_on(
-        t,
-        b"index 15 of 15",
-        fewer,
-        15,
-        user,
-        Refused(9),
-        fewer,
-        user,
-    )
+    enter_on(t, "index 15 of 15", fewer, 15, user, Refused(9), fewer, user)
 }
 
 // "10. Does the mode suit: user to enter", before 11. "11. [..] enter and leave touch the page they go to", before 12.
 fn questions_10_to_12(t: Tally) -> Tally {
+    let t =
+        refused(t, "from kernel mode", Kernel(1), 0, [0x8000000000003007, 0x2401, 0, 0x8401], 10);
+    let t = refused(t, "from kernel mode to an absent page", Kernel(1), 0, [0, 0, 0, 0], 10);
+    let t = refused(t, "an absent page", User(0), 0, [0x3007, 0, 0, 0x8000000000008401], 11);
     let t = refused(
         t,
-        b"from kernel mode",
-        Kernel(1),
-        0,
-        [0x8000000000003007, 0x2401, 0, 0x8401],
-        10,
-    );
-    let t = refused(
-        t,
-        b"from kernel mode to an absent page",
-        Kernel(1),
-        0,
-        [0, 0, 0, 0],
-        10,
-    );
-    let t = refused(
-        t,
-        b"an absent page",
-        User(0),
-        0,
-        [0x3007, 0, 0, 0x8000000000008401],
-        11,
-    );
-    let t = refused(
-        t,
-        b"a damaged approved entry with bit 0 clear",
+        "a damaged approved entry with bit 0 clear",
         User(0),
         0,
         [0x3007, 0x2400, 0, 0x8000000000008401],
@@ -262,7 +161,7 @@ fn questions_10_to_12(t: Tally) -> Tally {
     // Only a damaged table has a listed page without the mark.
     let t = refused(
         t,
-        b"a page without the approved mark",
+        "a page without the approved mark",
         User(0),
         0,
         [0x3007, 0x2001, 0, 0x8000000000008401],
@@ -270,7 +169,7 @@ fn questions_10_to_12(t: Tally) -> Tally {
     );
     refused(
         t,
-        b"a page with every bit but the approved mark",
+        "a page with every bit but the approved mark",
         User(0),
         1,
         [0x3007, 0x2401, 0, 0xfffffffffffffbff],
@@ -282,17 +181,13 @@ fn questions_10_to_12(t: Tally) -> Tally {
 fn largest(t: Tally) -> Tally {
     let mut shadow = [0x8000000000fff401; 2048];
     let given = guard::state(2048, 4096, 1, [2047, 0, 0, 0], User(0));
-    let called = modes::enter(given, &mut shadow, 0);
+    let called = crate::calls::enter(given, &mut shadow, 0);
     let answer = called.answer;
     let state = called.state;
     let entries = same::entries(&shadow, &[0xfff401; 2048]);
     let left = guard::state(2048, 4096, 1, [2047, 0, 0, 0], Kernel(2047));
     let moved = same::states(state, left);
-    t.case(
-        b"enter",
-        b"2048 entries change",
-        same::answers(answer, Done(2048, 0)) && moved && entries,
-    )
+    t.case("enter", "2048 entries change", same::answers(answer, Done(2048, 0)) && moved && entries)
 }
 
 pub fn all(t: Tally) -> Tally {

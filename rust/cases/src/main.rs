@@ -1,6 +1,9 @@
-// The test program: every call on literal states and tables, with the answer, the state and every table compared with
-// what document 01 gives. It prints a line for each case and then how many are right and how many wrong.
+//! Executes every call of the proved library, and the drill, on made-up states and tables, and compares each answer, state and
+//! table with literals from document 01. A line for each case, and a total; the exit status is 0 where none is wrong.
+
+mod calls;
 mod device_write_cases;
+mod drill_cases;
 mod enter_cases;
 mod fetch_cases;
 mod guard;
@@ -13,10 +16,11 @@ mod sync_page_cases;
 mod tally;
 mod write_cases;
 
+use std::process::ExitCode;
 use tally::Tally;
 
-fn main() {
-    let t = Tally::new();
+fn main() -> ExitCode {
+    let t = Tally::default();
     let t = start_cases::all(t);
     let t = sync_page_cases::all(t);
     let t = sync_all_cases::all(t);
@@ -26,5 +30,10 @@ fn main() {
     let t = leave_cases::all(t);
     let t = device_write_cases::all(t);
     let t = question_7_cases::all(t);
-    t.total();
+    let t = drill_cases::all(t);
+    if t.total() {
+        ExitCode::SUCCESS
+    } else {
+        ExitCode::FAILURE
+    }
 }

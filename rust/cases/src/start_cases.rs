@@ -1,15 +1,16 @@
 // The start: what an accepted record sets, and questions 1 to 7 with their order. "A refused start, which has no state to keep,
 // answers a state of zeros in user mode on page 0"; it leaves the lent tables as they were.
+use crate::calls::Answer;
+use crate::calls::Answer::Done;
+use crate::calls::Answer::Refused;
+use crate::calls::Mode::Kernel;
+use crate::calls::Mode::User;
+use crate::calls::State;
 use crate::guard;
 use crate::same;
 use crate::tally::Tally;
-use model::Answer;
-use model::Answer::Done;
-use model::Answer::Refused;
-use model::Mode::Kernel;
-use model::Mode::User;
-use model::State;
 
+#[derive(Clone, Copy)]
 struct Tables {
     shadow: [u64; 4],
     map: [u16; 4],
@@ -18,17 +19,13 @@ struct Tables {
 
 // What the tables hold before: nothing that a start writes.
 fn before() -> Tables {
-    Tables {
-        shadow: [5, 6, 7, 8],
-        map: [1, 2, 3, 4],
-        exclusion: [0xa5, 0x5a],
-    }
+    Tables { shadow: [5, 6, 7, 8], map: [1, 2, 3, 4], exclusion: [0xa5, 0x5a] }
 }
 
 // Starts with the first places of the tables lent: of shadow, map and exclusion vector.
 fn start_on(
     t: Tally,
-    name: &[u8],
+    name: &str,
     record: &[u8],
     lent: [usize; 3],
     wanted: Answer,
@@ -42,7 +39,7 @@ fn start_on(
     let shadow_left = left.shadow;
     let map_left = left.map;
     let exclusion_left = left.exclusion;
-    let called = start::start(
+    let called = crate::calls::start(
         record,
         guard::lend_shadow(&mut shadow, lent[0]),
         guard::lend_map(&mut map, lent[1]),
@@ -52,10 +49,10 @@ fn start_on(
     let state = called.state;
     let entries = same::entries(&shadow, &shadow_left);
     let numbers = same::numbers(&map, &map_left);
-    let bytes = check::same(&exclusion, &exclusion_left);
+    let bytes = exclusion == exclusion_left;
     let tables = entries && numbers && bytes;
     t.case(
-        b"start",
+        "start",
         name,
         same::answers(answer, wanted) && same::states(state, state_left) && tables,
     )
@@ -66,7 +63,7 @@ fn start_on(
 fn accepted(t: Tally) -> Tally {
     let t = start_on(
         t,
-        b"two pages, both entry pages",
+        "two pages, both entry pages",
         &[4, 0, 9, 0, 2, 0, 2, 0, 1, 0, 3, 0, 2, 0, 8, 0],
         [4, 4, 2],
         Done(2, 2),
@@ -80,21 +77,17 @@ fn accepted(t: Tally) -> Tally {
     // "frames, which may repeat"; page 0 has none before it.
     let t = start_on(
         t,
-        b"one frame for two pages, page 0 first",
+        "one frame for two pages, page 0 first",
         &[2, 0, 8, 0, 2, 0, 1, 0, 0, 0, 1, 0, 7, 0, 7, 0],
         [2, 2, 1],
         Done(2, 1),
         guard::state(2, 8, 1, [0, 0, 0, 0], Kernel(0)),
-        Tables {
-            shadow: [0x7401, 0x7401, 7, 8],
-            map: [7, 7, 3, 4],
-            exclusion: [0x80, 0x5a],
-        },
+        Tables { shadow: [0x7401, 0x7401, 7, 8], map: [7, 7, 3, 4], exclusion: [0x80, 0x5a] },
     );
     // "The first e pages are the entry pages": the third is none, and the first is not page 0.
     let t = start_on(
         t,
-        b"fewer entry pages than pages",
+        "fewer entry pages than pages",
         &[4, 0, 16, 0, 3, 0, 2, 0, 1, 0, 2, 0, 3, 0, 15, 0, 0, 0, 1, 0],
         [4, 4, 2],
         Done(3, 2),
@@ -107,33 +100,8 @@ fn accepted(t: Tally) -> Tally {
     );
     let t = start_on(
         t,
-        b"every page",
-        &[
-            4,
-            0,
-            12,
-            0,
-            4,
-            0,
-            4,
-            0,
-            0,
-            0,
-            1,
-            0,
-            2,
-            0,
-            3,
-            0,
-            11,
-            0,
-            10,
-            0,
-            9,
-            0,
-            8,
-            0,
-        ],
+        "every page",
+        &[4, 0, 12, 0, 4, 0, 4, 0, 0, 0, 1, 0, 2, 0, 3, 0, 11, 0, 10, 0, 9, 0, 8, 0],
         [4, 4, 2],
         Done(4, 4),
         guard::state(4, 12, 4, [0, 1, 2, 3], Kernel(0)),
@@ -145,16 +113,12 @@ fn accepted(t: Tally) -> Tally {
     );
     start_on(
         t,
-        b"one page and one frame",
+        "one page and one frame",
         &[1, 0, 1, 0, 1, 0, 1, 0, 0, 0, 0, 0],
         [1, 1, 1],
         Done(1, 1),
         guard::state(1, 1, 1, [0, 0, 0, 0], Kernel(0)),
-        Tables {
-            shadow: [0x401, 6, 7, 8],
-            map: [0, 2, 3, 4],
-            exclusion: [0x01, 0x5a],
-        },
+        Tables { shadow: [0x401, 6, 7, 8], map: [0, 2, 3, 4], exclusion: [0x01, 0x5a] },
     )
 }
 
@@ -163,7 +127,7 @@ fn largest(t: Tally) -> Tally {
     let mut shadow = [0xffffffffffffffffu64; 2048];
     let mut map = [0u16; 2048];
     let mut exclusion = [0xffu8; 512];
-    let called = start::start(
+    let called = crate::calls::start(
         &[0x00, 0x08, 0x00, 0x10, 1, 0, 1, 0, 0xff, 0x07, 0xff, 0x0f],
         &mut shadow,
         &mut map,
@@ -179,12 +143,12 @@ fn largest(t: Tally) -> Tally {
     exclusion_left[511] = 0x80;
     let entries = same::entries(&shadow, &shadow_left);
     let numbers = same::numbers(&map, &map_left);
-    let bytes = check::same(&exclusion, &exclusion_left);
+    let bytes = exclusion == exclusion_left;
     let left = guard::state(2048, 4096, 1, [2047, 0, 0, 0], Kernel(2047));
     let tables = entries && numbers && bytes;
     t.case(
-        b"start",
-        b"the largest sizes",
+        "start",
+        "the largest sizes",
         same::answers(answer, Done(1, 1)) && same::states(state, left) && tables,
     )
 }
@@ -194,84 +158,11 @@ fn sixteen(t: Tally) -> Tally {
     let mut shadow = [5u64; 17];
     let mut map = [6u16; 17];
     let mut exclusion = [7u8; 1];
-    let called = start::start(
+    let called = crate::calls::start(
         &[
-            17,
-            0,
-            1,
-            0,
-            17,
-            0,
-            16,
-            0,
-            0,
-            0,
-            1,
-            0,
-            2,
-            0,
-            3,
-            0,
-            4,
-            0,
-            5,
-            0,
-            6,
-            0,
-            7,
-            0,
-            8,
-            0,
-            9,
-            0,
-            10,
-            0,
-            11,
-            0,
-            12,
-            0,
-            13,
-            0,
-            14,
-            0,
-            15,
-            0,
-            16,
-            0,
-            0,
-            0,
-            0,
-            0,
-            0,
-            0,
-            0,
-            0,
-            0,
-            0,
-            0,
-            0,
-            0,
-            0,
-            0,
-            0,
-            0,
-            0,
-            0,
-            0,
-            0,
-            0,
-            0,
-            0,
-            0,
-            0,
-            0,
-            0,
-            0,
-            0,
-            0,
-            0,
-            0,
-            0,
+            17, 0, 1, 0, 17, 0, 16, 0, 0, 0, 1, 0, 2, 0, 3, 0, 4, 0, 5, 0, 6, 0, 7, 0, 8, 0, 9, 0,
+            10, 0, 11, 0, 12, 0, 13, 0, 14, 0, 15, 0, 16, 0, 0, 0, 0, 0, 0, 0, 0, 0, 0, 0, 0, 0, 0,
+            0, 0, 0, 0, 0, 0, 0, 0, 0, 0, 0, 0, 0, 0, 0, 0, 0, 0, 0, 0, 0,
         ],
         &mut shadow,
         &mut map,
@@ -281,7 +172,7 @@ fn sixteen(t: Tally) -> Tally {
     let state = called.state;
     let entries = same::entries(&shadow, &[0x401; 17]);
     let numbers = same::numbers(&map, &[0; 17]);
-    let bytes = check::same(&exclusion, &[1]);
+    let bytes = exclusion == [1];
     let left = State {
         pages: 17,
         frames: 1,
@@ -291,14 +182,14 @@ fn sixteen(t: Tally) -> Tally {
     };
     let tables = entries && numbers && bytes;
     t.case(
-        b"start",
-        b"sixteen entry pages",
+        "start",
+        "sixteen entry pages",
         same::answers(answer, Done(17, 16)) && same::states(state, left) && tables,
     )
 }
 
 // A record refused with a number, where the tables are lent as V 4 and F 9 ask.
-fn refused(t: Tally, name: &[u8], record: &[u8], number: u64) -> Tally {
+fn refused(t: Tally, name: &str, record: &[u8], number: u64) -> Tally {
     start_on(
         t,
         name,
@@ -312,93 +203,53 @@ fn refused(t: Tally, name: &[u8], record: &[u8], number: u64) -> Tally {
 
 // "1. Has the policy record at least 8 bytes?" "2. Are V and F within their ranges?"
 fn questions_1_and_2(t: Tally) -> Tally {
-    let t = refused(t, b"an empty record", &[], 1);
-    let t = refused(t, b"7 bytes", &[4, 0, 9, 0, 2, 0, 2], 1);
-    let t = refused(t, b"7 bytes with V 0", &[0, 0, 0, 0, 0, 0, 0], 1);
-    let t = refused(t, b"V 0", &[0, 0, 9, 0, 1, 0, 1, 0, 1, 0, 2, 0], 2);
-    let t = refused(t, b"V 2049", &[0x01, 0x08, 9, 0, 1, 0, 1, 0, 1, 0, 2, 0], 2);
-    let t = refused(t, b"F 0", &[4, 0, 0, 0, 1, 0, 1, 0, 1, 0, 2, 0], 2);
-    let t = refused(t, b"F 4097", &[4, 0, 0x01, 0x10, 1, 0, 1, 0, 1, 0, 2, 0], 2);
-    refused(
-        t,
-        b"F 65535 with n 0 and e 0",
-        &[4, 0, 255, 255, 0, 0, 0, 0],
-        2,
-    )
+    let t = refused(t, "an empty record", &[], 1);
+    let t = refused(t, "7 bytes", &[4, 0, 9, 0, 2, 0, 2], 1);
+    let t = refused(t, "7 bytes with V 0", &[0, 0, 0, 0, 0, 0, 0], 1);
+    let t = refused(t, "V 0", &[0, 0, 9, 0, 1, 0, 1, 0, 1, 0, 2, 0], 2);
+    let t = refused(t, "V 2049", &[0x01, 0x08, 9, 0, 1, 0, 1, 0, 1, 0, 2, 0], 2);
+    let t = refused(t, "F 0", &[4, 0, 0, 0, 1, 0, 1, 0, 1, 0, 2, 0], 2);
+    let t = refused(t, "F 4097", &[4, 0, 0x01, 0x10, 1, 0, 1, 0, 1, 0, 2, 0], 2);
+    refused(t, "F 65535 with n 0 and e 0", &[4, 0, 255, 255, 0, 0, 0, 0], 2)
 }
 
 // "3. Is n from 1 to V, and e from 1 to the smaller of n and 16?", before 4. "4. Is the record exactly 8 + 4 × n bytes long?", before 5.
 fn questions_3_and_4(t: Tally) -> Tally {
-    let t = refused(t, b"n 0", &[4, 0, 9, 0, 0, 0, 1, 0], 3);
-    let t = refused(
-        t,
-        b"n above V, the record cut short",
-        &[4, 0, 9, 0, 5, 0, 1, 0],
-        3,
-    );
-    let t = refused(t, b"e 0", &[4, 0, 9, 0, 1, 0, 0, 0, 1, 0, 2, 0], 3);
-    let t = refused(t, b"e above n", &[4, 0, 9, 0, 1, 0, 2, 0, 1, 0, 2, 0], 3);
-    let t = refused(t, b"e 17 of 17", &[17, 0, 9, 0, 17, 0, 17, 0], 3);
-    let t = refused(t, b"sizes alone", &[4, 0, 9, 0, 1, 0, 1, 0], 4);
-    let t = refused(t, b"a byte too few", &[4, 0, 9, 0, 1, 0, 1, 0, 1, 0, 2], 4);
-    let t = refused(
-        t,
-        b"a byte too many",
-        &[4, 0, 9, 0, 1, 0, 1, 0, 1, 0, 2, 0, 0],
-        4,
-    );
-    refused(
-        t,
-        b"a byte too few with a page at V",
-        &[4, 0, 9, 0, 1, 0, 1, 0, 4, 0, 2],
-        4,
-    )
+    let t = refused(t, "n 0", &[4, 0, 9, 0, 0, 0, 1, 0], 3);
+    let t = refused(t, "n above V, the record cut short", &[4, 0, 9, 0, 5, 0, 1, 0], 3);
+    let t = refused(t, "e 0", &[4, 0, 9, 0, 1, 0, 0, 0, 1, 0, 2, 0], 3);
+    let t = refused(t, "e above n", &[4, 0, 9, 0, 1, 0, 2, 0, 1, 0, 2, 0], 3);
+    let t = refused(t, "e 17 of 17", &[17, 0, 9, 0, 17, 0, 17, 0], 3);
+    let t = refused(t, "sizes alone", &[4, 0, 9, 0, 1, 0, 1, 0], 4);
+    let t = refused(t, "a byte too few", &[4, 0, 9, 0, 1, 0, 1, 0, 1, 0, 2], 4);
+    let t = refused(t, "a byte too many", &[4, 0, 9, 0, 1, 0, 1, 0, 1, 0, 2, 0, 0], 4);
+    refused(t, "a byte too few with a page at V", &[4, 0, 9, 0, 1, 0, 1, 0, 4, 0, 2], 4)
 }
 
 // "5. Is every listed page below V and above the one before?", before 6. "6. Is every listed frame below F?", before 7.
 fn questions_5_and_6(t: Tally) -> Tally {
-    let t = refused(t, b"a page at V", &[4, 0, 9, 0, 1, 0, 1, 0, 4, 0, 2, 0], 5);
+    let t = refused(t, "a page at V", &[4, 0, 9, 0, 1, 0, 1, 0, 4, 0, 2, 0], 5);
+    let t = refused(t, "page 65535", &[4, 0, 9, 0, 1, 0, 1, 0, 255, 255, 2, 0], 5);
+    let t = refused(t, "a page twice", &[4, 0, 9, 0, 2, 0, 1, 0, 1, 0, 1, 0, 2, 0, 8, 0], 5);
+    let t = refused(t, "falling pages", &[4, 0, 9, 0, 2, 0, 1, 0, 2, 0, 1, 0, 2, 0, 8, 0], 5);
     let t = refused(
         t,
-        b"page 65535",
-        &[4, 0, 9, 0, 1, 0, 1, 0, 255, 255, 2, 0],
-        5,
-    );
-    let t = refused(
-        t,
-        b"a page twice",
-        &[4, 0, 9, 0, 2, 0, 1, 0, 1, 0, 1, 0, 2, 0, 8, 0],
-        5,
-    );
-    let t = refused(
-        t,
-        b"falling pages",
-        &[4, 0, 9, 0, 2, 0, 1, 0, 2, 0, 1, 0, 2, 0, 8, 0],
-        5,
-    );
-    let t = refused(
-        t,
-        b"a frame at F and then a page at V",
+        "a frame at F and then a page at V",
         &[4, 0, 9, 0, 2, 0, 1, 0, 1, 0, 4, 0, 9, 0, 8, 0],
         5,
     );
-    let t = refused(t, b"a frame at F", &[4, 0, 9, 0, 1, 0, 1, 0, 1, 0, 9, 0], 6);
+    let t = refused(t, "a frame at F", &[4, 0, 9, 0, 1, 0, 1, 0, 1, 0, 9, 0], 6);
     let t = refused(
         t,
-        b"a second frame of 65535",
+        "a second frame of 65535",
         &[4, 0, 9, 0, 2, 0, 1, 0, 1, 0, 3, 0, 2, 0, 255, 255],
         6,
     );
-    refused(
-        t,
-        b"a frame at F and a table too long",
-        &[3, 0, 9, 0, 1, 0, 1, 0, 1, 0, 9, 0],
-        6,
-    )
+    refused(t, "a frame at F and a table too long", &[3, 0, 9, 0, 1, 0, 1, 0, 1, 0, 9, 0], 6)
 }
 
 // V 3 and F 8 ask for tables of 3, 3 and 1 places.
-fn lent(t: Tally, name: &[u8], lent: [usize; 3]) -> Tally {
+fn lent(t: Tally, name: &str, lent: [usize; 3]) -> Tally {
     start_on(
         t,
         name,
@@ -412,16 +263,16 @@ fn lent(t: Tally, name: &[u8], lent: [usize; 3]) -> Tally {
 
 // "7. [..] does every lent table have its exact length (for the start, by the record's V and F)?"
 fn question_7(t: Tally) -> Tally {
-    let t = lent(t, b"a shadow table too short", [2, 3, 1]);
-    let t = lent(t, b"a shadow table too long", [4, 3, 1]);
-    let t = lent(t, b"a map too short", [3, 2, 1]);
-    let t = lent(t, b"a map too long", [3, 4, 1]);
-    let t = lent(t, b"an exclusion vector too short", [3, 3, 0]);
-    let t = lent(t, b"an exclusion vector too long", [3, 3, 2]);
+    let t = lent(t, "a shadow table too short", [2, 3, 1]);
+    let t = lent(t, "a shadow table too long", [4, 3, 1]);
+    let t = lent(t, "a map too short", [3, 2, 1]);
+    let t = lent(t, "a map too long", [3, 4, 1]);
+    let t = lent(t, "an exclusion vector too short", [3, 3, 0]);
+    let t = lent(t, "an exclusion vector too long", [3, 3, 2]);
     // Nine frames ask for two bytes: "F/8 bytes rounded up".
     start_on(
         t,
-        b"an exclusion vector rounded down",
+        "an exclusion vector rounded down",
         &[4, 0, 9, 0, 1, 0, 1, 0, 1, 0, 2, 0],
         [4, 4, 1],
         Refused(7),

@@ -1,14 +1,15 @@
 // Synchronise all pages: tables with every kind of page in both modes, and its two counts.
+use crate::calls::Answer;
+use crate::calls::Answer::Done;
+use crate::calls::Mode;
+use crate::calls::Mode::Kernel;
+use crate::calls::Mode::User;
 use crate::guard;
 use crate::same;
 use crate::tally::Tally;
-use model::Answer;
-use model::Answer::Done;
-use model::Mode;
-use model::Mode::Kernel;
-use model::Mode::User;
 
 // Eight pages, nine frames, 2 and 8 of them excluded.
+#[derive(Clone, Copy)]
 struct Tables {
     shadow: [u64; 8],
     map: [u16; 8],
@@ -16,7 +17,7 @@ struct Tables {
 
 fn eight(
     t: Tally,
-    name: &[u8],
+    name: &str,
     mode: Mode,
     kernel: [u64; 8],
     given: Tables,
@@ -27,7 +28,7 @@ fn eight(
     let mut map = given.map;
     let shadow_left = left.shadow;
     let map_left = left.map;
-    let answer = sync::sync_all(
+    let answer = crate::calls::sync_all(
         guard::state(8, 9, 1, [1, 0, 0, 0], mode),
         &kernel,
         &mut shadow,
@@ -36,25 +37,12 @@ fn eight(
     );
     let entries = same::entries(&shadow, &shadow_left);
     let numbers = same::numbers(&map, &map_left);
-    t.case(
-        b"sync_all",
-        name,
-        same::answers(answer, wanted) && entries && numbers,
-    )
+    t.case("sync_all", name, same::answers(answer, wanted) && entries && numbers)
 }
 
 // Pages 0 to 7: absent, approved for 2, at F, an alias of 8, ordinary, ordinary as before, approved for 8 and absent, ordinary no-execute.
 fn every_kind() -> [u64; 8] {
-    [
-        0x3002,
-        0x3003,
-        0x9003,
-        0x8003,
-        0x4003,
-        0x5005,
-        0x8002,
-        0x8000000000006007,
-    ]
+    [0x3002, 0x3003, 0x9003, 0x8003, 0x4003, 0x5005, 0x8002, 0x8000000000006007]
 }
 
 fn before() -> Tables {
@@ -109,7 +97,7 @@ fn after_in_user_mode() -> Tables {
 fn kinds(t: Tally) -> Tally {
     let t = eight(
         t,
-        b"every kind of page in kernel mode",
+        "every kind of page in kernel mode",
         Kernel(1),
         every_kind(),
         before(),
@@ -118,7 +106,7 @@ fn kinds(t: Tally) -> Tally {
     );
     let t = eight(
         t,
-        b"every kind of page in user mode",
+        "every kind of page in user mode",
         User(1),
         every_kind(),
         before(),
@@ -127,7 +115,7 @@ fn kinds(t: Tally) -> Tally {
     );
     let t = eight(
         t,
-        b"a second time changes nothing",
+        "a second time changes nothing",
         Kernel(1),
         every_kind(),
         after_in_kernel_mode(),
@@ -137,7 +125,7 @@ fn kinds(t: Tally) -> Tally {
     // Pages 1, 3, 4 and 5 are approved or ordinary and present, and bit 63 of 1, 3 and 5 goes by the mode.
     eight(
         t,
-        b"after the mode changed",
+        "after the mode changed",
         User(1),
         every_kind(),
         after_in_kernel_mode(),
@@ -150,41 +138,23 @@ fn extremes(t: Tally) -> Tally {
     // Step 4 for each page, several to one frame.
     let t = eight(
         t,
-        b"every page joins",
+        "every page joins",
         Kernel(1),
-        [
-            0x2003,
-            0x8003,
-            0x2001,
-            0x8001,
-            0x2007,
-            0x8007,
-            0x2005,
-            0x8005,
-        ],
+        [0x2003, 0x8003, 0x2001, 0x8001, 0x2007, 0x8007, 0x2005, 0x8005],
         Tables {
             shadow: [0, 0x8401, 0, 0, 0, 0, 0, 0x8000000000008005],
             map: [65535, 65535, 65535, 65535, 65535, 65535, 65535, 65535],
         },
         Done(7, 8),
         Tables {
-            shadow: [
-                0x2401,
-                0x8401,
-                0x2401,
-                0x8401,
-                0x2401,
-                0x8401,
-                0x2401,
-                0x8401,
-            ],
+            shadow: [0x2401, 0x8401, 0x2401, 0x8401, 0x2401, 0x8401, 0x2401, 0x8401],
             map: [2, 8, 2, 8, 2, 8, 2, 8],
         },
     );
     // Step 1 for each page: "map unchanged".
     let t = eight(
         t,
-        b"no page is present",
+        "no page is present",
         User(1),
         [0, 0, 0, 0, 0, 0, 0, 0],
         before(),
@@ -197,7 +167,7 @@ fn extremes(t: Tally) -> Tally {
     // Step 2 on a damaged map: 9 and 65534 are frames, 65535 is none.
     eight(
         t,
-        b"a damaged map",
+        "a damaged map",
         Kernel(1),
         [0x3003, 0x3003, 0x3003, 0, 0x9003, 0x8003, 0x2003, 0x3003],
         Tables {
@@ -228,15 +198,11 @@ fn largest(t: Tally) -> Tally {
     let mut exclusion = [0u8; 512];
     exclusion[511] = 0x80;
     let s = guard::state(2048, 4096, 1, [0, 0, 0, 0], Kernel(2047));
-    let answer = sync::sync_all(s, &[0xfff003; 2048], &mut shadow, &mut map, &exclusion);
+    let answer = crate::calls::sync_all(s, &[0xfff003; 2048], &mut shadow, &mut map, &exclusion);
     let entries = same::entries(&shadow, &[0xfff401; 2048]);
     let numbers = same::numbers(&map, &[4095; 2048]);
     let counts = same::answers(answer, Done(2048, 2048));
-    t.case(
-        b"sync_all",
-        b"2048 pages join",
-        counts && entries && numbers,
-    )
+    t.case("sync_all", "2048 pages join", counts && entries && numbers)
 }
 
 // The smallest: V 1, F 1, no frame excluded.
@@ -244,15 +210,11 @@ fn smallest(t: Tally) -> Tally {
     let mut shadow = [0u64; 1];
     let mut map = [65535u16; 1];
     let s = guard::state(1, 1, 1, [0, 0, 0, 0], User(0));
-    let answer = sync::sync_all(s, &[0x7], &mut shadow, &mut map, &[0]);
+    let answer = crate::calls::sync_all(s, &[0x7], &mut shadow, &mut map, &[0]);
     let entries = same::entries(&shadow, &[0x7]);
     let numbers = same::numbers(&map, &[65535]);
     let counts = same::answers(answer, Done(1, 0));
-    t.case(
-        b"sync_all",
-        b"one page and one frame",
-        counts && entries && numbers,
-    )
+    t.case("sync_all", "one page and one frame", counts && entries && numbers)
 }
 
 pub fn all(t: Tally) -> Tally {

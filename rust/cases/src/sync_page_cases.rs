@@ -1,13 +1,13 @@
 // Synchronise one page: steps 1 to 5 of "Synchronising one page" in both modes, its counts, and questions 7 and 9.
+use crate::calls::Answer;
+use crate::calls::Answer::Done;
+use crate::calls::Answer::Refused;
+use crate::calls::Mode;
+use crate::calls::Mode::Kernel;
+use crate::calls::Mode::User;
 use crate::guard;
 use crate::same;
 use crate::tally::Tally;
-use model::Answer;
-use model::Answer::Done;
-use model::Answer::Refused;
-use model::Mode;
-use model::Mode::Kernel;
-use model::Mode::User;
 
 fn number(x: u64) -> u16 {
     (x % 65536) as u16
@@ -16,11 +16,11 @@ fn number(x: u64) -> u16 {
 // Synchronises page 0. Given: its kernel entry, its shadow entry and its number in the map. Wanted: the changed and
 // joined counts, the shadow entry and the number in the map. Every other place has to stay as it is, though its kernel
 // entry would change it.
-fn page_0(t: Tally, name: &[u8], mode: Mode, given: [u64; 3], wanted: [u64; 4]) -> Tally {
+fn page_0(t: Tally, name: &str, mode: Mode, given: [u64; 3], wanted: [u64; 4]) -> Tally {
     let kernel = [given[0], 0, 0x5007, 0x6007];
     let mut shadow = [given[1], 0x2401, 0x7001, 0];
     let mut map = [number(given[2]), 2, 65535, 8];
-    let answer = sync::sync_page(
+    let answer = crate::calls::sync_page(
         guard::state_in(mode),
         &kernel,
         &mut shadow,
@@ -31,35 +31,35 @@ fn page_0(t: Tally, name: &[u8], mode: Mode, given: [u64; 3], wanted: [u64; 4]) 
     let entries = same::entries(&shadow, &[wanted[2], 0x2401, 0x7001, 0]);
     let numbers = same::numbers(&map, &[number(wanted[3]), 2, 65535, 8]);
     let counts = same::answers(answer, Done(wanted[0], wanted[1]));
-    t.case(b"sync_page", name, counts && entries && numbers)
+    t.case("sync_page", name, counts && entries && numbers)
 }
 
 // "1. Kernel entry absent: shadow 0; map unchanged."
 fn step_1(t: Tally) -> Tally {
     let t = page_0(
         t,
-        b"an absent entry clears the shadow",
+        "an absent entry clears the shadow",
         Kernel(1),
         [0x3006, 0x8000000000003003, 65535],
         [1, 0, 0, 65535],
     );
     let t = page_0(
         t,
-        b"an absent entry over 0 changes nothing",
+        "an absent entry over 0 changes nothing",
         Kernel(1),
         [0, 0, 65535],
         [0, 0, 0, 65535],
     );
     let t = page_0(
         t,
-        b"an absent entry keeps the approval",
+        "an absent entry keeps the approval",
         Kernel(1),
         [0x2002, 0x2401, 2],
         [1, 0, 0, 2],
     );
     let t = page_0(
         t,
-        b"an absent entry with an excluded frame does not join",
+        "an absent entry with an excluded frame does not join",
         Kernel(1),
         [0x2002, 0, 65535],
         [0, 0, 0, 65535],
@@ -67,14 +67,14 @@ fn step_1(t: Tally) -> Tally {
     // "Kernel entry: bit 0 present": every other bit is set.
     let t = page_0(
         t,
-        b"an entry with all bits but bit 0 is absent",
+        "an entry with all bits but bit 0 is absent",
         Kernel(1),
         [0xfffffffffffffffe, 0x2401, 2],
         [1, 0, 0, 2],
     );
     page_0(
         t,
-        b"an absent entry clears the shadow in user mode",
+        "an absent entry clears the shadow in user mode",
         User(1),
         [0x3006, 0x3007, 65535],
         [1, 0, 0, 65535],
@@ -84,58 +84,53 @@ fn step_1(t: Tally) -> Tally {
 // "2. Else the map has a frame for this page: an approved entry with the map's frame, not the kernel's."
 // "Approved entry: bits 0 and 10, the frame; bit 63 set in user mode only."
 fn step_2(t: Tally) -> Tally {
+    let t =
+        page_0(t, "an approved page keeps its frame", Kernel(1), [0x3003, 0, 2], [1, 0, 0x2401, 2]);
     let t = page_0(
         t,
-        b"an approved page keeps its frame",
-        Kernel(1),
-        [0x3003, 0, 2],
-        [1, 0, 0x2401, 2],
-    );
-    let t = page_0(
-        t,
-        b"an approved entry as before is no change",
+        "an approved entry as before is no change",
         Kernel(1),
         [0x2001, 0x2401, 2],
         [0, 0, 0x2401, 2],
     );
     let t = page_0(
         t,
-        b"an approved entry copies no user or no-execute bit",
+        "an approved entry copies no user or no-execute bit",
         Kernel(1),
         [0x8000000000003007, 0x8000000000003207, 2],
         [1, 0, 0x2401, 2],
     );
     let t = page_0(
         t,
-        b"an approved page keeps its frame where the kernel's is F",
+        "an approved page keeps its frame where the kernel's is F",
         Kernel(1),
         [0x9003, 0, 2],
         [1, 0, 0x2401, 2],
     );
     let t = page_0(
         t,
-        b"an approved page keeps its frame where the kernel's is excluded",
+        "an approved page keeps its frame where the kernel's is excluded",
         Kernel(1),
         [0x8003, 0, 2],
         [1, 0, 0x2401, 2],
     );
     let t = page_0(
         t,
-        b"an approval for frame 0 is an approval",
+        "an approval for frame 0 is an approval",
         Kernel(1),
         [0x3003, 0, 0],
         [1, 0, 0x401, 0],
     );
     let t = page_0(
         t,
-        b"an approved entry in user mode has bit 63",
+        "an approved entry in user mode has bit 63",
         User(1),
         [0x3003, 0x2401, 2],
         [1, 0, 0x8000000000002401, 2],
     );
     page_0(
         t,
-        b"an approved entry in user mode copies no user bit",
+        "an approved entry in user mode copies no user bit",
         User(1),
         [0x2007, 0, 2],
         [1, 0, 0x8000000000002401, 2],
@@ -146,28 +141,28 @@ fn step_2(t: Tally) -> Tally {
 fn step_2_damaged(t: Tally) -> Tally {
     let t = page_0(
         t,
-        b"a number at F in the map is a frame",
+        "a number at F in the map is a frame",
         Kernel(1),
         [0x3003, 0, 9],
         [1, 0, 0x9401, 9],
     );
     let t = page_0(
         t,
-        b"65534 in the map is a frame",
+        "65534 in the map is a frame",
         Kernel(1),
         [0x3003, 0, 65534],
         [1, 0, 0xfffe401, 65534],
     );
     let t = page_0(
         t,
-        b"65534 in the map is a frame in user mode",
+        "65534 in the map is a frame in user mode",
         User(1),
         [0x3007, 0, 65534],
         [1, 0, 0x800000000fffe401, 65534],
     );
     page_0(
         t,
-        b"a number at F in the map stays where the entry is absent",
+        "a number at F in the map stays where the entry is absent",
         Kernel(1),
         [0x3002, 0x9401, 9],
         [1, 0, 0, 9],
@@ -178,14 +173,14 @@ fn step_2_damaged(t: Tally) -> Tally {
 fn step_3(t: Tally) -> Tally {
     let t = page_0(
         t,
-        b"frame F is not mapped",
+        "frame F is not mapped",
         Kernel(1),
         [0x9003, 0x8000000000003003, 65535],
         [1, 0, 0, 65535],
     );
     let t = page_0(
         t,
-        b"the highest frame is not mapped",
+        "the highest frame is not mapped",
         Kernel(1),
         [0xffffffffff003, 0, 65535],
         [0, 0, 0, 65535],
@@ -193,28 +188,28 @@ fn step_3(t: Tally) -> Tally {
     // The frame has 40 bits: none is dropped before the comparison with F.
     let t = page_0(
         t,
-        b"frame 65538 is not taken for frame 2",
+        "frame 65538 is not taken for frame 2",
         Kernel(1),
         [0x10002003, 0, 65535],
         [0, 0, 0, 65535],
     );
     let t = page_0(
         t,
-        b"frame 65539 is not taken for frame 3",
+        "frame 65539 is not taken for frame 3",
         Kernel(1),
         [0x10003003, 0, 65535],
         [0, 0, 0, 65535],
     );
     let t = page_0(
         t,
-        b"frame 65535 is not mapped and does not join",
+        "frame 65535 is not mapped and does not join",
         Kernel(1),
         [0xffff003, 0, 65535],
         [0, 0, 0, 65535],
     );
     page_0(
         t,
-        b"frame F is not mapped in user mode",
+        "frame F is not mapped in user mode",
         User(1),
         [0x9007, 0x3007, 65535],
         [1, 0, 0, 65535],
@@ -225,35 +220,35 @@ fn step_3(t: Tally) -> Tally {
 fn step_4(t: Tally) -> Tally {
     let t = page_0(
         t,
-        b"an alias of an excluded frame joins",
+        "an alias of an excluded frame joins",
         Kernel(1),
         [0x2003, 0, 65535],
         [1, 1, 0x2401, 2],
     );
     let t = page_0(
         t,
-        b"an alias of the last frame joins",
+        "an alias of the last frame joins",
         Kernel(1),
         [0x8001, 0, 65535],
         [1, 1, 0x8401, 8],
     );
     let t = page_0(
         t,
-        b"an alias that joins copies no user or no-execute bit",
+        "an alias that joins copies no user or no-execute bit",
         Kernel(1),
         [0x8000000000002007, 0x8000000000003003, 65535],
         [1, 1, 0x2401, 2],
     );
     let t = page_0(
         t,
-        b"a page may join with its shadow entry unchanged",
+        "a page may join with its shadow entry unchanged",
         Kernel(1),
         [0x2003, 0x2401, 65535],
         [0, 1, 0x2401, 2],
     );
     page_0(
         t,
-        b"an alias that joins in user mode has bit 63",
+        "an alias that joins in user mode has bit 63",
         User(1),
         [0x8007, 0, 65535],
         [1, 1, 0x8000000000008401, 8],
@@ -264,35 +259,35 @@ fn step_4(t: Tally) -> Tally {
 fn step_5_kernel(t: Tally) -> Tally {
     let t = page_0(
         t,
-        b"a read-only page stays read-only",
+        "a read-only page stays read-only",
         Kernel(1),
         [0x3001, 0, 65535],
         [1, 0, 0x8000000000003001, 65535],
     );
     let t = page_0(
         t,
-        b"a user page has bits 2 and 63 in kernel mode",
+        "a user page has bits 2 and 63 in kernel mode",
         Kernel(1),
         [0x3007, 0, 65535],
         [1, 0, 0x8000000000003007, 65535],
     );
     let t = page_0(
         t,
-        b"no-execute goes to bit 9",
+        "no-execute goes to bit 9",
         Kernel(1),
         [0x8000000000003005, 0, 65535],
         [1, 0, 0x8000000000003205, 65535],
     );
     let t = page_0(
         t,
-        b"frame 0 is ordinary",
+        "frame 0 is ordinary",
         Kernel(1),
         [0x3, 0x2401, 65535],
         [1, 0, 0x8000000000000003, 65535],
     );
     let t = page_0(
         t,
-        b"an ordinary entry as before is no change",
+        "an ordinary entry as before is no change",
         Kernel(1),
         [0x7003, 0x8000000000007003, 65535],
         [0, 0, 0x8000000000007003, 65535],
@@ -300,7 +295,7 @@ fn step_5_kernel(t: Tally) -> Tally {
     // "Other bits are ignored": bits 3 to 11 and 52 to 62 are set.
     page_0(
         t,
-        b"other bits of a kernel entry are ignored",
+        "other bits of a kernel entry are ignored",
         Kernel(1),
         [0x7ff0000000003ffb, 0, 65535],
         [1, 0, 0x8000000000003003, 65535],
@@ -311,35 +306,35 @@ fn step_5_kernel(t: Tally) -> Tally {
 fn step_5_user(t: Tally) -> Tally {
     let t = page_0(
         t,
-        b"a read-only user page runs in user mode",
+        "a read-only user page runs in user mode",
         User(1),
         [0x3005, 0x8000000000003005, 65535],
         [1, 0, 0x3005, 65535],
     );
     let t = page_0(
         t,
-        b"a page of the kernel's does not run in user mode",
+        "a page of the kernel's does not run in user mode",
         User(1),
         [0x3001, 0x3001, 65535],
         [1, 0, 0x8000000000003001, 65535],
     );
     let t = page_0(
         t,
-        b"a no-execute page of the kernel's does not run in user mode",
+        "a no-execute page of the kernel's does not run in user mode",
         User(1),
         [0x8000000000003003, 0, 65535],
         [1, 0, 0x8000000000003203, 65535],
     );
     let t = page_0(
         t,
-        b"a no-execute user page does not run in user mode",
+        "a no-execute user page does not run in user mode",
         User(1),
         [0x8000000000003005, 0, 65535],
         [1, 0, 0x8000000000003205, 65535],
     );
     page_0(
         t,
-        b"other bits of a kernel entry are ignored in user mode",
+        "other bits of a kernel entry are ignored in user mode",
         User(1),
         [0x7ff0000000003fff, 0, 65535],
         [1, 0, 0x3007, 65535],
@@ -349,7 +344,7 @@ fn step_5_user(t: Tally) -> Tally {
 // Synchronises a page of a guard whose every kernel entry is 0x5003.
 fn page_of(
     t: Tally,
-    name: &[u8],
+    name: &str,
     page: u64,
     wanted: Answer,
     shadow: [u64; 4],
@@ -357,7 +352,7 @@ fn page_of(
 ) -> Tally {
     let mut shadow_now = [0, 0x2401, 0, 0x8401];
     let mut map_now = [65535, 2, 65535, 8];
-    let answer = sync::sync_page(
+    let answer = crate::calls::sync_page(
         guard::state_in(Kernel(1)),
         &[0x5003, 0x5003, 0x5003, 0x5003],
         &mut shadow_now,
@@ -367,59 +362,34 @@ fn page_of(
     );
     let entries = same::entries(&shadow_now, &shadow);
     let numbers = same::numbers(&map_now, &map);
-    t.case(
-        b"sync_page",
-        name,
-        same::answers(answer, wanted) && entries && numbers,
-    )
+    t.case("sync_page", name, same::answers(answer, wanted) && entries && numbers)
 }
 
 // The page named is the one synchronised; question 9: "page below V".
 fn pages(t: Tally) -> Tally {
     let t = page_of(
         t,
-        b"page 0 of 4",
+        "page 0 of 4",
         0,
         Done(1, 0),
         [0x8000000000005003, 0x2401, 0, 0x8401],
         [65535, 2, 65535, 8],
     );
+    let t = page_of(t, "page 1 of 4", 1, Done(0, 0), [0, 0x2401, 0, 0x8401], [65535, 2, 65535, 8]);
     let t = page_of(
         t,
-        b"page 1 of 4",
-        1,
-        Done(0, 0),
-        [0, 0x2401, 0, 0x8401],
-        [65535, 2, 65535, 8],
-    );
-    let t = page_of(
-        t,
-        b"page 2 of 4",
+        "page 2 of 4",
         2,
         Done(1, 0),
         [0, 0x2401, 0x8000000000005003, 0x8401],
         [65535, 2, 65535, 8],
     );
-    let t = page_of(
-        t,
-        b"page 3 of 4",
-        3,
-        Done(0, 0),
-        [0, 0x2401, 0, 0x8401],
-        [65535, 2, 65535, 8],
-    );
-    let t = page_of(
-        t,
-        b"page 4 of 4",
-        4,
-        Refused(9),
-        [0, 0x2401, 0, 0x8401],
-        [65535, 2, 65535, 8],
-    );
+    let t = page_of(t, "page 3 of 4", 3, Done(0, 0), [0, 0x2401, 0, 0x8401], [65535, 2, 65535, 8]);
+    let t = page_of(t, "page 4 of 4", 4, Refused(9), [0, 0x2401, 0, 0x8401], [65535, 2, 65535, 8]);
     // No number is narrowed: 65536 is not page 0.
     let t = page_of(
         t,
-        b"page 65536 of 4",
+        "page 65536 of 4",
         65536,
         Refused(9),
         [0, 0x2401, 0, 0x8401],
@@ -427,7 +397,7 @@ fn pages(t: Tally) -> Tally {
     );
     page_of(
         t,
-        b"the highest page number",
+        "the highest page number",
         18446744073709551615,
         Refused(9),
         [0, 0x2401, 0, 0x8401],

@@ -1,19 +1,19 @@
 // Write: "first and last frame. Every touched page needs bit 1 and, in user mode, bit 2." Questions 8, 9, 11, 12 and 13.
 // A write changes nothing: it is lent its tables to read, and gives no state.
+use crate::calls::Answer;
+use crate::calls::Answer::Done;
+use crate::calls::Answer::Refused;
+use crate::calls::Mode;
+use crate::calls::Mode::Kernel;
+use crate::calls::Mode::User;
 use crate::guard;
 use crate::same;
 use crate::tally::Tally;
-use model::Answer;
-use model::Answer::Done;
-use model::Answer::Refused;
-use model::Mode;
-use model::Mode::Kernel;
-use model::Mode::User;
 
 // Given: the mode, and the shadow entries of pages 0 and 1. Frames 2 and 8 of nine are excluded.
 fn write(
     t: Tally,
-    name: &[u8],
+    name: &str,
     mode: Mode,
     first: [u64; 2],
     address: u64,
@@ -21,20 +21,15 @@ fn write(
     wanted: Answer,
 ) -> Tally {
     let shadow = [first[0], first[1], 0x8000000000006003, 0x8401];
-    let answer = access::write(
-        guard::state_in(mode),
-        &shadow,
-        &[0x04, 0x01],
-        address,
-        length,
-    );
-    t.case(b"write", name, same::answers(answer, wanted))
+    let answer =
+        crate::calls::write(guard::state_in(mode), &shadow, &[0x04, 0x01], address, length);
+    t.case("write", name, same::answers(answer, wanted))
 }
 
 fn allowed(t: Tally) -> Tally {
     let t = write(
         t,
-        b"16 bytes up to the end of a page",
+        "16 bytes up to the end of a page",
         Kernel(1),
         [0x8000000000003003, 0],
         4080,
@@ -43,7 +38,7 @@ fn allowed(t: Tally) -> Tally {
     );
     let t = write(
         t,
-        b"2 bytes across two pages",
+        "2 bytes across two pages",
         Kernel(1),
         [0x8000000000003003, 0x8000000000005003],
         4095,
@@ -52,7 +47,7 @@ fn allowed(t: Tally) -> Tally {
     );
     let t = write(
         t,
-        b"16 bytes across two pages",
+        "16 bytes across two pages",
         Kernel(1),
         [0x8000000000003003, 0x8000000000005003],
         4081,
@@ -61,7 +56,7 @@ fn allowed(t: Tally) -> Tally {
     );
     let t = write(
         t,
-        b"two pages with one frame",
+        "two pages with one frame",
         Kernel(1),
         [0x8000000000003003, 0x8000000000003003],
         4090,
@@ -70,7 +65,7 @@ fn allowed(t: Tally) -> Tally {
     );
     let t = write(
         t,
-        b"the first byte of the second page",
+        "the first byte of the second page",
         Kernel(1),
         [0, 0x8000000000005003],
         4096,
@@ -80,47 +75,23 @@ fn allowed(t: Tally) -> Tally {
     // Bit 63 is not asked.
     let t = write(
         t,
-        b"two user pages in user mode",
+        "two user pages in user mode",
         User(1),
         [0x3007, 0x8000000000007207],
         4088,
         16,
         Done(3, 7),
     );
-    write(
-        t,
-        b"the last byte of page 2",
-        Kernel(1),
-        [0, 0],
-        12287,
-        1,
-        Done(6, 6),
-    )
+    write(t, "the last byte of page 2", Kernel(1), [0, 0], 12287, 1, Done(6, 6))
 }
 
 // "8. Is the length within its range?" before 9.
 fn question_8(t: Tally) -> Tally {
+    let t = write(t, "no bytes beyond the last page", Kernel(1), [0, 0], 16384, 0, Refused(8));
+    let t = write(t, "17 bytes beyond the last page", Kernel(1), [0, 0], 16384, 17, Refused(8));
     let t = write(
         t,
-        b"no bytes beyond the last page",
-        Kernel(1),
-        [0, 0],
-        16384,
-        0,
-        Refused(8),
-    );
-    let t = write(
-        t,
-        b"17 bytes beyond the last page",
-        Kernel(1),
-        [0, 0],
-        16384,
-        17,
-        Refused(8),
-    );
-    let t = write(
-        t,
-        b"17 bytes at the highest address",
+        "17 bytes at the highest address",
         Kernel(1),
         [0, 0],
         18446744073709551615,
@@ -129,7 +100,7 @@ fn question_8(t: Tally) -> Tally {
     );
     write(
         t,
-        b"the highest length",
+        "the highest length",
         Kernel(1),
         [0x8000000000003003, 0x8000000000005003],
         0,
@@ -142,7 +113,7 @@ fn question_8(t: Tally) -> Tally {
 fn question_9(t: Tally) -> Tally {
     let t = write(
         t,
-        b"1 byte beyond the last page",
+        "1 byte beyond the last page",
         Kernel(1),
         [0x8000000000003003, 0],
         16384,
@@ -151,7 +122,7 @@ fn question_9(t: Tally) -> Tally {
     );
     let t = write(
         t,
-        b"2 bytes from the last byte on",
+        "2 bytes from the last byte on",
         Kernel(1),
         [0x8000000000003003, 0],
         16383,
@@ -160,7 +131,7 @@ fn question_9(t: Tally) -> Tally {
     );
     let t = write(
         t,
-        b"1 byte at the highest address",
+        "1 byte at the highest address",
         Kernel(1),
         [0x8000000000003003, 0],
         18446744073709551615,
@@ -169,7 +140,7 @@ fn question_9(t: Tally) -> Tally {
     );
     let t = write(
         t,
-        b"2 bytes at the highest address do not wrap to page 0",
+        "2 bytes at the highest address do not wrap to page 0",
         Kernel(1),
         [0x8000000000003003, 0],
         18446744073709551615,
@@ -178,7 +149,7 @@ fn question_9(t: Tally) -> Tally {
     );
     let t = write(
         t,
-        b"16 bytes up to the highest address",
+        "16 bytes up to the highest address",
         Kernel(1),
         [0x8000000000003003, 0],
         18446744073709551600,
@@ -186,49 +157,19 @@ fn question_9(t: Tally) -> Tally {
         Refused(9),
     );
     // Page 65536 is not page 0.
-    write(
-        t,
-        b"1 byte in page 65536",
-        Kernel(1),
-        [0x8000000000003003, 0],
-        268435456,
-        1,
-        Refused(9),
-    )
+    write(t, "1 byte in page 65536", Kernel(1), [0x8000000000003003, 0], 268435456, 1, Refused(9))
 }
 
 // "11. Is every touched shadow entry present", before 12 of any page.
 fn question_11(t: Tally) -> Tally {
+    let t = write(t, "an absent page", Kernel(1), [0, 0x8000000000005003], 4095, 1, Refused(11));
+    let t =
+        write(t, "an absent first page", Kernel(1), [0, 0x8000000000005003], 4095, 2, Refused(11));
+    let t =
+        write(t, "an absent second page", Kernel(1), [0x8000000000003003, 0], 4095, 2, Refused(11));
     let t = write(
         t,
-        b"an absent page",
-        Kernel(1),
-        [0, 0x8000000000005003],
-        4095,
-        1,
-        Refused(11),
-    );
-    let t = write(
-        t,
-        b"an absent first page",
-        Kernel(1),
-        [0, 0x8000000000005003],
-        4095,
-        2,
-        Refused(11),
-    );
-    let t = write(
-        t,
-        b"an absent second page",
-        Kernel(1),
-        [0x8000000000003003, 0],
-        4095,
-        2,
-        Refused(11),
-    );
-    let t = write(
-        t,
-        b"a read-only first page and an absent second",
+        "a read-only first page and an absent second",
         Kernel(1),
         [0x8000000000003001, 0],
         4095,
@@ -237,38 +178,22 @@ fn question_11(t: Tally) -> Tally {
     );
     let t = write(
         t,
-        b"an excluded first page and an absent second",
+        "an excluded first page and an absent second",
         Kernel(1),
         [0x2003, 0],
         4095,
         2,
         Refused(11),
     );
-    write(
-        t,
-        b"a damaged entry with bit 0 clear",
-        User(1),
-        [0x3006, 0],
-        0,
-        1,
-        Refused(11),
-    )
+    write(t, "a damaged entry with bit 0 clear", User(1), [0x3006, 0], 0, 1, Refused(11))
 }
 
 // "12. Does each permit it?", before 13 of any page.
 fn question_12(t: Tally) -> Tally {
+    let t = write(t, "a read-only page", Kernel(1), [0x8000000000003001, 0], 0, 1, Refused(12));
     let t = write(
         t,
-        b"a read-only page",
-        Kernel(1),
-        [0x8000000000003001, 0],
-        0,
-        1,
-        Refused(12),
-    );
-    let t = write(
-        t,
-        b"a read-only first page",
+        "a read-only first page",
         Kernel(1),
         [0x8000000000003005, 0x8000000000005003],
         4095,
@@ -277,7 +202,7 @@ fn question_12(t: Tally) -> Tally {
     );
     let t = write(
         t,
-        b"a read-only second page",
+        "a read-only second page",
         Kernel(1),
         [0x8000000000003003, 0x8000000000005005],
         4095,
@@ -286,7 +211,7 @@ fn question_12(t: Tally) -> Tally {
     );
     let t = write(
         t,
-        b"an approved second page",
+        "an approved second page",
         Kernel(1),
         [0x8000000000003003, 0x2401],
         4095,
@@ -295,7 +220,7 @@ fn question_12(t: Tally) -> Tally {
     );
     let t = write(
         t,
-        b"a page of the kernel's in user mode",
+        "a page of the kernel's in user mode",
         User(1),
         [0x8000000000003003, 0],
         0,
@@ -304,7 +229,7 @@ fn question_12(t: Tally) -> Tally {
     );
     let t = write(
         t,
-        b"a second page of the kernel's in user mode",
+        "a second page of the kernel's in user mode",
         User(1),
         [0x3007, 0x8000000000005003],
         4081,
@@ -313,29 +238,21 @@ fn question_12(t: Tally) -> Tally {
     );
     let t = write(
         t,
-        b"an excluded first page and a read-only second",
+        "an excluded first page and a read-only second",
         Kernel(1),
         [0x2003, 0x5001],
         4095,
         2,
         Refused(12),
     );
-    write(
-        t,
-        b"the last byte of the last page",
-        Kernel(1),
-        [0, 0],
-        16383,
-        1,
-        Refused(12),
-    )
+    write(t, "the last byte of the last page", Kernel(1), [0, 0], 16383, 1, Refused(12))
 }
 
 // "13. [..] are all touched frames free of exclusion, one at or above F counting as excluded?" Only damaged tables have such entries.
 fn question_13(t: Tally) -> Tally {
     let t = write(
         t,
-        b"a writable page with an excluded frame",
+        "a writable page with an excluded frame",
         Kernel(1),
         [0x2003, 0],
         0,
@@ -344,7 +261,7 @@ fn question_13(t: Tally) -> Tally {
     );
     let t = write(
         t,
-        b"a writable second page with an excluded frame",
+        "a writable second page with an excluded frame",
         Kernel(1),
         [0x8000000000003003, 0x8003],
         4095,
@@ -353,25 +270,17 @@ fn question_13(t: Tally) -> Tally {
     );
     let t = write(
         t,
-        b"a writable first page with an excluded frame",
+        "a writable first page with an excluded frame",
         User(1),
         [0x8007, 0x5007],
         4095,
         2,
         Refused(13),
     );
+    let t = write(t, "a writable page with frame F", Kernel(1), [0x9003, 0], 0, 1, Refused(13));
     let t = write(
         t,
-        b"a writable page with frame F",
-        Kernel(1),
-        [0x9003, 0],
-        0,
-        1,
-        Refused(13),
-    );
-    let t = write(
-        t,
-        b"a writable second page with frame F",
+        "a writable second page with frame F",
         User(1),
         [0x3007, 0x9007],
         4095,
@@ -381,25 +290,18 @@ fn question_13(t: Tally) -> Tally {
     // Frame 16 is past the vector's end, and frame 65536 is not frame 0.
     let t = write(
         t,
-        b"a writable page with a frame past the vector",
+        "a writable page with a frame past the vector",
         Kernel(1),
         [0x10003, 0],
         0,
         1,
         Refused(13),
     );
-    let t = write(
-        t,
-        b"a writable page with frame 65536",
-        Kernel(1),
-        [0x10000003, 0],
-        0,
-        1,
-        Refused(13),
-    );
+    let t =
+        write(t, "a writable page with frame 65536", Kernel(1), [0x10000003, 0], 0, 1, Refused(13));
     write(
         t,
-        b"a writable page with the highest frame",
+        "a writable page with the highest frame",
         Kernel(1),
         [0xffffffffff003, 0],
         0,
@@ -415,12 +317,8 @@ fn largest(t: Tally) -> Tally {
     let mut exclusion = [0xffu8; 512];
     exclusion[511] = 0x7f;
     let s = guard::state(2048, 4096, 1, [0, 0, 0, 0], Kernel(0));
-    let answer = access::write(s, &shadow, &exclusion, 8388592, 16);
-    t.case(
-        b"write",
-        b"the last 16 bytes of 2048 pages",
-        same::answers(answer, Done(4095, 4095)),
-    )
+    let answer = crate::calls::write(s, &shadow, &exclusion, 8388592, 16);
+    t.case("write", "the last 16 bytes of 2048 pages", same::answers(answer, Done(4095, 4095)))
 }
 
 pub fn all(t: Tally) -> Tally {

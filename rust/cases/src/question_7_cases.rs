@@ -1,14 +1,15 @@
 // Question 7 of every call but the start: "Are the state's V, F within range, e from 1 to 16, the running page below V, and does every
 // lent table have its exact length". A call asks it of the tables that it is lent and of no other. It comes before every other question.
+use crate::calls::Answer;
+use crate::calls::Mode::Kernel;
+use crate::calls::Mode::User;
+use crate::calls::State;
 use crate::guard;
 use crate::same;
 use crate::tally::Tally;
-use model::Answer;
-use model::Mode::Kernel;
-use model::Mode::User;
-use model::State;
 
 // The numbers that refuse the calls, or 0.
+#[derive(Clone, Copy)]
 struct Numbers {
     sync_page: u64,
     sync_all: u64,
@@ -20,6 +21,7 @@ struct Numbers {
 }
 
 // How many places each table is lent with.
+#[derive(Clone, Copy)]
 struct Lent {
     kernel: usize,
     shadow: usize,
@@ -28,6 +30,7 @@ struct Lent {
 }
 
 // Tables with room for every length asked here. Page 0 is an ordinary user page and page 1 an approved one; no frame is excluded.
+#[derive(Clone, Copy)]
 struct Room {
     shadow: [u64; 2049],
     map: [u16; 2049],
@@ -46,13 +49,13 @@ fn told(answer: Answer, number: u64, unchanged: bool) -> bool {
     guard::number_of(answer) == number && (number == 0 || unchanged)
 }
 
-fn sync_page(t: Tally, name: &[u8], s: State, lent: Lent, number: u64) -> Tally {
+fn sync_page(t: Tally, name: &str, s: State, lent: Lent, number: u64) -> Tally {
     let r = tables();
     let given = r.shadow;
     let numbers = r.map;
     let mut shadow = r.shadow;
     let mut map = r.map;
-    let answer = sync::sync_page(
+    let answer = crate::calls::sync_page(
         s,
         guard::lend(&[0; 2049], lent.kernel),
         guard::lend_shadow(&mut shadow, lent.shadow),
@@ -62,16 +65,16 @@ fn sync_page(t: Tally, name: &[u8], s: State, lent: Lent, number: u64) -> Tally 
     );
     let entries = same::entries(&shadow, &given);
     let unchanged = same::numbers(&map, &numbers) && entries;
-    t.case(b"sync_page", name, told(answer, number, unchanged))
+    t.case("sync_page", name, told(answer, number, unchanged))
 }
 
-fn sync_all(t: Tally, name: &[u8], s: State, lent: Lent, number: u64) -> Tally {
+fn sync_all(t: Tally, name: &str, s: State, lent: Lent, number: u64) -> Tally {
     let r = tables();
     let given = r.shadow;
     let numbers = r.map;
     let mut shadow = r.shadow;
     let mut map = r.map;
-    let answer = sync::sync_all(
+    let answer = crate::calls::sync_all(
         s,
         guard::lend(&[0; 2049], lent.kernel),
         guard::lend_shadow(&mut shadow, lent.shadow),
@@ -80,68 +83,68 @@ fn sync_all(t: Tally, name: &[u8], s: State, lent: Lent, number: u64) -> Tally {
     );
     let entries = same::entries(&shadow, &given);
     let unchanged = same::numbers(&map, &numbers) && entries;
-    t.case(b"sync_all", name, told(answer, number, unchanged))
+    t.case("sync_all", name, told(answer, number, unchanged))
 }
 
 // Fetches page 1.
-fn fetch(t: Tally, name: &[u8], s: State, lent: Lent, number: u64) -> Tally {
+fn fetch(t: Tally, name: &str, s: State, lent: Lent, number: u64) -> Tally {
     let r = tables();
     let shadow = r.shadow;
-    let called = access::fetch(s, guard::lend(&shadow, lent.shadow), 1);
+    let called = crate::calls::fetch(s, guard::lend(&shadow, lent.shadow), 1);
     let answer = called.answer;
     let state = called.state;
     let unchanged = same::states(state, s);
-    t.case(b"fetch", name, told(answer, number, unchanged))
+    t.case("fetch", name, told(answer, number, unchanged))
 }
 
 // Writes the first byte of page 0.
-fn write(t: Tally, name: &[u8], s: State, lent: Lent, number: u64) -> Tally {
+fn write(t: Tally, name: &str, s: State, lent: Lent, number: u64) -> Tally {
     let r = tables();
     let shadow = r.shadow;
-    let answer = access::write(
+    let answer = crate::calls::write(
         s,
         guard::lend(&shadow, lent.shadow),
         guard::lend_vector(&[0; 513], lent.exclusion),
         0,
         1,
     );
-    t.case(b"write", name, told(answer, number, true))
+    t.case("write", name, told(answer, number, true))
 }
 
 // Enters by index 0.
-fn enter(t: Tally, name: &[u8], s: State, lent: Lent, number: u64) -> Tally {
+fn enter(t: Tally, name: &str, s: State, lent: Lent, number: u64) -> Tally {
     let r = tables();
     let given = r.shadow;
     let mut shadow = r.shadow;
-    let called = modes::enter(s, guard::lend_shadow(&mut shadow, lent.shadow), 0);
+    let called = crate::calls::enter(s, guard::lend_shadow(&mut shadow, lent.shadow), 0);
     let answer = called.answer;
     let state = called.state;
     let entries = same::entries(&shadow, &given);
     let unchanged = same::states(state, s) && entries;
-    t.case(b"enter", name, told(answer, number, unchanged))
+    t.case("enter", name, told(answer, number, unchanged))
 }
 
 // Leaves to page 0.
-fn leave(t: Tally, name: &[u8], s: State, lent: Lent, number: u64) -> Tally {
+fn leave(t: Tally, name: &str, s: State, lent: Lent, number: u64) -> Tally {
     let r = tables();
     let given = r.shadow;
     let mut shadow = r.shadow;
-    let called = modes::leave(s, guard::lend_shadow(&mut shadow, lent.shadow), 0);
+    let called = crate::calls::leave(s, guard::lend_shadow(&mut shadow, lent.shadow), 0);
     let answer = called.answer;
     let state = called.state;
     let entries = same::entries(&shadow, &given);
     let unchanged = same::states(state, s) && entries;
-    t.case(b"leave", name, told(answer, number, unchanged))
+    t.case("leave", name, told(answer, number, unchanged))
 }
 
 // Writes the first byte of frame 0.
-fn device_write(t: Tally, name: &[u8], s: State, lent: Lent, number: u64) -> Tally {
+fn device_write(t: Tally, name: &str, s: State, lent: Lent, number: u64) -> Tally {
     let exclusion = guard::lend_vector(&[0; 513], lent.exclusion);
-    let answer = access::device_write(s, exclusion, 0, 1);
-    t.case(b"device_write", name, told(answer, number, true))
+    let answer = crate::calls::device_write(s, exclusion, 0, 1);
+    t.case("device_write", name, told(answer, number, true))
 }
 
-fn calls(t: Tally, name: &[u8], s: State, lent: Lent, wanted: Numbers) -> Tally {
+fn calls(t: Tally, name: &str, s: State, lent: Lent, wanted: Numbers) -> Tally {
     let t = sync_page(t, name, s, lent, wanted.sync_page);
     let t = sync_all(t, name, s, lent, wanted.sync_all);
     let t = fetch(t, name, s, lent, wanted.fetch);
@@ -153,117 +156,54 @@ fn calls(t: Tally, name: &[u8], s: State, lent: Lent, wanted: Numbers) -> Tally 
 
 // Kernel mode: enter is refused by question 10 where it passes 7.
 fn passed() -> Numbers {
-    Numbers {
-        sync_page: 0,
-        sync_all: 0,
-        fetch: 0,
-        write: 0,
-        enter: 10,
-        leave: 0,
-        device_write: 0,
-    }
+    Numbers { sync_page: 0, sync_all: 0, fetch: 0, write: 0, enter: 10, leave: 0, device_write: 0 }
 }
 
 // Tables of these lengths on V 4 and F 9.
-fn lengths(t: Tally, name: &[u8], lent: [usize; 4], wanted: Numbers) -> Tally {
+fn lengths(t: Tally, name: &str, lent: [usize; 4], wanted: Numbers) -> Tally {
     calls(
         t,
         name,
         guard::state_in(Kernel(1)),
-        Lent {
-            kernel: lent[0],
-            shadow: lent[1],
-            map: lent[2],
-            exclusion: lent[3],
-        },
+        Lent { kernel: lent[0], shadow: lent[1], map: lent[2], exclusion: lent[3] },
         wanted,
     )
 }
 
 // The kernel table and the map are lent to the synchronising calls alone.
 fn kernel_or_map() -> Numbers {
-    Numbers {
-        sync_page: 7,
-        sync_all: 7,
-        fetch: 0,
-        write: 0,
-        enter: 10,
-        leave: 0,
-        device_write: 0,
-    }
+    Numbers { sync_page: 7, sync_all: 7, fetch: 0, write: 0, enter: 10, leave: 0, device_write: 0 }
 }
 
 // The shadow table is lent to every call but a device write.
 fn shadow() -> Numbers {
-    Numbers {
-        sync_page: 7,
-        sync_all: 7,
-        fetch: 7,
-        write: 7,
-        enter: 7,
-        leave: 7,
-        device_write: 0,
-    }
+    Numbers { sync_page: 7, sync_all: 7, fetch: 7, write: 7, enter: 7, leave: 7, device_write: 0 }
 }
 
 // The exclusion vector is lent to the synchronising calls, to write and to device write.
 fn exclusion() -> Numbers {
-    Numbers {
-        sync_page: 7,
-        sync_all: 7,
-        fetch: 0,
-        write: 7,
-        enter: 10,
-        leave: 0,
-        device_write: 7,
-    }
+    Numbers { sync_page: 7, sync_all: 7, fetch: 0, write: 7, enter: 10, leave: 0, device_write: 7 }
 }
 
 fn lent_tables(t: Tally) -> Tally {
-    let t = lengths(t, b"tables in order", [4, 4, 4, 2], passed());
-    let t = lengths(
-        t,
-        b"a kernel table too short",
-        [3, 4, 4, 2],
-        kernel_or_map(),
-    );
-    let t = lengths(t, b"a kernel table too long", [5, 4, 4, 2], kernel_or_map());
-    let t = lengths(t, b"a shadow table too short", [4, 3, 4, 2], shadow());
-    let t = lengths(t, b"a shadow table too long", [4, 5, 4, 2], shadow());
-    let t = lengths(t, b"a map too short", [4, 4, 3, 2], kernel_or_map());
-    let t = lengths(t, b"a map too long", [4, 4, 5, 2], kernel_or_map());
-    let t = lengths(
-        t,
-        b"an exclusion vector too short",
-        [4, 4, 4, 1],
-        exclusion(),
-    );
-    lengths(
-        t,
-        b"an exclusion vector too long",
-        [4, 4, 4, 3],
-        exclusion(),
-    )
+    let t = lengths(t, "tables in order", [4, 4, 4, 2], passed());
+    let t = lengths(t, "a kernel table too short", [3, 4, 4, 2], kernel_or_map());
+    let t = lengths(t, "a kernel table too long", [5, 4, 4, 2], kernel_or_map());
+    let t = lengths(t, "a shadow table too short", [4, 3, 4, 2], shadow());
+    let t = lengths(t, "a shadow table too long", [4, 5, 4, 2], shadow());
+    let t = lengths(t, "a map too short", [4, 4, 3, 2], kernel_or_map());
+    let t = lengths(t, "a map too long", [4, 4, 5, 2], kernel_or_map());
+    let t = lengths(t, "an exclusion vector too short", [4, 4, 4, 1], exclusion());
+    lengths(t, "an exclusion vector too long", [4, 4, 4, 3], exclusion())
 }
 
 // Tables of the lengths that V and F ask for, so that the state alone decides.
-fn sized(t: Tally, name: &[u8], s: State, exclusion: usize, wanted: Numbers) -> Tally {
+fn sized(t: Tally, name: &str, s: State, exclusion: usize, wanted: Numbers) -> Tally {
     let pages = s.pages as usize;
-    calls(
-        t,
-        name,
-        s,
-        Lent {
-            kernel: pages,
-            shadow: pages,
-            map: pages,
-            exclusion,
-        },
-        wanted,
-    )
+    calls(t, name, s, Lent { kernel: pages, shadow: pages, map: pages, exclusion }, wanted)
 }
 
-fn state_refused(t: Tally, name: &[u8], s: State, exclusion: usize) -> Tally {
+fn state_refused(t: Tally, name: &str, s: State, exclusion: usize) -> Tally {
     let every = Numbers {
         sync_page: 7,
         sync_all: 7,
@@ -279,84 +219,27 @@ fn state_refused(t: Tally, name: &[u8], s: State, exclusion: usize) -> Tally {
 // Each part of the state, just out of its range.
 fn damaged_states(t: Tally) -> Tally {
     let entry = [1, 3, 0, 0];
-    let t = state_refused(t, b"V 0", guard::state(0, 9, 2, entry, Kernel(0)), 2);
-    let t = state_refused(t, b"V 2049", guard::state(2049, 9, 2, entry, Kernel(1)), 2);
-    let t = state_refused(t, b"F 0", guard::state(4, 0, 2, entry, Kernel(1)), 0);
-    let t = state_refused(
-        t,
-        b"F 4097",
-        guard::state(4, 4097, 2, entry, Kernel(1)),
-        513,
-    );
-    let t = state_refused(t, b"e 0", guard::state(4, 9, 0, entry, User(1)), 2);
-    let t = state_refused(t, b"e 17", guard::state(4, 9, 17, entry, User(1)), 2);
-    let t = state_refused(
-        t,
-        b"page V running in kernel mode",
-        guard::state_in(Kernel(4)),
-        2,
-    );
-    state_refused(
-        t,
-        b"page 65535 running in user mode",
-        guard::state_in(User(65535)),
-        2,
-    )
+    let t = state_refused(t, "V 0", guard::state(0, 9, 2, entry, Kernel(0)), 2);
+    let t = state_refused(t, "V 2049", guard::state(2049, 9, 2, entry, Kernel(1)), 2);
+    let t = state_refused(t, "F 0", guard::state(4, 0, 2, entry, Kernel(1)), 0);
+    let t = state_refused(t, "F 4097", guard::state(4, 4097, 2, entry, Kernel(1)), 513);
+    let t = state_refused(t, "e 0", guard::state(4, 9, 0, entry, User(1)), 2);
+    let t = state_refused(t, "e 17", guard::state(4, 9, 17, entry, User(1)), 2);
+    let t = state_refused(t, "page V running in kernel mode", guard::state_in(Kernel(4)), 2);
+    state_refused(t, "page 65535 running in user mode", guard::state_in(User(65535)), 2)
 }
 
 // Each part of the state at the ends of its range, and vectors whose length is rounded up.
 fn states_in_order(t: Tally) -> Tally {
     let entry = [1, 3, 0, 0];
-    let t = sized(
-        t,
-        b"V 2048",
-        guard::state(2048, 9, 2, entry, Kernel(2047)),
-        2,
-        passed(),
-    );
-    let t = sized(
-        t,
-        b"F 4096",
-        guard::state(4, 4096, 2, entry, Kernel(1)),
-        512,
-        passed(),
-    );
-    let t = sized(
-        t,
-        b"F 8",
-        guard::state(4, 8, 2, entry, Kernel(1)),
-        1,
-        passed(),
-    );
-    let t = sized(
-        t,
-        b"F 16",
-        guard::state(4, 16, 2, entry, Kernel(1)),
-        2,
-        passed(),
-    );
-    let t = sized(
-        t,
-        b"F 17",
-        guard::state(4, 17, 2, entry, Kernel(1)),
-        3,
-        passed(),
-    );
-    let t = sized(
-        t,
-        b"e 1",
-        guard::state(4, 9, 1, entry, Kernel(3)),
-        2,
-        passed(),
-    );
+    let t = sized(t, "V 2048", guard::state(2048, 9, 2, entry, Kernel(2047)), 2, passed());
+    let t = sized(t, "F 4096", guard::state(4, 4096, 2, entry, Kernel(1)), 512, passed());
+    let t = sized(t, "F 8", guard::state(4, 8, 2, entry, Kernel(1)), 1, passed());
+    let t = sized(t, "F 16", guard::state(4, 16, 2, entry, Kernel(1)), 2, passed());
+    let t = sized(t, "F 17", guard::state(4, 17, 2, entry, Kernel(1)), 3, passed());
+    let t = sized(t, "e 1", guard::state(4, 9, 1, entry, Kernel(3)), 2, passed());
     // e is not compared with V, and entry pages are not looked at.
-    sized(
-        t,
-        b"e 16",
-        guard::state(4, 9, 16, [1, 65535, 4, 0], Kernel(0)),
-        2,
-        passed(),
-    )
+    sized(t, "e 16", guard::state(4, 9, 16, [1, 65535, 4, 0], Kernel(0)), 2, passed())
 }
 
 // V 1 and F 1: page 1 and entry page 1 do not exist, and the write's frame 3 is at or above F.
@@ -371,7 +254,7 @@ fn smallest(t: Tally) -> Tally {
         device_write: 0,
     };
     let s = guard::state(1, 1, 1, [1, 0, 0, 0], Kernel(0));
-    sized(t, b"V 1 and F 1", s, 1, wanted)
+    sized(t, "V 1 and F 1", s, 1, wanted)
 }
 
 pub fn all(t: Tally) -> Tally {

@@ -1,8 +1,0 @@
--- `lend` is safe: the part that it gives is as long as it says. Assumes nothing.
-use borrow.Author.Needs.{needs}
-use lib.Seq.{length-take-le}
-use Rattle.cases.proofs.guard.lend.Statement.{statement}
-use Rattle.cases.proofs.guard.lend.Tie as tie
-
-pub lend-spec : {M : Type 1} → statement M
-lend-spec = tie.close (tie.spec (λ c. search needs) (λ c. search (needs, length-take-le)) (λ c. search needs))

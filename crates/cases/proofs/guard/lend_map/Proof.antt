@@ -1,8 +1,0 @@
--- `lend_map` is safe: the part that it gives is as long as it says. Assumes nothing.
-use borrow.Author.Needs.{needs}
-use lib.Seq.{length-take-le}
-use Rattle.cases.proofs.guard.lend_map.Statement.{statement}
-use Rattle.cases.proofs.guard.lend_map.Tie as tie
-
-pub lend-map-spec : {M : Type 1} → statement M
-lend-map-spec = tie.close (tie.spec (λ c. search needs) (λ c. search (needs, length-take-le)) (λ c. search needs))

@@ -1,0 +1,146 @@
+//! The calls of the proved archive on a state by value, as the cases make them.
+//! A state crosses the boundary as a run of words; the two numbers come back in a run of two.
+
+use ::guard::archive;
+
+#[derive(Clone, Copy, PartialEq, Eq)]
+pub enum Mode {
+    Kernel(u16),
+    User(u16),
+}
+
+#[derive(Clone, Copy, PartialEq, Eq)]
+pub struct State {
+    pub pages: u16,
+    pub frames: u16,
+    pub entries: u16,
+    pub entry: [u16; 16],
+    pub mode: Mode,
+}
+
+#[derive(Clone, Copy, PartialEq, Eq)]
+pub enum Answer {
+    Done(u64, u64),
+    Refused(u64),
+}
+
+#[derive(Clone, Copy)]
+pub struct Called {
+    pub answer: Answer,
+    pub state: State,
+}
+
+const WORDS: usize = 21;
+
+/// A run of numbers that holds neither zeros nor an answer, so that a call which does not write it is seen.
+const UNWRITTEN: [u64; 2] = [0xdead, 0xbeef];
+
+fn words(s: State) -> [u64; WORDS] {
+    let mut run = [0; WORDS];
+    run[0] = s.pages.into();
+    run[1] = s.frames.into();
+    run[2] = s.entries.into();
+    for (word, page) in run[3..19].iter_mut().zip(s.entry) {
+        *word = page.into();
+    }
+    let (user, page) = match s.mode {
+        Mode::Kernel(page) => (0, page),
+        Mode::User(page) => (1, page),
+    };
+    run[19] = user;
+    run[20] = page.into();
+    run
+}
+
+/// A word of a run that the archive wrote, or that came from `words`: it fits its field.
+fn field(word: u64) -> u16 {
+    word.try_into().expect("a word of the state run fits its field")
+}
+
+fn state(run: [u64; WORDS]) -> State {
+    let page = field(run[20]);
+    State {
+        pages: field(run[0]),
+        frames: field(run[1]),
+        entries: field(run[2]),
+        entry: std::array::from_fn(|i| field(run[3 + i])),
+        mode: match run[19] {
+            0 => Mode::Kernel(page),
+            1 => Mode::User(page),
+            other => panic!("mode word {other}"),
+        },
+    }
+}
+
+/// "with the call's other numbers 0": a refused call that leaves other numbers is told apart from every wanted answer.
+fn answer(number: u64, numbers: [u64; 2]) -> Answer {
+    match (number, numbers) {
+        (0, [first, second]) => Answer::Done(first, second),
+        (number, [0, 0]) => Answer::Refused(number),
+        (number, numbers) => panic!("refused with {number} and the numbers {numbers:?}"),
+    }
+}
+
+/// At the boundary a refused start leaves the state run as it was. The run begins as the state of zeros in user mode
+/// on page 0, which document 01 names for a refused start.
+pub fn start(policy: &[u8], shadow: &mut [u64], map: &mut [u16], exclusion: &mut [u8]) -> Called {
+    let zeros = State { pages: 0, frames: 0, entries: 0, entry: [0; 16], mode: Mode::User(0) };
+    let (mut run, mut numbers) = (words(zeros), UNWRITTEN);
+    let number = archive::start(policy, &mut run, shadow, map, exclusion, &mut numbers);
+    Called { answer: answer(number, numbers), state: state(run) }
+}
+
+pub fn sync_page(
+    s: State,
+    kernel: &[u64],
+    shadow: &mut [u64],
+    map: &mut [u16],
+    exclusion: &[u8],
+    page: u64,
+) -> Answer {
+    let mut numbers = UNWRITTEN;
+    let number = archive::sync_page(&words(s), kernel, shadow, map, exclusion, page, &mut numbers);
+    answer(number, numbers)
+}
+
+pub fn sync_all(
+    s: State,
+    kernel: &[u64],
+    shadow: &mut [u64],
+    map: &mut [u16],
+    exclusion: &[u8],
+) -> Answer {
+    let mut numbers = UNWRITTEN;
+    let number = archive::sync_all(&words(s), kernel, shadow, map, exclusion, &mut numbers);
+    answer(number, numbers)
+}
+
+pub fn fetch(s: State, shadow: &[u64], page: u64) -> Called {
+    let (mut run, mut numbers) = (words(s), UNWRITTEN);
+    let number = archive::fetch(&mut run, shadow, page, &mut numbers);
+    Called { answer: answer(number, numbers), state: state(run) }
+}
+
+pub fn write(s: State, shadow: &[u64], exclusion: &[u8], address: u64, length: u64) -> Answer {
+    let mut numbers = UNWRITTEN;
+    let number = archive::write(&words(s), shadow, exclusion, address, length, &mut numbers);
+    answer(number, numbers)
+}
+
+pub fn enter(s: State, shadow: &mut [u64], index: u64) -> Called {
+    let (mut run, mut numbers) = (words(s), UNWRITTEN);
+    let number = archive::enter(&mut run, shadow, index, &mut numbers);
+    Called { answer: answer(number, numbers), state: state(run) }
+}
+
+pub fn leave(s: State, shadow: &mut [u64], page: u64) -> Called {
+    let (mut run, mut numbers) = (words(s), UNWRITTEN);
+    let number = archive::leave(&mut run, shadow, page, &mut numbers);
+    Called { answer: answer(number, numbers), state: state(run) }
+}
+
+pub fn device_write(s: State, exclusion: &[u8], address: u64, length: u64) -> Answer {
+    let mut numbers = UNWRITTEN;
+    let number = archive::device_write(&words(s), exclusion, address, length, &mut numbers);
+    answer(number, numbers)
+}

@@ -1,0 +1,98 @@
+//! The drill: numbers 14 and 15, edit, what it takes of its input, and the limit of 1,024 calls.
+//! Every byte that it writes is compared.
+
+use crate::tally::Tally;
+use std::io::Write;
+use std::path::Path;
+use std::process::{Command, Stdio};
+
+/// "Policy V 4, F 4, n 1, e 1, page 1, frame 2."
+const POLICY: [u8; 12] = [4, 0, 4, 0, 1, 0, 1, 0, 1, 0, 2, 0];
+const START: &str = "S 0 1 1 K 1\n";
+const CLOSING: &str =
+    "0000000000000000\n0000000000002401\n0000000000000000\n0000000000000000\nshare 25\n";
+
+/// "A call: byte 0 kind, byte 1 ignored, 2 to 3 index, 4 to 7 length, 8 to 15 value."
+fn call(kind: u8, index: u16, value: u64) -> Vec<u8> {
+    let mut bytes = vec![kind, 0];
+    bytes.extend(index.to_le_bytes());
+    bytes.extend([0; 4]);
+    bytes.extend(value.to_le_bytes());
+    bytes
+}
+
+/// What the built drill writes for an input. It may stop reading before the input ends.
+fn written(input: &[u8]) -> Vec<u8> {
+    let drill = Path::new(env!("CARGO_MANIFEST_DIR")).join("../../target/bin/drill");
+    let mut child = Command::new(drill)
+        .stdin(Stdio::piped())
+        .stdout(Stdio::piped())
+        .spawn()
+        .expect("the drill is built: rt check drill");
+    let _ = child.stdin.take().expect("a pipe").write_all(input);
+    child.wait_with_output().expect("the drill ends").stdout
+}
+
+fn drill(t: Tally, name: &str, input: &[u8], wanted: &str) -> Tally {
+    t.case("drill", name, written(input) == wanted.as_bytes())
+}
+
+/// The policy, then these bytes; the start's line, these lines and the closing lines of an untouched guard.
+fn after_start(t: Tally, name: &str, calls: &[u8], lines: &str) -> Tally {
+    let input: Vec<u8> = POLICY.iter().chain(calls).copied().collect();
+    drill(t, name, &input, &format!("{START}{lines}{CLOSING}"))
+}
+
+/// "A refused start prints its line alone."
+fn starts(t: Tally) -> Tally {
+    let t = drill(t, "no input", &[], "S 1 0 0 U 0\n");
+    let t = drill(t, "7 bytes", &POLICY[..7], "S 1 0 0 U 0\n");
+    let t = drill(t, "V 0", &[0, 0, 4, 0, 1, 0, 1, 0, 1, 0, 2, 0], "S 2 0 0 U 0\n");
+    let t = drill(
+        t,
+        "V 2,049 and F 65,535",
+        &[1, 8, 255, 255, 1, 0, 1, 0, 1, 0, 2, 0],
+        "S 2 0 0 U 0\n",
+    );
+    // n is not 1 to 2,048, so 8 bytes are taken and question 3 refuses.
+    let t = drill(t, "n 0", &[4, 0, 4, 0, 0, 0, 1, 0], "S 3 0 0 U 0\n");
+    let t = drill(t, "a record cut short", &POLICY[..11], "S 4 0 0 U 0\n");
+    let t = drill(t, "page V listed", &[4, 0, 4, 0, 1, 0, 1, 0, 4, 0, 2, 0], "S 5 0 0 U 0\n");
+    drill(t, "frame F listed", &[4, 0, 4, 0, 1, 0, 1, 0, 1, 0, 4, 0], "S 6 0 0 U 0\n")
+}
+
+/// "14. Drill only: does a whole call of 16 bytes remain, where anything remains? 15. Drill only: is the kind 0 to 7?"
+fn ends(t: Tally) -> Tally {
+    let t = after_start(t, "no call", &[], "");
+    let t = after_start(t, "15 bytes of a call give 14", &call(2, 0, 0)[..15], "X 14 0 0 K 1\n");
+    let t = after_start(t, "1 byte of a kind above 7 gives 14", &[9], "X 14 0 0 K 1\n");
+    let t = after_start(t, "kind 8 gives 15", &call(8, 0, 0), "X 15 0 0 K 1\n");
+    let more: Vec<u8> = [call(255, 0, 0), call(3, 1, 0)].concat();
+    let t = after_start(t, "15 ends the calls", &more, "X 15 0 0 K 1\n");
+    let fetches = call(3, 1, 0).repeat(1025);
+    let t = after_start(t, "1,024 calls and no more", &fetches, &"3 0 2 2 K 1\n".repeat(1024));
+    let cut = [call(3, 1, 0).repeat(1024), vec![9]].concat();
+    after_start(t, "nothing is read after the 1,024th call", &cut, &"3 0 2 2 K 1\n".repeat(1024))
+}
+
+/// "0 edit the kernel table (index, value; question 9)". "An accepted edit gives 0 and 0."
+fn edits(t: Tally) -> Tally {
+    let t = after_start(
+        t,
+        "an edit gives 0 and 0 and leaves the shadow",
+        &call(0, 3, 0x3007),
+        "0 0 0 0 K 1\n",
+    );
+    let t = after_start(t, "an edit of page V gives 9", &call(0, 4, 0x3007), "0 9 0 0 K 1\n");
+    let mut ignored = call(0, 0, 0);
+    ignored[1] = 255;
+    let t = after_start(t, "byte 1 is ignored", &ignored, "0 0 0 0 K 1\n");
+    // The kernel table begins as zeros: every page is absent, and page 1 loses its entry.
+    let input = [POLICY.to_vec(), call(2, 0, 0)].concat();
+    let wanted = "S 0 1 1 K 1\n2 0 1 0 K 1\n0000000000000000\n0000000000000000\n0000000000000000\n0000000000000000\nshare 25\n";
+    drill(t, "the kernel table begins as zeros", &input, wanted)
+}
+
+pub fn all(t: Tally) -> Tally {
+    edits(ends(starts(t)))
+}
