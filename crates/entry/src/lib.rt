@@ -4,9 +4,12 @@
 use model::Entry;
 use model::Fields;
 ghost use mathlib.Core.Path.{_≡_};
-ghost use mathlib.Core.Bool.{cond};
-ghost use Prim.Native.Nat.{_<_, _≤_, _^_};
+ghost use mathlib.Core.Bool.{cond, not};
+ghost use Prim.Native.Nat.{_<_, _≤_, _^_, _/_};
+ghost use lib.Bits.{bitXor};
 ghost use Rattle.model.specs.Bits.{present, writable, userBit, noExecute, kernelNoExecute, approvedMark, frameOf, takenApart, approved, ordinaryNoExecute, ordinary, noExecuteIn, switched};
+ghost use Rattle.model.specs.Sync.{differs};
+ghost use Rattle.model.specs.Keeps.{flag};
 
 // The weights of the bits. Division and remainder by them are shifts and masks.
 const WRITABLE: u64 = 0x2;
@@ -19,7 +22,7 @@ const APPROVED: u64 = 0x400;
 
 const FRAME: u64 = 0x1000;
 
-const NO_EXECUTE: u64 = 0x8000_0000_0000_0000;
+pub const NO_EXECUTE: u64 = 0x8000_0000_0000_0000;
 // One above the largest number that the 40 bits of a frame hold.
 const FRAMES: u64 = 0x100_0000_0000;
 
@@ -113,23 +116,22 @@ pub fn ordinary(user: bool, x: Fields) -> u64
         + flag(ordinary_no_execute(user, x.noexec, x.user), NO_EXECUTE)
 }
 
-// Bit 63 of a shadow entry after a switch, from its own approved mark and bits 2 and 9.
-fn no_execute_in(user: bool, entry: u64) -> bool
-    ensures { λ r. ⌜ r ≡ noExecuteIn user entry ⌝ }
+// Bit 63 of the result is whether the entry may be executed in the mode: an approved one in kernel mode, an ordinary one in user mode by
+// bits 2 and 9. Its other bits mean nothing. A shift left brings bit 2, 9 or 10 to bit 63: a switch goes without a branch.
+fn executable(user: bool, entry: u64) -> u64
+    ensures { λ r. ⌜ r / 2 ^ 63 ≡ flag (not (noExecuteIn user entry)) 0 ⌝ }
 {
-    if approved_mark(entry) {
-        user
+    if user {
+        entry << 61 & !(entry << 53 | entry << 54)
     } else {
-        ordinary_no_execute(user, kernel_no_execute(entry), user_bit(entry))
+        entry << 53
     }
 }
 
-pub fn switched(user: bool, entry: u64) -> u64
-    ensures { λ r. ⌜ r ≡ switched user entry ⌝ }
+// 2^63 where a switch to the mode changes bit 63 of the entry, and 0 elsewhere. An entry that is not present is not changed.
+// `entry ^ change` is the entry after the switch, and `change / 2^63` counts it.
+pub fn switch_change(user: bool, entry: u64) -> u64
+    ensures { λ r. ⌜ (bitXor entry r ≡ switched user entry) × (r / 2 ^ 63 ≡ differs entry (switched user entry)) × (r / 2 ^ 63 ≤ 1) ⌝ }
 {
-    if present(entry) {
-        entry % NO_EXECUTE + flag(no_execute_in(user, entry), NO_EXECUTE)
-    } else {
-        entry
-    }
+    !(entry ^ executable(user, entry)) & entry << 63
 }

@@ -1,22 +1,13 @@
--- Laws of the loop that switches the table: an entry's count, and the loop at its start, after an entry and at its end.
+-- Laws of the loop that switches the table: the loop at its start, after an entry and at its end.
 use Prim.Native.Nat.{ℕ, _+_, _≤_, _<_}
 use mathlib.Core.Bool.{Bool}
 use mathlib.Core.List.{List}
-use mathlib.Core.Path.{_≡_, refl, sym, ap, _∙_}
+use mathlib.Core.Path.{_≡_, sym, _∙_}
 use native.Mathlib.Omega.{arith}
 use lib.ListN.{length, getD, set}
-use borrow.Author.Tests.{eq-eqb, ne-eqb}
 use Rattle.model.specs.Bits.{switched}
 use Rattle.model.specs.Sync.{differs, switchedAll, changes}
 use Rattle.model.proofs.SwitchLaws.{switchedFrom, changesFrom, changes-start, switched-more, changes-more, switched-over, changes-over}
-
-pub same-counts : (a b : ℕ) → a ≡ b → 0 ≡ differs a b
-unfolding differs
-same-counts a b p = rw (eq-eqb a b p)
-
-pub other-counts : (a b : ℕ) → (a ≡ b → ⊥) → 1 ≡ differs a b
-unfolding differs
-other-counts a b p = rw (ne-eqb a b p)
 
 pub count-start : (user : Bool) (l : List ℕ) → 0 + changesFrom user 0 l ≡ changes l (switchedAll user l)
 count-start user l =
@@ -28,10 +19,12 @@ module _ (user : Bool) (l : List ℕ) (i : ℕ) where
       → switchedFrom user (i + 1) (set l i after) ≡ all
   table-more after all e h inv = rw e (switched-more user l i h ∙ inv)
 
-  pub count-more : (after changed one all : ℕ) → after ≡ switched user (getD l i 0) → one ≡ differs (getD l i 0) after → i < length l
-      → changed + changesFrom user i l ≡ all → changed + one + changesFrom user (i + 1) (set l i after) ≡ all
+  pub count-more : (after changed one all : ℕ) → after ≡ switched user (getD l i 0)
+      → one ≡ differs (getD l i 0) (switched user (getD l i 0)) → i < length l → changed + changesFrom user i l ≡ all
+      → changed + one + changesFrom user (i + 1) (set l i after) ≡ all
   count-more after changed one all e o h inv =
-      let m : differs (getD l i 0) after + changesFrom user (i + 1) (set l i after) ≡ changesFrom user i l = rw e (changes-more user l i h) in
+      let m : differs (getD l i 0) (switched user (getD l i 0)) + changesFrom user (i + 1) (set l i after) ≡ changesFrom user i l =
+      rw e (changes-more user l i h) in
       omega arith
 
   pub table-over : (all : List ℕ) → length l ≤ i → switchedFrom user i l ≡ all → l ≡ all

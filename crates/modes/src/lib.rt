@@ -3,7 +3,7 @@
 
 ghost use mathlib.Core.Path.{_≡_};
 ghost use mathlib.Core.Bool.{true};
-ghost use Prim.Native.Nat.{_≤_, _<_};
+ghost use Prim.Native.Nat.{_<_};
 ghost use lib.ListN.{length, getD};
 ghost use Rattle.model.specs.Sync;
 ghost use Rattle.model.specs.Sync.{switchedAll};
@@ -16,13 +16,6 @@ use model::Mode;
 use model::State;
 use questions::both;
 
-// 1 where an entry's value changed.
-fn differs(before: u64, after: u64) -> u64
-    ensures { λ r. ⌜ (r ≡ Sync.differs before after) × (r ≤ 1) ⌝ }
-{
-    if before == after { 0 } else { 1 }
-}
-
 // Bit 63 of every present entry by the rules of the mode; the count of entries whose value changed.
 pub fn switch_table(user: bool, shadow: &mut [u64]) -> u64
     ensures { λ r. ⌜ (now (shadow .exit) ≡ switchedAll user (now (shadow .entry))) × (r ≡ Sync.changes (now (shadow .entry)) (switchedAll user (now (shadow .entry)))) ⌝ }
@@ -31,9 +24,9 @@ pub fn switch_table(user: bool, shadow: &mut [u64]) -> u64
     let mut i = 0;
     while i < shadow.len() {
         let entry = shadow[i];
-        let after = entry::switched(user, entry);
-        changed += differs(entry, after);
-        shadow[i] = after;
+        let change = entry::switch_change(user, entry);
+        shadow[i] = entry ^ change;
+        changed += change / entry::NO_EXECUTE;
         i += 1;
     }
     changed

@@ -3,10 +3,10 @@ use Prim.Native.Nat.{_+_, _-_, _≤_}
 use mathlib.Core.Path.{_≡_, refl}
 use native.Mathlib.Omega.{arith}
 use lib.ListN.{length, length-set}
-use borrow.Author.Needs.{needs}
 use Rattle.model.specs.Sync.{switchedAll, changes}
 use Rattle.model.proofs.SwitchLaws.{switchedFrom, changesFrom, switched-start}
 use Rattle.modes.proofs.TableLaws.{count-start, table-more, count-more, table-over, count-over}
+use borrow.Author.Needs.{needs}
 use Rattle.modes.proofs.switch_table.Statement.{statement}
 use Rattle.modes.proofs.switch_table.Tie as tie
 
@@ -27,11 +27,11 @@ loop-holds c = (refl, switched-start _ _, count-start _ _, omega arith)
 mul-entry : tie.Need-mul-entry Inv-loop μ-loop
 mul-entry c = omega arith
 
-add-changed : tie.Need-add-changed Inv-loop μ-loop
-add-changed c = omega arith
-
 mul-shadow : tie.Need-mul-shadow Inv-loop μ-loop
 mul-shadow c = omega arith
+
+add-changed : tie.Need-add-changed Inv-loop μ-loop
+add-changed c = omega arith
 
 add-i : tie.Need-add-i Inv-loop μ-loop
 add-i c = omega arith
@@ -51,5 +51,5 @@ returns c = (search (needs, table-over), search (needs, count-over))
 pub switch-table-spec : {M : Type 1} → statement M
 switch-table-spec =
     tie.close
-    (tie.spec Inv-loop μ-loop loop-holds mul-entry (λ c. search needs) (λ c κs. search needs) (λ c κs. search needs)
-    add-changed mul-shadow (λ c. search needs) add-i loop-less loop-again same-length returns)
+    (tie.spec Inv-loop μ-loop loop-holds mul-entry (λ c. search needs) (λ c κs. search needs) mul-shadow
+    (λ c. search needs) add-changed add-i loop-less loop-again same-length returns)
