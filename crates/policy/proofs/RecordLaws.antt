@@ -1,5 +1,5 @@
 -- Laws of a policy record as it is read: a number at a place, questions 5 and 6 on the numbers that are left, the first no of questions 1 to 6,
--- and what it says of the start's questions.
+-- and what it says of the record's length and of the start's questions.
 use Prim.Native.Nat.{ℕ, _+_, _-_, _*_, _≤_, _<_, min}
 use mathlib.Core.Bool.{Bool, true, false, not, cond}
 use mathlib.Core.List.{List, [], _∷_, _++_}
@@ -7,12 +7,12 @@ use mathlib.Core.Path.{_≡_, refl, sym, _∙_}
 use lib.Dec.{leb, eqb}
 use lib.ListN.{length, getD, List·getD-eq-default}
 use native.Mathlib.Omega.{arith}
-use borrow.Author.Tests.{not-true, not-false, le-leb, lt-leb, eq-eqb, ne-eqb, eqb-false}
-use Rattle.model.specs.Edges.{both, within, pagesInRange, framesInRange}
+use borrow.Author.Tests.{not-true, not-false, le-leb, lt-leb, eq-eqb, ne-eqb, eqb-true, eqb-false}
+use Rattle.model.specs.Edges.{both, either, within, pagesInRange, framesInRange}
 use Rattle.model.specs.Keeps.{vectorBytes}
 use Rattle.model.specs.Policy.{numberAt, numbersAt, policyOf}
 use Rattle.model.specs.Questions.{Ask, ask, firstNo, sizesInRange, countsInRange, rising, allBelow, inOrder, startAsks}
-use Rattle.model.proofs.AskLaws.{both-first, both-second, firstNo-yes, firstNo-no, numbered}
+use Rattle.model.proofs.AskLaws.{both-first, both-second, firstNo-yes, firstNo-no, asked, numbered, all-yes}
 use Rattle.model.proofs.PolicyLaws.{numbersAt-none, numbersAt-more, rising-none, rising-more, rising-low, rising-high, allBelow-none, allBelow-more, allBelow-no}
 use Rattle.policy.specs.Record.{recordAsks}
 
@@ -142,6 +142,16 @@ module _ (bytes : List ℕ) where
             pub record-yes : not below ≡ false → 0 ≡ firstNo (recordAsks bytes)
             unfolding recordAsks startAsks
             record-yes h = sym (yes1234 _ ∙ (past 5 _ is5 h5 ∙ (past 6 _ is6 h ∙ firstNo-none)))
+
+-- A record with no first no has the length of question 4, and so has one that the start accepts.
+pub record-length : (bytes : List ℕ) (n : ℕ) → n ≡ firstNo (recordAsks bytes) → n ≡ 0 → length bytes ≡ 8 + 4 * policyOf bytes .count
+unfolding recordAsks startAsks asked numbered both either
+record-length bytes n e h = eqb-true _ _ (both-first _ true (all-yes 4 (recordAsks bytes) refl (sym e ∙ h)))
+
+pub start-length : (bytes : List ℕ) (n shadow map exclusion : ℕ) → n ≡ firstNo (startAsks bytes (policyOf bytes) shadow map exclusion) → n ≡ 0
+    → length bytes ≡ 8 + 4 * policyOf bytes .count
+unfolding startAsks asked numbered both either
+start-length bytes n shadow map exclusion e h = eqb-true _ _ (both-first _ true (all-yes 4 (startAsks bytes (policyOf bytes) shadow map exclusion) refl (sym e ∙ h)))
 
 -- The first no of two lists in a row: that of the first list, where it has one, and else that of the second.
 firstNo-front : (xs ys : List Ask) → (firstNo xs ≡ 0 → ⊥) → firstNo (xs ++ ys) ≡ firstNo xs

@@ -1,8 +1,9 @@
 // Document 01, "The policy record", and questions 1 to 6, which are about the record alone.
-// Every number of the record is read by `number_from`, through a reader.
+// Every number of the record is read by `number_from`, through a reader, and untested: the questions before it have settled the length.
 
 ghost use mathlib.Core.Path.{_≡_};
-ghost use Prim.Native.Nat.{_+_, _*_, _<_, _^_, min};
+ghost use Prim.Native.Nat.{_+_, _*_, _<_, _≤_, _^_, min};
+ghost use lib.ListN.{length};
 ghost use Rattle.model.specs.Edges.{both, within, pagesInRange, framesInRange};
 ghost use Rattle.model.specs.Policy.{numberAt, numbersAt};
 ghost use Rattle.model.specs.Questions.{firstNo, rising, allBelow};
@@ -15,17 +16,12 @@ fn joined(low: u8, high: u8) -> u16
     low as u16 + 256 * high as u16
 }
 
-// The 16-bit number at a place of the bytes. A byte past the end counts as 0.
+// The 16-bit number at a place of the bytes. Both bytes are there: questions 1 and 4 have settled the length, so nothing is tested twice.
 fn number_at(bytes: &[u8], at: usize) -> u16
+    requires { ⌜ at + 1 < length (now bytes) ⌝ }
     ensures { λ r. ⌜ r ≡ numberAt (now (bytes .entry)) at ⌝ }
 {
-    if bytes.len() <= at {
-        return 0;
-    }
     let next = at + 1;
-    if bytes.len() <= next {
-        return joined(bytes[at], 0);
-    }
     joined(bytes[at], bytes[next])
 }
 
@@ -53,18 +49,33 @@ pub fn skip<'a>(r: Reader<'a>, count: usize) -> Reader<'a>
     }
 }
 
-// The number where the reader stands.
+// The number where the reader stands. Both bytes are there.
 pub fn number<'a>(r: Reader<'a>) -> u16
+    requires { ⌜ r .at + 1 < length (now (r .src)) ⌝ }
     ensures { λ n. ⌜ n ≡ numberAt (now (r .entry .src)) (r .entry .at) ⌝ }
 {
     number_at(r.src, r.at)
 }
 
-// The number at a place, read by a reader that has come so far. The parameters are plain.
+// The number at a place, read by a reader that has come so far. The parameters are plain, and both bytes are there.
 pub fn number_from(bytes: &[u8], at: usize) -> u16
+    requires { ⌜ at + 1 < length (now bytes) ⌝ }
     ensures { λ n. ⌜ n ≡ numberAt (now (bytes .entry)) at ⌝ }
 {
     number(skip(new(bytes), at))
+}
+
+// The same for bytes that may be short, as the drill's. A byte past the end counts as 0.
+pub fn padded_number(bytes: &[u8], at: usize) -> u16
+    ensures { λ n. ⌜ n ≡ numberAt (now (bytes .entry)) at ⌝ }
+{
+    if bytes.len() <= at {
+        return 0;
+    }
+    if bytes.len() <= at + 1 {
+        return joined(bytes[at], 0);
+    }
+    number_from(bytes, at)
 }
 
 // Question 2.
@@ -94,8 +105,9 @@ pub fn counts_in_range(pages: u16, count: u16, entries: u16) -> bool
     )
 }
 
-// Question 5, of the count pages from byte 8 on.
+// Question 5, of the count pages from byte 8 on. Question 4 has shown what is required.
 pub fn pages_rising(bytes: &[u8], pages: u16, count: u16) -> bool
+    requires { ⌜ 8 + 2 * count ≤ length (now bytes) ⌝ }
     ensures { λ r. ⌜ r ≡ rising pages 0 (numbersAt (now (bytes .entry)) 8 count) ⌝ }
 {
     let mut at: usize = 8;
@@ -116,8 +128,9 @@ pub fn pages_rising(bytes: &[u8], pages: u16, count: u16) -> bool
     true
 }
 
-// Question 6, of the count frames behind the pages.
+// Question 6, of the count frames behind the pages. Question 4 has shown what is required.
 pub fn frames_below(bytes: &[u8], frames: u16, count: u16) -> bool
+    requires { ⌜ 8 + 4 * count ≤ length (now bytes) ⌝ }
     ensures { λ r. ⌜ r ≡ allBelow frames (numbersAt (now (bytes .entry)) (8 + 2 * count) count) ⌝ }
 {
     let mut at = 8 + 2 * count as usize;

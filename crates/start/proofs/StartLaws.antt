@@ -1,5 +1,5 @@
 -- Laws of the start's answers: made of the record, refused by it, refused by question 7, accepted.
-use Prim.Native.Nat.{ℕ, zero, suc, _≤_}
+use Prim.Native.Nat.{ℕ, zero, suc, _+_, _*_, _≤_, _<_}
 use mathlib.Core.Bool.{Bool, true, false, not, cond}
 use mathlib.Core.List.{List, [], _∷_}
 use mathlib.Core.Path.{_≡_, refl, sym, _∙_}
@@ -17,7 +17,7 @@ use Rattle.model.specs.Calls.{replyOf, startOf}
 use Rattle.model.proofs.AskLaws.{settle-accepted, settle-refused}
 use Rattle.model.proofs.PolicyLaws.{allBelow-wider, Passed, start-passed}
 use Rattle.policy.specs.Record.{recordAsks}
-use Rattle.policy.proofs.RecordLaws.{start-refused, start-asked}
+use Rattle.policy.proofs.RecordLaws.{record-length, start-length, start-refused, start-asked}
 use Rattle.start.specs.Start.{startedBy, refusedWith, acceptedOn, entryTable, withEach}
 use Rattle.start.proofs.TablesSet.{entries-are, first-is, each-length}
 
@@ -42,6 +42,10 @@ module _ (bytes : List ℕ) (shadow map exclusion question : ℕ) (asked : quest
   pub asks-record : (question ≡ 0 → ⊥) → question ≡ firstNo (startAsks bytes (policyOf bytes) shadow map exclusion)
   asks-record named = sym (start-refused bytes question shadow map exclusion asked named)
 
+  -- The bytes of V and F are there.
+  pub asks-inside : question ≡ 0 → (at : ℕ) → at < 4 → at < length bytes
+  asks-inside six at h = omega (arith, record-length bytes question asked six)
+
   module _ (six : question ≡ 0) (pages frames : ℕ) (eV : pages ≡ numberAt bytes 0) (eF : frames ≡ numberAt bytes 2) (fits : Bool)
       (e7 : fits ≡ inOrder true (eqb shadow pages ∷ eqb map pages ∷ eqb exclusion (vectorBytes frames) ∷ [])) where
     last : firstNo (startAsks bytes (policyOf bytes) shadow map exclusion) ≡ cond fits 0 7
@@ -63,15 +67,19 @@ module _ (bytes : List ℕ) (shadow map exclusion question : ℕ) (asked : quest
   backing-below : allBelow 4096 (policyOf bytes .backing) ≡ true
   backing-below = allBelow-wider (policyOf bytes .frames) 4096 (policyOf bytes .backing) (passed .frames-high) (passed .backing-below)
 
-  pub pages-ready : (shadow ≡ policyOf bytes .pages) × (map ≡ policyOf bytes .pages)
+  -- Question 4.
+  long : length bytes ≡ 8 + 4 * policyOf bytes .count
+  long = start-length bytes question shadow map exclusion asked none
+
+  pub pages-ready : (length bytes ≡ 8 + 4 * policyOf bytes .count) × (shadow ≡ policyOf bytes .pages) × (map ≡ policyOf bytes .pages)
       × (allBelow (policyOf bytes .pages) (policyOf bytes .listed) ≡ true) × (allBelow 4096 (policyOf bytes .backing) ≡ true)
-  pages-ready = (passed .shadow-fits, passed .map-fits, passed .listed-below, backing-below)
+  pages-ready = (long, passed .shadow-fits, passed .map-fits, passed .listed-below, backing-below)
 
-  pub vector-ready : (exclusion ≡ vectorBytes (policyOf bytes .frames)) × (policyOf bytes .frames ≤ 4096) × (allBelow 4096 (policyOf bytes .backing) ≡ true)
-  vector-ready = (passed .exclusion-fits, passed .frames-high, backing-below)
+  pub vector-ready : (length bytes ≡ 8 + 4 * policyOf bytes .count) × (exclusion ≡ vectorBytes (policyOf bytes .frames)) × (policyOf bytes .frames ≤ 4096) × (allBelow 4096 (policyOf bytes .backing) ≡ true)
+  vector-ready = (long, passed .exclusion-fits, passed .frames-high, backing-below)
 
-  pub answer-ready : (policyOf bytes .entries ≤ 16) × (policyOf bytes .entries ≤ policyOf bytes .count) × (1 ≤ policyOf bytes .count)
-  answer-ready = (passed .entries-high, passed .entries-listed, passed .count-low)
+  pub answer-ready : (length bytes ≡ 8 + 4 * policyOf bytes .count) × (policyOf bytes .entries ≤ 16) × (policyOf bytes .entries ≤ policyOf bytes .count) × (1 ≤ policyOf bytes .count)
+  answer-ready = (long, passed .entries-high, passed .entries-listed, passed .count-low)
 
 -- The two answers. A refused start leaves the tables as they were.
 module _ (bytes shadow map exclusion : List ℕ) (question : ℕ) (r : Called)

@@ -97,6 +97,10 @@ module _ (bytes : List ℕ) (count : ℕ) (read : count ≡ numberAt bytes 4) wh
   unfolding policyOf
   backing-is = rw read refl
 
+  pub numbers-inside : length bytes ≡ 8 + 4 * policyOf bytes .count → 8 + 4 * count ≤ length bytes
+  unfolding policyOf
+  numbers-inside l = omega arith
+
   pub pages-inside : (t t₀ : List ℕ) → length t ≡ length t₀ → length t₀ ≡ policyOf bytes .pages → allBelow (policyOf bytes .pages) (policyOf bytes .listed) ≡ true
       → allBelow (length t) (numbersAt bytes 8 count) ≡ true
   pages-inside t t₀ e l h = rw (listed-is, e, l) h

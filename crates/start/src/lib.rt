@@ -41,9 +41,10 @@ fn clear_map(map: &mut [u16])
     }
 }
 
-// The listed places of both tables. Question 5 has put every listed page inside them, so no index is tested again.
+// The listed places of both tables. Question 4 has put every number inside the record and question 5 every listed page inside the tables,
+// so no index is tested again.
 fn set_places(bytes: &[u8], count: u16, shadow: &mut [u64], map: &mut [u16])
-    requires { ⌜ (allBelow (length (now shadow)) (numbersAt (now bytes) 8 count) ≡ true) × (length (now map) ≡ length (now shadow)) ⌝ }
+    requires { ⌜ (8 + 4 * count ≤ length (now bytes)) × (allBelow (length (now shadow)) (numbersAt (now bytes) 8 count) ≡ true) × (length (now map) ≡ length (now shadow)) ⌝ }
     ensures { λ _. ⌜ (now (shadow .exit) ≡ placed (numbersAt (now (bytes .entry)) 8 count) (approvedEach (numbersAt (now (bytes .entry)) (8 + 2 * count) count)) (now (shadow .entry))) × (now (map .exit) ≡ placed (numbersAt (now (bytes .entry)) 8 count) (numbersAt (now (bytes .entry)) (8 + 2 * count) count) (now (map .entry))) ⌝ }
 {
     let mut page_at = PAGES;
@@ -60,8 +61,9 @@ fn set_places(bytes: &[u8], count: u16, shadow: &mut [u64], map: &mut [u16])
     }
 }
 
-// The exclusion bits of the listed frames, into a vector.
+// The exclusion bits of the listed frames, into a vector. Question 4 has shown what is required.
 fn gather(bytes: &[u8], count: u16, vector: &mut [u8])
+    requires { ⌜ 8 + 4 * count ≤ length (now bytes) ⌝ }
     ensures { λ _. ⌜ now (vector .exit) ≡ withEach (numbersAt (now (bytes .entry)) (8 + 2 * count) count) (now (vector .entry)) ⌝ }
 {
     let mut at = PAGES + 2 * count as usize;
@@ -85,9 +87,9 @@ fn copy_front(from: &[u8], to: &mut [u8])
     }
 }
 
-// Shadow table and map. Questions 5 to 7 have shown what is required.
+// Shadow table and map. Questions 4 to 7 have shown what is required.
 fn set_pages(bytes: &[u8], shadow: &mut [u64], map: &mut [u16])
-    requires { ⌜ (length (now shadow) ≡ policyOf (now bytes) .pages) × (length (now map) ≡ policyOf (now bytes) .pages) × (allBelow (policyOf (now bytes) .pages) (policyOf (now bytes) .listed) ≡ true) × (allBelow 4096 (policyOf (now bytes) .backing) ≡ true) ⌝ }
+    requires { ⌜ (length (now bytes) ≡ 8 + 4 * policyOf (now bytes) .count) × (length (now shadow) ≡ policyOf (now bytes) .pages) × (length (now map) ≡ policyOf (now bytes) .pages) × (allBelow (policyOf (now bytes) .pages) (policyOf (now bytes) .listed) ≡ true) × (allBelow 4096 (policyOf (now bytes) .backing) ≡ true) ⌝ }
     ensures { λ _. ⌜ (now (shadow .exit) ≡ startGuard (policyOf (now (bytes .entry))) .shadow) × (now (map .exit) ≡ startGuard (policyOf (now (bytes .entry))) .map) ⌝ }
 {
     clear_shadow(shadow);
@@ -96,9 +98,9 @@ fn set_pages(bytes: &[u8], shadow: &mut [u64], map: &mut [u16])
 }
 
 // The exclusion vector. The bits are gathered in a buffer with room for 4,096 frames, and copied.
-// Questions 2, 6 and 7 have shown what is required.
+// Questions 2, 4, 6 and 7 have shown what is required.
 fn set_vector(bytes: &[u8], exclusion: &mut [u8])
-    requires { ⌜ (length (now exclusion) ≡ vectorBytes (policyOf (now bytes) .frames)) × (policyOf (now bytes) .frames ≤ 4096) × (allBelow 4096 (policyOf (now bytes) .backing) ≡ true) ⌝ }
+    requires { ⌜ (length (now bytes) ≡ 8 + 4 * policyOf (now bytes) .count) × (length (now exclusion) ≡ vectorBytes (policyOf (now bytes) .frames)) × (policyOf (now bytes) .frames ≤ 4096) × (allBelow 4096 (policyOf (now bytes) .backing) ≡ true) ⌝ }
     ensures { λ _. ⌜ now (exclusion .exit) ≡ startGuard (policyOf (now (bytes .entry))) .exclusion ⌝ }
 {
     let mut buffer = [0u8; 512];
@@ -106,9 +108,9 @@ fn set_vector(bytes: &[u8], exclusion: &mut [u8])
     copy_front(&buffer, exclusion);
 }
 
-// Question 3 has bounded the entries by sixteen, the array's length.
+// Question 3 has bounded the entries by sixteen, the array's length, and question 4 has put the pages inside the record.
 fn entry_pages(bytes: &[u8], entries: u16) -> [u16; 16]
-    requires { ⌜ entries ≤ 16 ⌝ }
+    requires { ⌜ (entries ≤ 16) × (8 + 2 * entries ≤ length (now bytes)) ⌝ }
     ensures { λ r. ⌜ r ≡ entryTable (now (bytes .entry)) entries ⌝ }
 {
     let mut pages = [0u16; 16];
@@ -136,9 +138,9 @@ fn refused(number: u64) -> Called
     }
 }
 
-// An accepted start stands in kernel mode on the first entry page. Question 3 has shown what is required.
+// An accepted start stands in kernel mode on the first entry page. Questions 3 and 4 have shown what is required.
 fn accepted(bytes: &[u8]) -> Called
-    requires { ⌜ (policyOf (now bytes) .entries ≤ 16) × (policyOf (now bytes) .entries ≤ policyOf (now bytes) .count) × (1 ≤ policyOf (now bytes) .count) ⌝ }
+    requires { ⌜ (length (now bytes) ≡ 8 + 4 * policyOf (now bytes) .count) × (policyOf (now bytes) .entries ≤ 16) × (policyOf (now bytes) .entries ≤ policyOf (now bytes) .count) × (1 ≤ policyOf (now bytes) .count) ⌝ }
     ensures { λ r. ⌜ r ≡ acceptedOn (now (bytes .entry)) ⌝ }
 {
     let count = policy::number_from(bytes, 4);
@@ -156,7 +158,7 @@ fn accepted(bytes: &[u8]) -> Called
     }
 }
 
-// The first no of the start's questions, or 0. Its arguments are the lengths of the tables.
+// The first no of the start's questions, or 0. Its arguments are the lengths of the tables. Past the record's questions V and F are there.
 fn start_question(bytes: &[u8], shadow: usize, map: usize, exclusion: usize) -> u64
     ensures { λ r. ⌜ r ≡ firstNo (startAsks (now (bytes .entry)) (policyOf (now (bytes .entry))) shadow map exclusion) ⌝ }
 {

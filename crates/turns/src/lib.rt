@@ -23,7 +23,7 @@ use model::State;
 pub fn policy_extent(input: &[u8]) -> usize
     ensures { λ r. ⌜ (r ≡ policyExtent (now (input .entry))) × (8 ≤ r) × (r ≤ 8200) ⌝ }
 {
-    let count = policy::number_from(input, 4);
+    let count = policy::padded_number(input, 4);
     if questions::in_range(1, 2048, count as u64) {
         return 8 + 4 * count as usize;
     }
@@ -35,7 +35,7 @@ pub fn policy_extent(input: &[u8]) -> usize
 pub fn pages_lent(bytes: &[u8]) -> usize
     ensures { λ r. ⌜ (r ≡ pagesLent (now (bytes .entry))) × (r ≤ 2048) ⌝ }
 {
-    let pages = policy::number_from(bytes, 0);
+    let pages = policy::padded_number(bytes, 0);
     if questions::pages_in_range(pages) {
         return pages as usize;
     }
@@ -45,7 +45,7 @@ pub fn pages_lent(bytes: &[u8]) -> usize
 pub fn bytes_lent(bytes: &[u8]) -> usize
     ensures { λ r. ⌜ (r ≡ bytesLent (now (bytes .entry))) × (r ≤ 512) ⌝ }
 {
-    let frames = policy::number_from(bytes, 2);
+    let frames = policy::padded_number(bytes, 2);
     if questions::frames_in_range(frames) {
         return questions::vector_bytes(frames);
     }
@@ -89,7 +89,7 @@ pub fn open(bytes: &[u8], shadow: &mut [u64], map: &mut [u16], exclusion: &mut [
 pub fn index_of(call: &[u8]) -> u64
     ensures { λ r. ⌜ r ≡ indexOf (now (call .entry)) ⌝ }
 {
-    policy::number_from(call, 2) as u64
+    policy::padded_number(call, 2) as u64
 }
 
 // Two 16-bit numbers as one of 32 bits, the lower one first.
@@ -102,14 +102,23 @@ fn wide(low: u16, high: u16) -> u64
 pub fn length_of(call: &[u8]) -> u64
     ensures { λ r. ⌜ r ≡ lengthOf (now (call .entry)) ⌝ }
 {
-    wide(policy::number_from(call, 4), policy::number_from(call, 6))
+    wide(
+        policy::padded_number(call, 4),
+        policy::padded_number(call, 6),
+    )
 }
 
 pub fn value_of(call: &[u8]) -> u64
     ensures { λ r. ⌜ r ≡ valueOf (now (call .entry)) ⌝ }
 {
-    let low = wide(policy::number_from(call, 8), policy::number_from(call, 10));
-    let high = wide(policy::number_from(call, 12), policy::number_from(call, 14));
+    let low = wide(
+        policy::padded_number(call, 8),
+        policy::padded_number(call, 10),
+    );
+    let high = wide(
+        policy::padded_number(call, 12),
+        policy::padded_number(call, 14),
+    );
     low + 0x1_0000_0000 * high
 }
 

@@ -1,10 +1,10 @@
 use borrow.Author.Needs.{needs}
-use Rattle.start.proofs.TablesSet.{pages-inside, shadow-is, map-is}
+use Rattle.start.proofs.TablesSet.{numbers-inside, pages-inside, shadow-is, map-is}
 use Rattle.start.proofs.set_pages.Statement.{statement}
 use Rattle.start.proofs.set_pages.Tie as tie
 
 set-places-requires : tie.Need-set-places-requires
-set-places-requires c κs = (search (needs, pages-inside), search needs)
+set-places-requires c κs = (search (needs, numbers-inside), search (needs, pages-inside), search needs)
 
 returns : tie.Need-returns
 returns c = (search (needs, shadow-is), search (needs, map-is))
