@@ -12,12 +12,22 @@ use Rattle.model.specs.declared.Mode.{Mode}
 use Rattle.model.specs.declared.Answer.the-variants.{Done, Refused}
 use Rattle.model.specs.Edges.{both, either}
 use Rattle.model.specs.Keeps.{inUser, modeOf, inMode}
-use Rattle.model.specs.Bits.{present, frameOf}
+use Rattle.model.specs.Bits.{present, noExecute, userBit, frameOf}
 use Rattle.model.specs.Questions.{Ask, firstNo, seen, stateInOrder, inOrder, fetchPermitted, fetchAsks}
 use Rattle.model.specs.Calls.{replyOf, movedBy, fetchOf}
 use Rattle.model.proofs.AskLaws.{both-first, both-second, firstNo-yes, firstNo-no, asked, numbered, all-yes, settle-accepted}
 use Rattle.model.proofs.CallLaws.{passed, passed-always, stopped, none-left, settle-refused-by, pages-few, shadow-long}
 use Rattle.access.specs.Lent.{lent}
+
+-- Question 12 of a fetch.
+pub fetch-no-execute : (user : Bool) (entry : ℕ) (r : Bool) → r ≡ noExecute entry → r ≡ true → false ≡ fetchPermitted user entry
+unfolding fetchPermitted both
+fetch-no-execute user entry r e t = rw (← e, t) refl
+
+pub fetch-by-user : (user : Bool) (entry : ℕ) (r m : Bool) → r ≡ noExecute entry → r ≡ false → m ≡ either (not user) (userBit entry)
+    → m ≡ fetchPermitted user entry
+unfolding fetchPermitted both
+fetch-by-user user entry r m e f p = p ∙ rw (← e, f) refl
 
 -- The page of an accepted fetch is below V.
 pub fetched-below : (user : Bool) (pages page number : ℕ) (shadow : List ℕ)

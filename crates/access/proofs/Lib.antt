@@ -3,3 +3,4 @@ pub mod UserLaws
 pub mod FetchLaws
 pub mod WriteLaws
 pub mod TransferLaws
+mod CommonLaws

@@ -1,4 +1,4 @@
--- Laws of a device write: the loop over its frames, what it answers by the first no of its questions, and the bounds on the way.
+-- Laws of a device write: what it answers by the first no of its questions, and the bounds on the way.
 use Prim.Native.Nat.{ℕ, suc, _+_, _-_, _*_, _/_, _<_, _≤_, _^_}
 use mathlib.Core.Bool.{Bool, true, false, not}
 use mathlib.Core.List.{List, [], _∷_}
@@ -7,7 +7,7 @@ use lib.ListN.{length}
 use lib.Dec.{ltb, eqb}
 use mir.Syntax.{w16}
 use mir.Val.{Fits}
-use borrow.Author.Tests.{not-true, not-false, lt-ltb, ltb-true}
+use borrow.Author.Tests.{not-true, not-false, lt-ltb, ltb-true, eqb-true}
 use native.Mathlib.Omega.{arith}
 use Rattle.model.specs.declared.State.{State}
 use Rattle.model.specs.declared.Answer.the-variants.{Done, Refused}
@@ -17,24 +17,11 @@ use Rattle.model.specs.Questions.{firstNo, seen, stateInOrder, inOrder, free, e
 use Rattle.model.specs.Calls.{replyOf, deviceWriteOf}
 use Rattle.model.proofs.AskLaws.{both-first, both-second, within-low, firstNo-yes, firstNo-no, asked, numbered, all-yes, settle-accepted}
 use Rattle.model.proofs.CallLaws.{passed, passed-always, stopped, none-left, settle-refused-by, frames-few}
-use Rattle.model.proofs.TouchLaws.{last-page-below, first-up-to-last, every-none, every-no, every-yes, every-same}
+use Rattle.model.proofs.TouchLaws.{last-page-below, first-up-to-last, every-same}
 use Rattle.access.specs.Lent.{lent}
 
--- The loop: left frames from frame on are yet to be asked, and all is what the whole loop answers. r is what the code found of a frame.
 abbrev pub freeFrom : List ℕ → ℕ → ℕ → Bool
 freeFrom exclusion frame left = everyFrom (λ f. not (excludedIn exclusion f)) frame left
-
-module _ (exclusion : List ℕ) (frame left : ℕ) (all r : Bool) (inv : freeFrom exclusion frame left ≡ all) where
-  pub loop-stops : 0 < left → r ≡ excludedIn exclusion frame → r ≡ true → false ≡ all
-  loop-stops l e t = sym (every-no (λ f. not (excludedIn exclusion f)) frame left l (rw (← e, t) refl)) ∙ inv
-
-  pub loop-goes-on : 0 < left → r ≡ excludedIn exclusion frame → r ≡ false → freeFrom exclusion (frame + 1) (left - 1) ≡ all
-  loop-goes-on l e t = sym (every-yes (λ f. not (excludedIn exclusion f)) frame left l (rw (← e, t) refl)) ∙ inv
-
-pub loop-ends : (exclusion : List ℕ) (frame left : ℕ) (all : Bool) → freeFrom exclusion frame left ≡ all → left ≤ 0 → true ≡ all
-loop-ends exclusion frame left all inv l =
-    let z : left ≡ 0 = omega arith in
-    sym (every-none (λ f. not (excludedIn exclusion f)) frame left z) ∙ inv
 
 -- Where every touched frame is below F, question 13 asks for exclusion alone.
 transfer-free : (frames address length : ℕ) (exclusion : List ℕ) → address / 4096 ≤ lastPage address length → lastPage address length < frames
@@ -60,10 +47,10 @@ module _ (address length frames : ℕ) (r8 r9 : Bool) (e8 : r8 ≡ within 1 1048
       let p : frames < 2 ^ 16 = f .fits in
       (least, omega arith)
 
-  pub transfer-frames : Fits w16 frames → (last : ℕ) → last ≡ lastPage address length → (address / 4096 ≤ last) × (last < 65536)
-  transfer-frames f last e =
+  pub transfer-frames : (last long : ℕ) → last ≡ lastPage address length → long ≡ vectorBytes frames → (address / 4096 ≤ last) × (last / 8 < long)
+  unfolding vectorBytes
+  transfer-frames last long e v =
       let b : lastPage address length < frames = below in
-      let p : frames < 2 ^ 16 = f .fits in
       let u : address / 4096 ≤ lastPage address length = first-up-to-last address length least in
       (omega arith, omega arith)
 
@@ -98,6 +85,10 @@ module _ (s : State) (exclusion : List ℕ) (address length : ℕ) (r7 : Bool)
   pub transfer-unfit : not r7 ≡ true → replyOf (Refused 7) ≡ deviceWriteOf s exclusion address length
   unfolding replyOf deviceWriteOf deviceWriteAsks
   transfer-unfit q = sym (settle-refused-by 7 _ _ (λ z. omega arith) (firstNo-no 7 _ (sym p ∙ not-true r7 q)))
+
+  pub transfer-vector : not r7 ≡ false → lib.ListN.length exclusion ≡ vectorBytes (s .frames)
+  unfolding inOrder
+  transfer-vector q = eqb-true _ _ (both-first _ _ (sym p ∙ not-false r7 q))
 
   module _ (q : not r7 ≡ false) (number : ℕ)
       (e : number ≡ firstNo (deviceWriteAsks (lent true 0 (s .frames) [] exclusion) address length)) where

@@ -7,12 +7,13 @@ use lib.ListN.{length, getD}
 use lib.Dec.{ltb, eqb}
 use mir.Syntax.{w16}
 use mir.Val.{Fits}
-use borrow.Author.Tests.{not-true, not-false, ltb-true, eqb-true}
+use borrow.Author.Tests.{not-true, not-false, ltb-true, lt-ltb, le-ltb, eqb-true}
+use lib.Bits.{bitAnd}
 use native.Mathlib.Omega.{arith}
 use Rattle.model.specs.declared.State.{State}
 use Rattle.model.specs.declared.Answer.the-variants.{Done, Refused}
 use Rattle.model.specs.Edges.{both, either, within, lastPage}
-use Rattle.model.specs.Keeps.{vectorBytes, inUser}
+use Rattle.model.specs.Keeps.{vectorBytes, excludedIn, inUser}
 use Rattle.model.specs.Bits.{present, frameOf}
 use Rattle.model.specs.Questions.{firstNo, seen, stateInOrder, inOrder, writePermitted, free, writeAsks}
 use Rattle.model.specs.Calls.{replyOf, writeOf}
@@ -20,38 +21,72 @@ use Rattle.model.proofs.AskLaws.{both-first, both-second, within-low, firstNo-y
 use Rattle.model.proofs.CallLaws.{passed, passed-always, stopped, none-left, settle-refused-by, pages-few}
 use Rattle.model.proofs.TouchLaws.{first-up-to-last, touched-both}
 use Rattle.access.specs.Lent.{lent, freeIn, entryAsks}
+use Rattle.access.proofs.CommonLaws.{common-present, common-permitted}
 
--- Questions 11 to 13, of the two entries. a and b are what the code found of each.
-module _ (user : Bool) (frames first last : ℕ) (exclusion : List ℕ) where
-  module _ (a b r : Bool) (ea : a ≡ present first) (eb : b ≡ present last) (e : r ≡ both a b) where
-    one : r ≡ both (present first) (present last)
-    one = rw (← ea, ← eb) e
+-- Question 13 of a frame: one at or above F, and one below it, which has a bit in the vector.
+module _ (frames frame : ℕ) (exclusion : List ℕ) where
+  pub frame-above : frames ≤ frame → false ≡ freeIn frames exclusion frame
+  unfolding freeIn both
+  frame-above l = rw (le-ltb frame frames l)
 
-    pub entries-absent : not r ≡ true → 11 ≡ firstNo (entryAsks user frames exclusion first last)
+  pub frame-below : frame < frames → (r : Bool) → r ≡ excludedIn exclusion frame → not r ≡ freeIn frames exclusion frame
+  unfolding freeIn both
+  frame-below l r e = rw (lt-ltb frame frames l, e)
+
+pub frame-in : (frames frame long : ℕ) → long ≡ vectorBytes frames → frame < frames → frame / 8 < long
+unfolding vectorBytes
+frame-in frames frame long p l = omega arith
+
+-- Questions 11 to 13, of the two entries, by what they have in common. r, r′, a and b are what the code found.
+module _ (user : Bool) (frames first last : ℕ) (exclusion : List ℕ) (r : Bool) (e : r ≡ present (bitAnd first last)) where
+  one : r ≡ both (present first) (present last)
+  one = e ∙ common-present first last
+
+  pub entries-absent : not r ≡ true → 11 ≡ firstNo (entryAsks user frames exclusion first last)
+  unfolding entryAsks
+  entries-absent n = stopped 11 r _ _ one n
+
+  module _ (y : not r ≡ false) (r′ : Bool) (e′ : r′ ≡ writePermitted user (bitAnd first last)) where
+    two : r′ ≡ both (writePermitted user first) (writePermitted user last)
+    two = e′ ∙ common-permitted user first last
+
+    pub entries-not-permitted : not r′ ≡ true → 12 ≡ firstNo (entryAsks user frames exclusion first last)
     unfolding entryAsks
-    entries-absent n = stopped 11 r _ _ one n
+    entries-not-permitted n = passed 11 12 r _ _ one y (stopped 12 r′ _ _ two n)
 
-    module _ (y : not r ≡ false) (a′ b′ r′ : Bool) (ea′ : a′ ≡ writePermitted user first) (eb′ : b′ ≡ writePermitted user last)
-        (e′ : r′ ≡ both a′ b′) where
-      two : r′ ≡ both (writePermitted user first) (writePermitted user last)
-      two = rw (← ea′, ← eb′) e′
+    module _ (y′ : not r′ ≡ false) (f : ℕ) (a : Bool) (ef : f ≡ frameOf first) (ea : a ≡ freeIn frames exclusion f) where
+      three : (b c : Bool) → both a b ≡ c → b ≡ freeIn frames exclusion (frameOf last)
+          → c ≡ both (freeIn frames exclusion (frameOf first)) (freeIn frames exclusion (frameOf last))
+      three b c q eb = sym q ∙ rw (← ef, ← ea, ← eb) refl
 
-      pub entries-not-permitted : not r′ ≡ true → 12 ≡ firstNo (entryAsks user frames exclusion first last)
+      entries-thirteen : (b : Bool) → b ≡ freeIn frames exclusion (frameOf last) → both a b ≡ false
+          → 13 ≡ firstNo (entryAsks user frames exclusion first last)
       unfolding entryAsks
-      entries-not-permitted n = passed 11 12 r _ _ one y (stopped 12 r′ _ _ two n)
+      entries-thirteen b eb q = passed 11 13 r _ _ one y (passed 12 13 r′ _ _ two y′ (stopped 13 false _ _ (three b false q eb) refl))
 
-      module _ (y′ : not r′ ≡ false) (f g : ℕ) (a″ b″ r″ : Bool) (ef : f ≡ frameOf first) (eg : g ≡ frameOf last)
-          (ea″ : a″ ≡ freeIn frames exclusion f) (eb″ : b″ ≡ freeIn frames exclusion g) (e″ : r″ ≡ both a″ b″) where
-        three : r″ ≡ both (freeIn frames exclusion (frameOf first)) (freeIn frames exclusion (frameOf last))
-        three = rw (← ef, ← eg, ← ea″, ← eb″) e″
+      pub first-excluded : not a ≡ true → 13 ≡ firstNo (entryAsks user frames exclusion first last)
+      unfolding both
+      first-excluded n = entries-thirteen (freeIn frames exclusion (frameOf last)) refl (rw (not-true a n) refl)
 
-        pub entries-excluded : not r″ ≡ true → 13 ≡ firstNo (entryAsks user frames exclusion first last)
+      module _ (ya : not a ≡ false) (g : ℕ) (eg : g ≡ frameOf last) where
+        entries-none : (b : Bool) → b ≡ freeIn frames exclusion (frameOf last) → both a b ≡ true
+            → 0 ≡ firstNo (entryAsks user frames exclusion first last)
         unfolding entryAsks
-        entries-excluded n = passed 11 13 r _ _ one y (passed 12 13 r′ _ _ two y′ (stopped 13 r″ _ _ three n))
+        entries-none b eb q = passed 11 0 r _ _ one y (passed 12 0 r′ _ _ two y′ (passed 13 0 true _ _ (three b true q eb) refl none-left))
 
-        pub entries-fit : not r″ ≡ false → 0 ≡ firstNo (entryAsks user frames exclusion first last)
-        unfolding entryAsks
-        entries-fit y″ = passed 11 0 r _ _ one y (passed 12 0 r′ _ _ two y′ (passed 13 0 r″ _ _ three y″ none-left))
+        -- One frame, which was asked.
+        pub one-frame : g ≡ f → 0 ≡ firstNo (entryAsks user frames exclusion first last)
+        unfolding both
+        one-frame same = entries-none a (rw (← eg, same) ea) (rw (not-false a ya) refl)
+
+        module _ (b : Bool) (eb : b ≡ freeIn frames exclusion g) where
+          pub last-excluded : not b ≡ true → 13 ≡ firstNo (entryAsks user frames exclusion first last)
+          unfolding both
+          last-excluded n = entries-thirteen b (rw (← eg) eb) (rw (not-false a ya, not-true b n) refl)
+
+          pub entries-fit : not b ≡ false → 0 ≡ firstNo (entryAsks user frames exclusion first last)
+          unfolding both
+          entries-fit yb = entries-none b (rw (← eg) eb) (rw (not-false a ya, not-false b yb) refl)
 
 -- Where a write lies that passed questions 8 and 9, of V that fits its 16 bits.
 module _ (address length pages : ℕ) (r8 r9 : Bool) (e8 : r8 ≡ within 1 16 length) (y8 : not r8 ≡ false)
@@ -115,11 +150,14 @@ module _ (user : Bool) (pages frames address length number : ℕ) (shadow exclus
       ltb-true (lastPage address length) pages
       (both-first _ _ (all-yes 9 (writeAsks (lent user pages frames shadow exclusion) address length) refl (sym e ∙ z)))
 
--- Question 7 of a write: the shadow table has V entries.
+-- Question 7 of a write: the tables have their lengths.
 pub write-tables : (s : State) (long bytes : ℕ) (r7 : Bool)
-    → r7 ≡ inOrder (stateInOrder s) (eqb long (s .pages) ∷ eqb bytes (vectorBytes (s .frames)) ∷ []) → not r7 ≡ false → long ≡ s .pages
+    → r7 ≡ inOrder (stateInOrder s) (eqb long (s .pages) ∷ eqb bytes (vectorBytes (s .frames)) ∷ []) → not r7 ≡ false
+    → (long ≡ s .pages) × (bytes ≡ vectorBytes (s .frames))
 unfolding inOrder
-write-tables s long bytes r7 p q = eqb-true long (s .pages) (both-first _ _ (sym p ∙ not-false r7 q))
+write-tables s long bytes r7 p q =
+    let all = sym p ∙ not-false r7 q in
+    (eqb-true long (s .pages) (both-first _ _ all), eqb-true bytes (vectorBytes (s .frames)) (both-first _ _ (both-second _ _ all)))
 
 module _ (s : State) (shadow exclusion : List ℕ) (address length : ℕ) (r7 : Bool)
     (p : r7 ≡ inOrder (stateInOrder s) (eqb (lib.ListN.length shadow) (s .pages) ∷ eqb (lib.ListN.length exclusion) (vectorBytes (s .frames)) ∷ [])) where
@@ -152,13 +190,13 @@ module _ (s : State) (shadow exclusion : List ℕ) (address length : ℕ) (r7 : 
       written-first-in =
           let b : lastPage address length < s .pages = written-below user (s .pages) (s .frames) address length number shadow exclusion e z in
           let f : address / 4096 ≤ lastPage address length = first-up-to-last address length (written-last .0) in
-          let l : lib.ListN.length shadow ≡ s .pages = write-tables s _ _ r7 p q in
+          let l : lib.ListN.length shadow ≡ s .pages = write-tables s _ _ r7 p q .0 in
           omega arith
 
       pub written-last-in : (page : ℕ) → page ≡ lastPage address length → page < lib.ListN.length shadow
       written-last-in page i =
           let b : lastPage address length < s .pages = written-below user (s .pages) (s .frames) address length number shadow exclusion e z in
-          let l : lib.ListN.length shadow ≡ s .pages = write-tables s _ _ r7 p q in
+          let l : lib.ListN.length shadow ≡ s .pages = write-tables s _ _ r7 p q .0 in
           omega arith
 
       pub write-accepted : (page f g : ℕ) → page ≡ lastPage address length → f ≡ frameOf (getD shadow (address / 4096) 0)

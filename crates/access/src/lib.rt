@@ -4,10 +4,10 @@
 ghost use mathlib.Core.Path.{_≡_};
 ghost use mathlib.Core.Bool.{true, not};
 ghost use mathlib.Core.List.{[]};
-ghost use Prim.Native.Nat.{suc, _-_, _≤_, _<_};
+ghost use Prim.Native.Nat.{_≤_, _<_};
 ghost use lib.ListN.{length};
-ghost use Rattle.model.specs.Edges.{either, everyFrom, lastPage};
-ghost use Rattle.model.specs.Keeps.{excludedIn};
+ghost use Rattle.model.specs.Edges.{either, lastPage};
+ghost use Rattle.model.specs.Keeps.{vectorBytes};
 ghost use Rattle.model.specs.Bits.{userBit};
 ghost use Rattle.model.specs.Questions.{firstNo, fetchPermitted, writePermitted, fetchAsks, writeAsks, deviceWriteAsks};
 ghost use Rattle.model.specs.Calls.{replyOf, movedBy, fetchOf, writeOf, deviceWriteOf};
@@ -28,7 +28,10 @@ fn user_may(user: bool, entry: u64) -> bool
 fn fetch_permitted(user: bool, entry: u64) -> bool
     ensures { λ r. ⌜ r ≡ fetchPermitted user entry ⌝ }
 {
-    both(!entry::no_execute(entry), user_may(user, entry))
+    if entry::no_execute(entry) {
+        return false;
+    }
+    user_may(user, entry)
 }
 
 // The number of the question that refuses a fetch, or 0. Question 7 is answered yes, so that the table has V entries.
@@ -82,27 +85,39 @@ fn write_permitted(user: bool, entry: u64) -> bool
     both(entry::writable(entry), user_may(user, entry))
 }
 
-// Question 13 of one frame.
+// Question 13 of one frame. The vector has a bit for each frame below F, as question 7 has settled.
 fn frame_free(frames: u16, exclusion: &[u8], frame: u64) -> bool
+    requires { ⌜ length (now exclusion) ≡ vectorBytes frames ⌝ }
     ensures { λ r. ⌜ r ≡ freeIn frames (now (exclusion .entry)) frame ⌝ }
 {
-    both(frame < frames as u64, !bitmap::excluded(exclusion, frame))
+    if frames as u64 <= frame {
+        return false;
+    }
+    !bitmap::excluded_within(exclusion, frame)
 }
 
 // The number of the question that refuses a write by the entries of its first and its last page, or 0.
+// A bit that both entries have is a bit of what they have in common. One frame is asked once.
 fn entries_refusal(user: bool, frames: u16, exclusion: &[u8], first: u64, last: u64) -> u64
+    requires { ⌜ length (now exclusion) ≡ vectorBytes frames ⌝ }
     ensures { λ r. ⌜ r ≡ firstNo (entryAsks user frames (now (exclusion .entry)) first last) ⌝ }
 {
-    if !both(entry::present(first), entry::present(last)) {
+    let common = first & last;
+    if !entry::present(common) {
         return 11;
     }
-    if !both(write_permitted(user, first), write_permitted(user, last)) {
+    if !write_permitted(user, common) {
         return 12;
     }
-    if !both(
-        frame_free(frames, exclusion, entry::frame_of(first)),
-        frame_free(frames, exclusion, entry::frame_of(last)),
-    ) {
+    let frame = entry::frame_of(first);
+    if !frame_free(frames, exclusion, frame) {
+        return 13;
+    }
+    let other = entry::frame_of(last);
+    if other == frame {
+        return 0;
+    }
+    if !frame_free(frames, exclusion, other) {
         return 13;
     }
     0
@@ -116,7 +131,7 @@ fn last_page(address: u64, length: u64) -> u64
     (address + length - 1) / 4096
 }
 
-// The number of the question that refuses a write, or 0. Question 7 is answered yes, so that the table has V entries.
+// The number of the question that refuses a write, or 0. Question 7 is answered yes, so that the tables have their lengths.
 // At most 16 bytes touch no page but the first and the last, which may be one.
 fn write_refusal(
     user: bool,
@@ -127,7 +142,7 @@ fn write_refusal(
     address: u64,
     length: u64,
 ) -> u64
-    requires { ⌜ lib.ListN.length (now shadow) ≡ pages ⌝ }
+    requires { ⌜ (lib.ListN.length (now shadow) ≡ pages) × (lib.ListN.length (now exclusion) ≡ vectorBytes frames) ⌝ }
     ensures { λ r. ⌜ r ≡ firstNo (writeAsks (lent user pages frames (now (shadow .entry)) (now (exclusion .entry))) address length) ⌝ }
 {
     if !questions::write_length(length) {
@@ -160,26 +175,10 @@ pub fn write(s: State, shadow: &[u64], exclusion: &[u8], address: u64, length: u
     Answer::Done(entry::frame_of(first), entry::frame_of(last))
 }
 
-// No frame from first to last is excluded. The last is bounded so that no frame's number wraps.
-fn none_excluded(exclusion: &[u8], first: u64, last: u64) -> bool
-    requires { ⌜ (first ≤ last) × (last < 65536) ⌝ }
-    ensures { λ r. ⌜ r ≡ everyFrom (λ f. not (excludedIn (now (exclusion .entry)) f)) first (suc (last - first)) ⌝ }
-{
-    let mut frame = first;
-    let mut left = last - first + 1;
-    while 0 < left {
-        if bitmap::excluded(exclusion, frame) {
-            return false;
-        }
-        frame += 1;
-        left -= 1;
-    }
-    true
-}
-
-// The number of the question that refuses a device write, or 0. Question 7 is answered yes.
+// The number of the question that refuses a device write, or 0. Question 7 is answered yes, so that the vector has a bit for each frame.
 // Question 9 has settled that every frame touched is below F.
 fn device_write_refusal(frames: u16, exclusion: &[u8], address: u64, length: u64) -> u64
+    requires { ⌜ lib.ListN.length (now exclusion) ≡ vectorBytes frames ⌝ }
     ensures { λ r. ⌜ r ≡ firstNo (deviceWriteAsks (lent true 0 frames [] (now (exclusion .entry))) address length) ⌝ }
 {
     if !questions::device_length(length) {
@@ -189,7 +188,7 @@ fn device_write_refusal(frames: u16, exclusion: &[u8], address: u64, length: u64
         return 9;
     }
     let last = last_page(address, length);
-    if !none_excluded(exclusion, address / 4096, last) {
+    if !bitmap::none_excluded(exclusion, address / 4096, last) {
         return 13;
     }
     0

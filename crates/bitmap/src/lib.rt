@@ -1,15 +1,27 @@
 // Document 01, "What the guard keeps": the exclusion vector, a bit for each frame, read and set.
-// Both functions are total: a byte past the vector's end counts as 0 and is not written.
+// `excluded` and `exclude` are total: a byte past the vector's end counts as 0 and is not written.
 
 ghost use mathlib.Core.Path.{_≡_};
+ghost use mathlib.Core.Bool.{not};
+ghost use Prim.Native.Nat.{suc, _-_, _*_, _/_, _≤_, _<_};
+ghost use lib.ListN.{length};
+ghost use Rattle.model.specs.Edges.{bit, everyFrom};
 ghost use Rattle.model.specs.Keeps.{excludedIn, withExcluded};
+
+// The bit of a frame that has a byte in the vector, so that no length is tested.
+pub fn excluded_within(exclusion: &[u8], frame: u64) -> bool
+    requires { ⌜ frame / 8 < length (now exclusion) ⌝ }
+    ensures { λ r. ⌜ r ≡ excludedIn (now (exclusion .entry)) frame ⌝ }
+{
+    (exclusion[(frame / 8) as usize] >> (frame % 8)) % 2 == 1
+}
 
 pub fn excluded(exclusion: &[u8], frame: u64) -> bool
     ensures { λ r. ⌜ r ≡ excludedIn (now (exclusion .entry)) frame ⌝ }
 {
     let at = (frame / 8) as usize;
     if at < exclusion.len() {
-        (exclusion[at] >> (frame % 8)) % 2 == 1
+        excluded_within(exclusion, frame)
     } else {
         false
     }
@@ -22,4 +34,63 @@ pub fn exclude(exclusion: &mut [u8], frame: u64)
     if at < exclusion.len() {
         exclusion[at] = exclusion[at] | 1 << (frame % 8);
     }
+}
+
+// A range of frames is looked at by bytes, eight frames at once.
+
+// No bit of a byte from one on is set.
+fn clear_from(byte: u8, first: u64) -> bool
+    requires { ⌜ first < 8 ⌝ }
+    ensures { λ r. ⌜ r ≡ everyFrom (λ j. not (bit j byte)) first (8 - first) ⌝ }
+{
+    byte >> first == 0
+}
+
+// No bit of a byte up to one is set.
+fn clear_up_to(byte: u8, last: u64) -> bool
+    requires { ⌜ last < 8 ⌝ }
+    ensures { λ r. ⌜ r ≡ everyFrom (λ j. not (bit j byte)) 0 (suc last) ⌝ }
+{
+    byte as u64 % (2 << last) == 0
+}
+
+// No bit of a byte from one up to another is set.
+fn clear_between(byte: u8, first: u64, last: u64) -> bool
+    requires { ⌜ (first ≤ last) × (last < 8) ⌝ }
+    ensures { λ r. ⌜ r ≡ everyFrom (λ j. not (bit j byte)) first (suc (last - first)) ⌝ }
+{
+    clear_up_to(byte >> first, last - first)
+}
+
+// No frame of the bytes from one up to another, without it, is excluded. The bytes are joined and tested once.
+fn clear_bytes(exclusion: &[u8], from: usize, to: usize) -> bool
+    requires { ⌜ (from ≤ to) × (to ≤ length (now exclusion)) ⌝ }
+    ensures { λ r. ⌜ r ≡ everyFrom (λ f. not (excludedIn (now (exclusion .entry)) f)) (from * 8) ((to - from) * 8) ⌝ }
+{
+    let mut all: u8 = 0;
+    let mut i = from;
+    while i < to {
+        all = all | exclusion[i];
+        i += 1;
+    }
+    all == 0
+}
+
+// No frame from first to last is excluded. The vector has a byte for the last.
+pub fn none_excluded(exclusion: &[u8], first: u64, last: u64) -> bool
+    requires { ⌜ (first ≤ last) × (last / 8 < length (now exclusion)) ⌝ }
+    ensures { λ r. ⌜ r ≡ everyFrom (λ f. not (excludedIn (now (exclusion .entry)) f)) first (suc (last - first)) ⌝ }
+{
+    let head = (first / 8) as usize;
+    let tail = (last / 8) as usize;
+    if head == tail {
+        return clear_between(exclusion[head], first % 8, last % 8);
+    }
+    if !clear_from(exclusion[head], first % 8) {
+        return false;
+    }
+    if !clear_up_to(exclusion[tail], last % 8) {
+        return false;
+    }
+    clear_bytes(exclusion, head + 1, tail)
 }

@@ -1,11 +1,14 @@
 -- `access::device_write` meets its contract.
 use borrow.Author.Needs.{needs}
-use Rattle.access.proofs.TransferLaws.{transfer-unfit, transfer-refused, transferred-last, transfer-accepted}
+use Rattle.access.proofs.TransferLaws.{transfer-unfit, transfer-vector, transfer-refused, transferred-last, transfer-accepted}
 use Rattle.access.proofs.device_write.Statement.{statement}
 use Rattle.access.proofs.device_write.Tie as tie
 
 returns : tie.Need-returns
 returns c = search (needs, transfer-unfit)
+
+device-write-refusal-requires : tie.Need-device-write-refusal-requires
+device-write-refusal-requires c κs = search (needs, transfer-vector)
 
 returns-2 : tie.Need-returns-2
 returns-2 c = search (needs, transfer-refused)
@@ -21,4 +24,4 @@ returns-3 c = search (needs, transfer-accepted)
 pub device-write-spec : {M : Type 1} → statement M
 device-write-spec =
     tie.close
-    (tie.spec (λ c κs. search needs) returns (λ c κs. search needs) returns-2 last-page-requires returns-3)
+    (tie.spec (λ c κs. search needs) returns device-write-refusal-requires returns-2 last-page-requires returns-3)

@@ -16,7 +16,7 @@ last-page-requires c κs =
 
 none-excluded-requires : tie.Need-none-excluded-requires
 none-excluded-requires c κs =
-    transfer-frames _ _ _ _ _ (c .before .before .before .before .device-length .ensures) (c .before .before .before .if1 .left) (c .before .before .transfer-exists .ensures) (c .before .if2 .left) (c .before .before .before .before .before .before .fits .frames) _ (c .last-page .ensures)
+    transfer-frames _ _ _ _ _ (c .before .before .before .before .device-length .ensures) (c .before .before .before .if1 .left) (c .before .before .transfer-exists .ensures) (c .before .if2 .left) _ _ (c .last-page .ensures) (search needs)
 
 returns-3 : tie.Need-returns-3
 returns-3 c = search (needs, transfer-excluded)

@@ -1,14 +1,19 @@
 -- `access::frame_free` meets its contract.
-use Rattle.access.specs.Lent.{freeIn}
+use Rattle.access.proofs.WriteLaws.{frame-above, frame-below, frame-in}
 use borrow.Author.Needs.{needs}
 use Rattle.access.proofs.frame_free.Statement.{statement}
 use Rattle.access.proofs.frame_free.Tie as tie
 
 returns : tie.Need-returns
-unfolding freeIn
-returns c = cc
+returns c = search (needs, frame-above)
+
+excluded-within-requires : tie.Need-excluded-within-requires
+excluded-within-requires c κs = search (needs, frame-in)
+
+returns-2 : tie.Need-returns-2
+returns-2 c = search (needs, frame-below)
 
 pub frame-free-spec : {M : Type 1} → statement M
 frame-free-spec =
     tie.close
-    (tie.spec (λ c κs. search needs) (λ c κs. search needs) returns)
+    (tie.spec returns excluded-within-requires returns-2)

@@ -8,7 +8,7 @@ returns : tie.Need-returns
 returns c = search (needs, write-unfit)
 
 write-refusal-requires : tie.Need-write-refusal-requires
-write-refusal-requires c κs = search (needs, write-tables)
+write-refusal-requires c κs = write-tables _ _ _ _ (c .before .before .write-in-order .ensures) (c .before .if1 .left)
 
 returns-2 : tie.Need-returns-2
 returns-2 c = search (needs, write-refused)

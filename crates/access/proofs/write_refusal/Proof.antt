@@ -12,7 +12,7 @@ returns-2 c = search (needs, write-absent)
 
 shared-slice-read-first : tie.Need-shared-slice-read-first
 shared-slice-read-first c =
-    first-in _ _ _ _ _ (c .before .before .before .before .write-length .ensures) (c .before .before .before .if1 .left) (c .before .before .write-exists .ensures) (c .before .if2 .left) _ (c .before .before .before .before .before .before .before .pre)
+    first-in _ _ _ _ _ (c .before .before .before .before .write-length .ensures) (c .before .before .before .if1 .left) (c .before .before .write-exists .ensures) (c .before .if2 .left) _ (c .before .before .before .before .before .before .before .pre .0)
 
 last-page-requires : tie.Need-last-page-requires
 last-page-requires c κs =
@@ -24,6 +24,9 @@ mul-last c = search (needs, last-in)
 shared-slice-read-last : tie.Need-shared-slice-read-last
 shared-slice-read-last c = search (needs, last-in)
 
+entries-refusal-requires : tie.Need-entries-refusal-requires
+entries-refusal-requires c κs = search needs
+
 returns-3 : tie.Need-returns-3
 returns-3 c = search (needs, write-entries)
 
@@ -31,4 +34,4 @@ pub write-refusal-spec : {M : Type 1} → statement M
 write-refusal-spec =
     tie.close
     (tie.spec (λ c κs. search needs) returns (λ c κs. search needs) returns-2 (λ c. search needs)
-    shared-slice-read-first last-page-requires mul-last shared-slice-read-last (λ c κs. search needs) returns-3)
+    shared-slice-read-first last-page-requires mul-last shared-slice-read-last entries-refusal-requires returns-3)
