@@ -8,11 +8,14 @@ use Rattle.model.specs.declared.Fields.{Fields}
 use Rattle.model.specs.Edges.{either}
 use Rattle.model.specs.Bits.{present, writable, userBit, noExecute, frameOf, fieldsOf, takenApart, ordinaryNoExecute}
 
-pub apart-present : (entry : ℕ) {frame : ℕ} {p w u x : Bool} → p ≡ present entry → p ≡ true → w ≡ writable entry → u ≡ userBit entry
-    → x ≡ noExecute entry → frame ≡ frameOf entry
-    → Present (record { writable = w; user = u; noexec = x; frame = frame }) ≡ takenApart entry
-unfolding takenApart fieldsOf
-apart-present entry p t w u x f = rw (← p, t, w, u, x, f)
+pub fields-are : (entry : ℕ) {frame : ℕ} {w u x : Bool} → w ≡ writable entry → u ≡ userBit entry → x ≡ noExecute entry → frame ≡ frameOf entry
+    → record { writable = w; user = u; noexec = x; frame = frame } ≡ fieldsOf entry
+unfolding fieldsOf
+fields-are entry w u x f = rw (w, u, x, f)
+
+pub apart-present : (entry : ℕ) {p : Bool} {x : Fields} → p ≡ present entry → p ≡ true → x ≡ fieldsOf entry → Present x ≡ takenApart entry
+unfolding takenApart
+apart-present entry p t x = rw (← p, t, x)
 
 pub apart-absent : (entry : ℕ) {p : Bool} → p ≡ present entry → p ≡ false → Absent ≡ takenApart entry
 unfolding takenApart

@@ -7,7 +7,7 @@ ghost use mathlib.Core.Path.{_≡_};
 ghost use mathlib.Core.Bool.{cond, not};
 ghost use Prim.Native.Nat.{_<_, _≤_, _^_, _/_};
 ghost use lib.Bits.{bitXor};
-ghost use Rattle.model.specs.Bits.{present, writable, userBit, noExecute, kernelNoExecute, approvedMark, frameOf, takenApart, approved, ordinaryNoExecute, ordinary, noExecuteIn, switched};
+ghost use Rattle.model.specs.Bits.{present, writable, userBit, noExecute, kernelNoExecute, approvedMark, frameOf, fieldsOf, takenApart, approved, ordinaryNoExecute, ordinary, noExecuteIn, switched};
 ghost use Rattle.model.specs.Sync.{differs};
 ghost use Rattle.model.specs.Keeps.{flag};
 
@@ -68,16 +68,22 @@ pub fn frame_of(entry: u64) -> u64
     entry / FRAME % FRAMES
 }
 
+fn fields_of(entry: u64) -> Fields
+    ensures { λ r. ⌜ (r ≡ fieldsOf entry) × (r .frame < 2 ^ 40) ⌝ }
+{
+    Fields {
+        writable: writable(entry),
+        user: user_bit(entry),
+        noexec: no_execute(entry),
+        frame: frame_of(entry),
+    }
+}
+
 pub fn take_apart(entry: u64) -> Entry
     ensures { λ r. ⌜ r ≡ takenApart entry ⌝ }
 {
     if present(entry) {
-        Entry::Present(Fields {
-            writable: writable(entry),
-            user: user_bit(entry),
-            noexec: no_execute(entry),
-            frame: frame_of(entry),
-        })
+        Entry::Present(fields_of(entry))
     } else {
         Entry::Absent
     }
@@ -114,6 +120,13 @@ pub fn ordinary(user: bool, x: Fields) -> u64
         + flag(x.noexec, KERNEL_NO_EXECUTE)
         + x.frame * FRAME
         + flag(ordinary_no_execute(user, x.noexec, x.user), NO_EXECUTE)
+}
+
+// The ordinary entry of a kernel entry, from its own fields: the compiler then masks the entry once.
+pub fn ordinary_of(user: bool, entry: u64) -> u64
+    ensures { λ r. ⌜ r ≡ ordinary user (fieldsOf entry) ⌝ }
+{
+    ordinary(user, fields_of(entry))
 }
 
 // Bit 63 of the result is whether the entry may be executed in the mode: an approved one in kernel mode, an ordinary one in user mode by

@@ -1,5 +1,5 @@
 -- A law for each answer of this crate's functions: the five steps, the counts, a page stored, a run, and the two calls.
-use Prim.Native.Nat.{ℕ, _+_, _≤_, _<_}
+use Prim.Native.Nat.{ℕ, _+_, _/_, _≤_, _<_}
 use mathlib.Core.Bool.{Bool, true, false, not}
 use mathlib.Core.List.{List, [], _∷_}
 use mathlib.Core.Path.{_≡_, refl, sym, ap, _∙_}
@@ -16,13 +16,26 @@ use Rattle.model.specs.declared.State.{State}
 use Rattle.model.specs.declared.Answer.the-variants.{Done, Refused}
 use Rattle.model.specs.Edges.{both}
 use Rattle.model.specs.Keeps.{none, vectorBytes, inUser}
-use Rattle.model.specs.Bits.{takenApart, approved, ordinary}
+use Rattle.model.specs.Bits.{present, fieldsOf, takenApart, approved, ordinary}
 use Rattle.model.specs.Sync.{Rules, Place, place, stepOf, step, differs, Run, run, runOver}
 use Rattle.model.specs.Questions.{firstNo, stateInOrder, inOrder, syncAllAsks, syncPageAsks}
 use Rattle.model.specs.Calls.{replyOf, syncedBy, rulesOf, pageSynced, syncPageOf, allSynced, syncAllOf}
 use Rattle.model.proofs.AskLaws.{both-first, both-second, firstNo-no, firstNo-yes, settle-accepted, settle-refused}
 use Rattle.model.proofs.RunLaws.{getD-inside, whole, whole-more}
 use Rattle.sync.specs.Steps.{rules, stored, stepAt}
+
+-- The fields of a present entry.
+held : Fields → Entry → Fields
+held d Absent = d
+held d (Present x) = x
+
+fields-apart : (k : ℕ) (x : Fields) → takenApart k ≡ Present x → fieldsOf k ≡ x
+unfolding takenApart held
+fields-apart k x p = by (present k) refl ∙ ap (held (fieldsOf k)) p
+  where
+    by : (t : Bool) → present k ≡ t → fieldsOf k ≡ held (fieldsOf k) (takenApart k)
+    by true e = rw e refl
+    by false e = rw e refl
 
 -- Steps 1 to 5.
 module _ (r : Rules) (k a : ℕ) (e : Entry) (apart : e ≡ takenApart k) where
@@ -44,9 +57,15 @@ module _ (r : Rules) (k a : ℕ) (e : Entry) (apart : e ≡ takenApart k) where
   step-excluded x n b p q l s t u = rw (← apart, p, eq-eqb a none q, lt-leb (r .frames) (x .frame) l, ← s, t, u)
 
   pub step-ordinary : (x : Fields) (n : ℕ) (b : Bool) → e ≡ Present x → a ≡ 65535 → x .frame < r .frames → b ≡ r .excluded (x .frame) → b ≡ false
-      → n ≡ ordinary (r .user) x → place n a ≡ step r k a
+      → n ≡ ordinary (r .user) (fieldsOf k) → place n a ≡ step r k a
   unfolding step stepOf
-  step-ordinary x n b p q l s t u = rw (← apart, p, eq-eqb a none q, lt-leb (r .frames) (x .frame) l, ← s, t, u)
+  step-ordinary x n b p q l s t u =
+      rw (← apart, p, eq-eqb a none q, lt-leb (r .frames) (x .frame) l, ← s, t, u, fields-apart k x (sym apart ∙ p))
+
+-- The frame of a present entry below F has a bit in the vector.
+pub frame-in : (frames frame long : ℕ) → long ≡ vectorBytes frames → frame < frames → frame / 8 < long
+unfolding vectorBytes
+frame-in frames frame long p l = omega arith
 
 -- A value stored, and counted where it changed.
 pub kept : (l : List ℕ) (i v : ℕ) → getD l i 0 ≡ v → l ≡ set l i v
@@ -84,13 +103,17 @@ inOrderOf s kernel shadow map exclusion =
 
 -- Question 7 answered yes: the tables have V places, so that they have every page below V.
 module _ (s : State) (kernel shadow map exclusion : ℕ) (r : Bool) (asked : r ≡ inOrderOf s kernel shadow map exclusion) (answer : not r ≡ false) where
-  fits : (kernel ≡ s .pages) × (shadow ≡ s .pages) × (map ≡ s .pages)
+  fits : (kernel ≡ s .pages) × (shadow ≡ s .pages) × (map ≡ s .pages) × (exclusion ≡ vectorBytes (s .frames))
   unfolding inOrder
   fits =
       let all = sym asked ∙ not-false r answer in
       let two = both-second _ _ all in
       let three = both-second _ _ two in
-      (eqb-true _ _ (both-first _ _ all), eqb-true _ _ (both-first _ _ two), eqb-true _ _ (both-first _ _ three))
+      let four = both-second _ _ three in
+      (eqb-true _ _ (both-first _ _ all), eqb-true _ _ (both-first _ _ two), eqb-true _ _ (both-first _ _ three), eqb-true _ _ (both-first _ _ four))
+
+  pub vector-fits : exclusion ≡ vectorBytes (s .frames)
+  vector-fits = fits .3
 
   pub shadow-matches : shadow ≡ kernel
   shadow-matches = fits .1 ∙ sym (fits .0)
@@ -127,12 +150,12 @@ module _ (s : State) (kernel shadow map exclusion : List ℕ) (r : Bool)
   page-refused page p = sym (settle-refused 6 _ _ (firstNo-no 7 _ (sym asked ∙ not-true r p)))
 
   module _ (answer : not r ≡ false) where
-    pub all-accepted : (u : Bool) (shadow′ map′ : List ℕ) (x y : ℕ) → u ≡ inUser (s .mode)
-        → run shadow′ map′ x y ≡ runOver (step (rules u (s .frames) exclusion)) kernel shadow map
+    pub all-accepted : (u t : Bool) (shadow′ map′ : List ℕ) (x y : ℕ) → u ≡ inUser (s .mode) → u ≡ t
+        → run shadow′ map′ x y ≡ runOver (step (rules t (s .frames) exclusion)) kernel shadow map
         → syncedBy (Done x y) shadow′ map′ ≡ syncAllOf s kernel shadow map exclusion
     unfolding syncAllOf syncAllAsks allSynced syncedBy replyOf
-    all-accepted u shadow′ map′ x y q p =
-        ap allSynced (rw q at p) ∙ sym (settle-accepted _ _ (firstNo-yes 7 [] (sym asked ∙ not-false r answer) ∙ none-left))
+    all-accepted u t shadow′ map′ x y q i p =
+        ap allSynced (rw (sym i ∙ q) at p) ∙ sym (settle-accepted _ _ (firstNo-yes 7 [] (sym asked ∙ not-false r answer) ∙ none-left))
 
     module _ (page : ℕ) (b : Bool) (exists : b ≡ ltb page (s .pages)) where
       pub page-absent : not b ≡ true → syncedBy (Refused 9) shadow map ≡ syncPageOf s kernel shadow map exclusion page

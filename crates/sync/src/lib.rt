@@ -7,6 +7,7 @@ use model::State;
 ghost use mathlib.Core.Path.{_≡_};
 ghost use Prim.Native.Nat.{_+_, _<_, _≤_};
 ghost use lib.ListN.{length, getD, set};
+ghost use Rattle.model.specs.Keeps.{vectorBytes};
 ghost use Rattle.model.specs.Sync;
 ghost use Rattle.model.specs.Sync.{place, differs, run, runOver};
 ghost use Rattle.model.specs.Calls.{syncedBy, syncPageOf, syncAllOf};
@@ -21,8 +22,9 @@ pub struct Place {
     pub approval: u16,
 }
 
-// Steps 1 to 5 on a kernel entry and the page's number in the map.
+// Steps 1 to 5 on a kernel entry and the page's number in the map. The vector has a bit for each frame below F, as question 7 has settled.
 pub fn step(user: bool, frames: u16, exclusion: &[u8], entry: u64, approval: u16) -> Place
+    requires { ⌜ length (now exclusion) ≡ vectorBytes frames ⌝ }
     ensures { λ r. ⌜ place (r .entry) (r .approval) ≡ Sync.step (rules user frames (now (exclusion .entry))) entry approval ⌝ }
 {
     let empty = Place { entry: 0, approval };
@@ -38,7 +40,7 @@ pub fn step(user: bool, frames: u16, exclusion: &[u8], entry: u64, approval: u16
     if frames as u64 <= x.frame {
         return empty;
     }
-    if bitmap::excluded(exclusion, x.frame) {
+    if bitmap::excluded_within(exclusion, x.frame) {
         let frame = x.frame as u16;
         return Place {
             entry: entry::approved(user, frame),
@@ -46,7 +48,7 @@ pub fn step(user: bool, frames: u16, exclusion: &[u8], entry: u64, approval: u16
         };
     }
     Place {
-        entry: entry::ordinary(user, x),
+        entry: entry::ordinary_of(user, entry),
         approval,
     }
 }
@@ -94,7 +96,7 @@ pub fn sync_at(
     i: usize,
     counts: Counts,
 ) -> Counts
-    requires { ⌜ (i < length (now shadow)) × (i < length (now map)) × (counts .changed ≤ i) × (counts .joined ≤ i) ⌝ }
+    requires { ⌜ (i < length (now shadow)) × (i < length (now map)) × (counts .changed ≤ i) × (counts .joined ≤ i) × (length (now exclusion) ≡ vectorBytes frames) ⌝ }
     ensures { λ r. ⌜ (run (now (shadow .exit)) (now (map .exit)) (r .changed) (r .joined) ≡ stepAt (Sync.step (rules user frames (now (exclusion .entry)))) entry i (run (now (shadow .entry)) (now (map .entry)) (counts .changed) (counts .joined))) × (r .changed ≤ counts .changed + 1) × (r .joined ≤ counts .joined + 1) ⌝ }
 {
     let place = step(user, frames, exclusion, entry, map[i]);
@@ -112,7 +114,7 @@ pub fn sync_pages(
     shadow: &mut [u64],
     map: &mut [u16],
 ) -> Counts
-    requires { ⌜ (length (now shadow) ≡ length (now kernel)) × (length (now map) ≡ length (now kernel)) ⌝ }
+    requires { ⌜ (length (now shadow) ≡ length (now kernel)) × (length (now map) ≡ length (now kernel)) × (length (now exclusion) ≡ vectorBytes frames) ⌝ }
     ensures { λ r. ⌜ run (now (shadow .exit)) (now (map .exit)) (r .changed) (r .joined) ≡ runOver (Sync.step (rules user frames (now (exclusion .entry)))) (now (kernel .entry)) (now (shadow .entry)) (now (map .entry)) ⌝ }
 {
     let mut counts = Counts {
@@ -177,13 +179,11 @@ pub fn sync_all(
         return Answer::Refused(7);
     }
     let mode = s.mode;
-    let all = sync_pages(
-        questions::in_user(mode),
-        s.frames,
-        exclusion,
-        kernel,
-        shadow,
-        map,
-    );
+    // Each mode has its own loop, which then asks nothing of the mode.
+    if questions::in_user(mode) {
+        let all = sync_pages(true, s.frames, exclusion, kernel, shadow, map);
+        return Answer::Done(all.changed, all.joined);
+    }
+    let all = sync_pages(false, s.frames, exclusion, kernel, shadow, map);
     Answer::Done(all.changed, all.joined)
 }

@@ -13,5 +13,4 @@ returns-2 c = search (needs, apart-absent)
 pub take-apart-spec : {M : Type 1} → statement M
 take-apart-spec =
     tie.close
-    (tie.spec (λ c κs. search needs) (λ c κs. search needs) (λ c κs. search needs) (λ c κs. search needs)
-    (λ c κs. search needs) returns returns-2)
+    (tie.spec (λ c κs. search needs) (λ c κs. search needs) returns returns-2)

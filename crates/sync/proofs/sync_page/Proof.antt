@@ -1,5 +1,5 @@
 -- Questions 7 and 9 refuse, or the page is below V and in every table.
-use Rattle.sync.proofs.SyncLaws.{page-refused, page-absent, page-in-kernel, page-in-shadow, page-in-map, page-accepted}
+use Rattle.sync.proofs.SyncLaws.{page-refused, page-absent, page-in-kernel, page-in-shadow, page-in-map, vector-fits, page-accepted}
 use borrow.Author.Needs.{needs}
 use native.Mathlib.Omega.{arith}
 use Rattle.sync.proofs.sync_page.Statement.{statement}
@@ -26,6 +26,7 @@ sync-at-requires c κs = (
   page-in-map _ _ _ _ _ _ (c .before .before .before .before .before .before .before .sync-in-order .ensures) (c .before .before .before .before .before .before .if1 .left) _ _ (c .before .before .before .before .before .page-exists .ensures) (c .before .before .before .before .if2 .left),
   search needs,
   search needs,
+  vector-fits _ _ _ _ _ _ (c .before .before .before .before .before .before .before .sync-in-order .ensures) (c .before .before .before .before .before .before .if1 .left),
 )
 
 returns-3 : tie.Need-returns-3
