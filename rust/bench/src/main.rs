@@ -38,6 +38,7 @@ fn repeat(case: &str, side: &str, count: &str) -> Option<()> {
 }
 
 fn main() -> ExitCode {
+    plain::keep_general();
     let arguments: Vec<_> = env::args().skip(1).collect();
     let arguments: Vec<_> = arguments.iter().map(String::as_str).collect();
     let done = match arguments[..] {

@@ -1,7 +1,22 @@
 //! The plain calls, none of them inlined: each is one call, as the archive's is.
 //! Otherwise the compiler could take parts of the plain sides out of the measured loop.
 
+use std::hint::black_box;
+
 use reference::{Answer, State};
+
+/// Lets the calls' addresses out, so that the compiler fits none of them to the lengths that this program happens to pass:
+/// the archive's calls are not fitted either.
+pub fn keep_general() {
+    black_box((start as *const (), sync_page as *const (), sync_all as *const ()));
+    black_box((fetch as *const (), write as *const (), device_write as *const ()));
+    black_box((enter as *const (), leave as *const ()));
+    black_box((without_approval::sync_page as *const (), without_approval::sync_all as *const ()));
+    black_box((on_runs::start as *const (), on_runs::sync_page as *const ()));
+    black_box((on_runs::sync_all as *const (), on_runs::fetch as *const ()));
+    black_box((on_runs::write as *const (), on_runs::device_write as *const ()));
+    black_box((on_runs::enter as *const (), on_runs::leave as *const ()));
+}
 
 #[inline(never)]
 pub fn start(
