@@ -1,20 +1,24 @@
--- Laws of a state in a run: all words written, and what was written decodes to the same state.
-use Prim.Native.Nat.{ℕ, _+_, _<_}
+-- Laws of a state in a run: all words written, what was written decodes to the same state, and question 7 on the words.
+use Prim.Native.Nat.{ℕ, _+_, _≤_, _<_}
+use mathlib.Core.Bool.{Bool, true, false}
 use mathlib.Core.List.{List, [], _∷_, _++_}
 use mathlib.Core.Path.{_≡_, refl, sym, ap, _∙_}
 use lib.ListN.{length, getD, set, drop, length-append, length-drop, length-set, List·getD-append}
 use lib.Seq.{paste, take-all, set-at, getD-at, getD-drop, append-snoc}
-use lib.Dec.{eqb}
+use lib.Dec.{ltb, eqb}
 use native.Mathlib.Omega.{arith}
 use mir.Syntax.{w16}
 use mir.Val.{Fits}
 use Rattle.model.specs.declared.Mode.{Mode}
 use Rattle.model.specs.declared.Mode.the-variants.{Kernel, User}
 use Rattle.model.specs.declared.State.{State}
+use Rattle.model.specs.Edges.{both, within, pagesInRange, framesInRange}
 use Rattle.model.specs.Keeps.{inUser, running, modeOf}
+use Rattle.model.specs.Questions.{stateInOrder}
+use Rattle.model.proofs.AskLaws.{within-high}
 use Rattle.model.proofs.TableLaws.{is-table}
 use Rattle.exports.specs.Runs.{narrow, field, entryPages, stateIn, modeWord, wordsOf, withMode}
-use Rattle.exports.proofs.WordLaws.{narrow-fits}
+use Rattle.exports.proofs.WordLaws.{narrow-fits, narrow-within, narrow-ltb}
 
 -- The two words behind the entry pages.
 tail-written : (e d : List ℕ) (m r : ℕ) → length e ≡ 16 → length d ≡ 2 → set (set (e ++ d) 16 m) 17 r ≡ e ++ (m ∷ r ∷ [])
@@ -100,3 +104,39 @@ written-decoded s t e long p f n fits r = rw e (words-decoded s long p f n fits 
 -- The page of a mode, as a function that reads it gave it.
 pub running-fits : (mode : Mode) (r : ℕ) → r ≡ running mode → Fits w16 r → running mode < 65536
 running-fits mode r e h = rw e at (h .fits)
+
+pub running-mode : (b : Bool) (page : ℕ) → running (modeOf b page) ≡ page
+unfolding running modeOf
+running-mode true page = refl
+running-mode false page = refl
+
+-- The state's part of question 7, on the words of a run: as on the fields.
+module _ (p f e r : ℕ) where
+  -- as `words_in_order` asks it
+  abbrev onWords : Bool
+  onWords = both (both (within 1 2048 p) (within 1 4096 f)) (both (within 1 16 e) (ltb r p))
+
+  on-words : onWords ≡ both (within 1 2048 p) (both (within 1 4096 f) (both (within 1 16 e) (ltb (narrow r) (narrow p))))
+  unfolding both
+  on-words = by (within 1 2048 p) refl
+    where
+      by : (b : Bool) → within 1 2048 p ≡ b
+          → both (both b (within 1 4096 f)) (both (within 1 16 e) (ltb r p))
+          ≡ both b (both (within 1 4096 f) (both (within 1 16 e) (ltb (narrow r) (narrow p))))
+      by true h = let few : p ≤ 2048 = within-high 1 2048 p h in rw (narrow-ltb r p (omega arith)) refl
+      by false h = refl
+
+words-asked : (run : List ℕ) → onWords (getD run 0 0) (getD run 1 0) (getD run 2 0) (getD run 20 0) ≡ stateInOrder (stateIn run)
+unfolding stateInOrder stateIn field pagesInRange framesInRange
+words-asked run =
+    rw (
+      running-mode,
+      narrow-within 1 2048 (getD run 0 0) (omega arith),
+      narrow-within 1 4096 (getD run 1 0) (omega arith),
+      narrow-within 1 16 (getD run 2 0) (omega arith),
+    )
+    (on-words (getD run 0 0) (getD run 1 0) (getD run 2 0) (getD run 20 0))
+
+pub words-in-order : (run : List ℕ) (a b d q y r : Bool) → r ≡ both q y → q ≡ both a b → y ≡ both d (ltb (getD run 20 0) (getD run 0 0))
+    → a ≡ within 1 2048 (getD run 0 0) → b ≡ within 1 4096 (getD run 1 0) → d ≡ within 1 16 (getD run 2 0) → r ≡ stateInOrder (stateIn run)
+words-in-order run a b d q y r e1 e2 e3 e4 e5 e6 = cc (words-asked run)

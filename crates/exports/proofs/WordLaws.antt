@@ -6,17 +6,17 @@ use mathlib.Core.Path.{_≡_, refl, sym, _∙_}
 use lib.ListN.{getD, set, length}
 use lib.Seq.{getD-set-same, getD-set-other, paste, paste-suc}
 use borrow.Author.Count.{below-more}
-use lib.Dec.{leb, eqb}
-use borrow.Author.Tests.{le-leb, lt-leb, leb-true, leb-false, eqb-true, ne-eqb, not-true, not-false}
+use lib.Dec.{leb, ltb, eqb}
+use borrow.Author.Tests.{le-leb, lt-leb, leb-true, leb-false, le-ltb, eqb-true, ne-eqb, not-true, not-false}
 use native.Mathlib.Numerals.{add-one}
 use native.Mathlib.Omega.{arith}
 use Rattle.model.specs.declared.Answer.{Answer}
 use Rattle.model.specs.declared.Answer.the-variants.{Done, Refused}
 use Rattle.model.specs.declared.Mode.{Mode}
-use Rattle.model.specs.Edges.{both}
+use Rattle.model.specs.Edges.{both, within}
 use Rattle.model.specs.Keeps.{inUser}
 use Rattle.model.specs.Calls.{replyOf}
-use Rattle.model.proofs.AskLaws.{both-no, both-first}
+use Rattle.model.proofs.AskLaws.{both-no, both-first, within-above}
 use Rattle.model.proofs.TableLaws.{is-table}
 use Rattle.exports.specs.Runs.{narrow, field, entryPages, modeWord, withNumbers, runsFit, lendable}
 
@@ -97,6 +97,20 @@ unfolding runsFit
 run-fits run numbers b p q =
     eqb-true (length run) 21 (both-first (eqb (length run) 21) (eqb (length numbers) 2) (sym p ∙ not-false b q))
 
+-- The state's part asked after it, of runs that can be lent.
+pub lent-wrong : (run numbers : List ℕ) (fit b : Bool) → b ≡ lendable run numbers → not b ≡ true → false ≡ both (lendable run numbers) fit
+lent-wrong run numbers fit b p q = sym (both-no fit (sym p ∙ not-true b q))
+
+pub lent-right : (run numbers : List ℕ) (fit b r : Bool) → b ≡ lendable run numbers → not b ≡ false → r ≡ fit
+    → r ≡ both (lendable run numbers) fit
+unfolding both
+lent-right run numbers fit b r p q e = rw (sym p ∙ not-false b q) e
+
+pub run-lent : (run numbers : List ℕ) (b : Bool) → b ≡ lendable run numbers → not b ≡ false → length run ≡ 21
+unfolding lendable
+run-lent run numbers b p q =
+    run-fits run numbers true (sym (both-first (runsFit run numbers) (leb (getD run 19 0) 1) (sym p ∙ not-false b q))) refl
+
 pub mode-inside : (run numbers : List ℕ) (b : Bool) → b ≡ runsFit run numbers → not b ≡ false → 19 < length run
 mode-inside run numbers b p q = let n : length run ≡ 21 = run-fits run numbers b p q in omega arith
 
@@ -106,3 +120,22 @@ narrow-below word = by (leb word 65535) refl
     by : (b : Bool) → leb word 65535 ≡ b → narrow word ≤ 65535
     by true e = rw (sym (narrow-fits word (leb-true word 65535 e))) (leb-true word 65535 e)
     by false e = rw (sym (narrow-wide word (leb-false word 65535 e))) (omega arith)
+
+-- A test of a field and of its word: a range that ends below 65535, and a number that fits.
+pub narrow-within : (low high word : ℕ) → high < 65535 → within low high (narrow word) ≡ within low high word
+narrow-within low high word h = by (leb word 65535) refl
+  where
+    by : (b : Bool) → leb word 65535 ≡ b → within low high (narrow word) ≡ within low high word
+    by true e = rw (sym (narrow-fits word (leb-true word 65535 e))) refl
+    by false e =
+        rw (sym (narrow-wide word (leb-false word 65535 e)))
+        (within-above low high 65535 h ∙ sym (within-above low high word (omega (arith, leb-false word 65535 e))))
+
+pub narrow-ltb : (word pages : ℕ) → pages ≤ 65535 → ltb (narrow word) (narrow pages) ≡ ltb word pages
+narrow-ltb word pages h = rw (sym (narrow-fits pages h)) (by (leb word 65535) refl)
+  where
+    by : (b : Bool) → leb word 65535 ≡ b → ltb (narrow word) pages ≡ ltb word pages
+    by true e = rw (sym (narrow-fits word (leb-true word 65535 e))) refl
+    by false e =
+        rw (sym (narrow-wide word (leb-false word 65535 e)))
+        (le-ltb 65535 pages h ∙ sym (le-ltb word pages (omega (arith, leb-false word 65535 e))))

@@ -11,7 +11,7 @@ use model::Answer;
 
 pub mod runs;
 
-// A word of the state run that is wider than its field is refused by question 7, with no test at the boundary.
+// A word of the state run that is wider than its field is refused by question 7.
 pub fn wide_words()
     ensures { λ _. ⌜ WideRefused ⌝ }
 {}
@@ -56,7 +56,7 @@ pub extern "C" fn guard_sync_page(
 ) -> u64
     ensures { λ r. ⌜ left r (now (state .entry)) (now (numbers .exit)) (now (shadow .exit) ∷ now (map .exit) ∷ []) ≡ syncPageAt (now (state .entry)) (now (kernel .entry)) (now (shadow .entry)) (now (map .entry)) (now (exclusion .entry)) page (now (numbers .entry)) ⌝ }
 {
-    if !runs::lendable(state, numbers) {
+    if !runs::usable(state, numbers) {
         return runs::reply(numbers, Answer::Refused(7));
     }
     let answer = sync::sync_page(runs::state_in(state), kernel, shadow, map, exclusion, page);
@@ -75,7 +75,7 @@ pub extern "C" fn guard_sync_all(
 ) -> u64
     ensures { λ r. ⌜ left r (now (state .entry)) (now (numbers .exit)) (now (shadow .exit) ∷ now (map .exit) ∷ []) ≡ syncAllAt (now (state .entry)) (now (kernel .entry)) (now (shadow .entry)) (now (map .entry)) (now (exclusion .entry)) (now (numbers .entry)) ⌝ }
 {
-    if !runs::lendable(state, numbers) {
+    if !runs::usable(state, numbers) {
         return runs::reply(numbers, Answer::Refused(7));
     }
     let answer = sync::sync_all(runs::state_in(state), kernel, shadow, map, exclusion);
@@ -91,7 +91,7 @@ pub extern "C" fn guard_fetch(
 ) -> u64
     ensures { λ r. ⌜ left r (now (state .exit)) (now (numbers .exit)) [] ≡ fetchAt (now (state .entry)) (now (shadow .entry)) page (now (numbers .entry)) ⌝ }
 {
-    if !runs::lendable(state, numbers) {
+    if !runs::usable(state, numbers) {
         return runs::reply(numbers, Answer::Refused(7));
     }
     let called = access::fetch(runs::state_in(state), shadow, page);
@@ -109,7 +109,7 @@ pub extern "C" fn guard_write(
 ) -> u64
     ensures { λ r. ⌜ left r (now (state .entry)) (now (numbers .exit)) [] ≡ writeAt (now (state .entry)) (now (shadow .entry)) (now (exclusion .entry)) address length (now (numbers .entry)) ⌝ }
 {
-    if !runs::lendable(state, numbers) {
+    if !runs::usable(state, numbers) {
         return runs::reply(numbers, Answer::Refused(7));
     }
     let answer = access::write(runs::state_in(state), shadow, exclusion, address, length);
@@ -125,7 +125,7 @@ pub extern "C" fn guard_enter(
 ) -> u64
     ensures { λ r. ⌜ left r (now (state .exit)) (now (numbers .exit)) (now (shadow .exit) ∷ []) ≡ enterAt (now (state .entry)) (now (shadow .entry)) index (now (numbers .entry)) ⌝ }
 {
-    if !runs::lendable(state, numbers) {
+    if !runs::usable(state, numbers) {
         return runs::reply(numbers, Answer::Refused(7));
     }
     let called = modes::enter(runs::state_in(state), shadow, index);
@@ -141,7 +141,7 @@ pub extern "C" fn guard_leave(
 ) -> u64
     ensures { λ r. ⌜ left r (now (state .exit)) (now (numbers .exit)) (now (shadow .exit) ∷ []) ≡ leaveAt (now (state .entry)) (now (shadow .entry)) page (now (numbers .entry)) ⌝ }
 {
-    if !runs::lendable(state, numbers) {
+    if !runs::usable(state, numbers) {
         return runs::reply(numbers, Answer::Refused(7));
     }
     let called = modes::leave(runs::state_in(state), shadow, page);
@@ -158,7 +158,7 @@ pub extern "C" fn guard_device_write(
 ) -> u64
     ensures { λ r. ⌜ left r (now (state .entry)) (now (numbers .exit)) [] ≡ deviceWriteAt (now (state .entry)) (now (exclusion .entry)) address length (now (numbers .entry)) ⌝ }
 {
-    if !runs::lendable(state, numbers) {
+    if !runs::usable(state, numbers) {
         return runs::reply(numbers, Answer::Refused(7));
     }
     let answer = access::device_write(runs::state_in(state), exclusion, address, length);

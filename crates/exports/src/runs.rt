@@ -6,7 +6,9 @@ ghost use Prim.Native.Nat.{_<_};
 ghost use lib.ListN.{length};
 ghost use lib.Seq.{paste};
 ghost use lib.Dec.{eqb};
+ghost use Rattle.model.specs.Edges;
 ghost use Rattle.model.specs.Keeps.{modeOf, running};
+ghost use Rattle.model.specs.Questions.{stateInOrder};
 ghost use Rattle.model.specs.Calls.{replyOf};
 ghost use Rattle.exports.specs.Boundary.{runAfter, runStarted};
 ghost use Rattle.exports.specs.Runs;
@@ -158,6 +160,30 @@ pub(crate) fn lendable(run: &[u64], numbers: &[u64]) -> bool
         return false;
     }
     run[STATE_MODE] <= MODE_USER
+}
+
+// The state's part of question 7, on the words of a run. A compiler then drops what the calls below ask of the fields.
+pub(crate) fn words_in_order(run: &[u64]) -> bool
+    requires { ⌜ length (now run) ≡ stateWords ⌝ }
+    ensures { λ r. ⌜ r ≡ stateInOrder (stateIn (now (run .entry))) ⌝ }
+{
+    let pages = run[STATE_PAGES];
+    let sizes = questions::both(
+        questions::in_range(1, 2048, pages),
+        questions::in_range(1, 4096, run[STATE_FRAMES]),
+    );
+    let entries = questions::in_range(1, 16, run[STATE_ENTRIES]);
+    questions::both(sizes, questions::both(entries, run[STATE_RUNNING] < pages))
+}
+
+// Both runs can be lent, and the state is in order.
+pub(crate) fn usable(run: &[u64], numbers: &[u64]) -> bool
+    ensures { λ r. ⌜ r ≡ Edges.both (Runs.lendable (now (run .entry)) (now (numbers .entry))) (stateInOrder (stateIn (now (run .entry)))) ⌝ }
+{
+    if !lendable(run, numbers) {
+        return false;
+    }
+    words_in_order(run)
 }
 
 // Two numbers to a numbers run. A run of another length is not written.

@@ -1,16 +1,14 @@
 -- `exports::guard_device_write` meets its contract.
 use borrow.Author.Needs.{needs}
-use Rattle.exports.specs.Boundary.{deviceWriteAt}
-use Rattle.exports.proofs.BoundaryLaws.{unlent, run-lent, device-written}
+use Rattle.exports.proofs.BoundaryLaws.{device-unused, run-used, device-written}
 use Rattle.exports.proofs.guard_device_write.Statement.{statement}
 use Rattle.exports.proofs.guard_device_write.Tie as tie
 
 returns : tie.Need-returns
-unfolding deviceWriteAt
-returns c = search (needs, unlent)
+returns c = search (needs, device-unused)
 
 state-in-requires : tie.Need-state-in-requires
-state-in-requires c κs = search (needs, run-lent)
+state-in-requires c κs = search (needs, run-used)
 
 returns-2 : tie.Need-returns-2
 returns-2 c = search (needs, device-written)

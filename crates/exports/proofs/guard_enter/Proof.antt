@@ -1,19 +1,17 @@
 -- `exports::guard_enter` meets its contract.
 use borrow.Author.Needs.{needs}
-use Rattle.exports.specs.Boundary.{lentSwitch, enterAt}
-use Rattle.exports.proofs.BoundaryLaws.{unlent, run-lent, entered}
+use Rattle.exports.proofs.BoundaryLaws.{enter-unused, run-used, entered}
 use Rattle.exports.proofs.guard_enter.Statement.{statement}
 use Rattle.exports.proofs.guard_enter.Tie as tie
 
 returns : tie.Need-returns
-unfolding enterAt lentSwitch
-returns c = search (needs, unlent)
+returns c = search (needs, enter-unused)
 
 state-in-requires : tie.Need-state-in-requires
-state-in-requires c κs = search (needs, run-lent)
+state-in-requires c κs = search (needs, run-used)
 
 put-called-requires : tie.Need-put-called-requires
-put-called-requires c κs = search (needs, run-lent)
+put-called-requires c κs = search (needs, run-used)
 
 returns-2 : tie.Need-returns-2
 returns-2 c = search (needs, entered)

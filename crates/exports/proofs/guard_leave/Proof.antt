@@ -1,19 +1,17 @@
 -- `exports::guard_leave` meets its contract.
 use borrow.Author.Needs.{needs}
-use Rattle.exports.specs.Boundary.{lentSwitch, leaveAt}
-use Rattle.exports.proofs.BoundaryLaws.{unlent, run-lent, exited}
+use Rattle.exports.proofs.BoundaryLaws.{leave-unused, run-used, exited}
 use Rattle.exports.proofs.guard_leave.Statement.{statement}
 use Rattle.exports.proofs.guard_leave.Tie as tie
 
 returns : tie.Need-returns
-unfolding leaveAt lentSwitch
-returns c = search (needs, unlent)
+returns c = search (needs, leave-unused)
 
 state-in-requires : tie.Need-state-in-requires
-state-in-requires c κs = search (needs, run-lent)
+state-in-requires c κs = search (needs, run-used)
 
 put-called-requires : tie.Need-put-called-requires
-put-called-requires c κs = search (needs, run-lent)
+put-called-requires c κs = search (needs, run-used)
 
 returns-2 : tie.Need-returns-2
 returns-2 c = search (needs, exited)

@@ -1,16 +1,14 @@
 -- `exports::guard_sync_all` meets its contract.
 use borrow.Author.Needs.{needs}
-use Rattle.exports.specs.Boundary.{lentSync, syncAllAt}
-use Rattle.exports.proofs.BoundaryLaws.{unlent, run-lent, all-synced}
+use Rattle.exports.proofs.BoundaryLaws.{all-sync-unused, run-used, all-synced}
 use Rattle.exports.proofs.guard_sync_all.Statement.{statement}
 use Rattle.exports.proofs.guard_sync_all.Tie as tie
 
 returns : tie.Need-returns
-unfolding syncAllAt lentSync
-returns c = search (needs, unlent)
+returns c = search (needs, all-sync-unused)
 
 state-in-requires : tie.Need-state-in-requires
-state-in-requires c κs = search (needs, run-lent)
+state-in-requires c κs = search (needs, run-used)
 
 returns-2 : tie.Need-returns-2
 returns-2 c = search (needs, all-synced)

@@ -1,16 +1,14 @@
 -- `exports::guard_sync_page` meets its contract.
 use borrow.Author.Needs.{needs}
-use Rattle.exports.specs.Boundary.{lentSync, syncPageAt}
-use Rattle.exports.proofs.BoundaryLaws.{unlent, run-lent, page-synced}
+use Rattle.exports.proofs.BoundaryLaws.{page-sync-unused, run-used, page-synced}
 use Rattle.exports.proofs.guard_sync_page.Statement.{statement}
 use Rattle.exports.proofs.guard_sync_page.Tie as tie
 
 returns : tie.Need-returns
-unfolding syncPageAt lentSync
-returns c = search (needs, unlent)
+returns c = search (needs, page-sync-unused)
 
 state-in-requires : tie.Need-state-in-requires
-state-in-requires c κs = search (needs, run-lent)
+state-in-requires c κs = search (needs, run-used)
 
 returns-2 : tie.Need-returns-2
 returns-2 c = search (needs, page-synced)

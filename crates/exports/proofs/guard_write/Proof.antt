@@ -1,16 +1,14 @@
 -- `exports::guard_write` meets its contract.
 use borrow.Author.Needs.{needs}
-use Rattle.exports.specs.Boundary.{writeAt}
-use Rattle.exports.proofs.BoundaryLaws.{unlent, run-lent, written}
+use Rattle.exports.proofs.BoundaryLaws.{write-unused, run-used, written}
 use Rattle.exports.proofs.guard_write.Statement.{statement}
 use Rattle.exports.proofs.guard_write.Tie as tie
 
 returns : tie.Need-returns
-unfolding writeAt
-returns c = search (needs, unlent)
+returns c = search (needs, write-unused)
 
 state-in-requires : tie.Need-state-in-requires
-state-in-requires c κs = search (needs, run-lent)
+state-in-requires c κs = search (needs, run-used)
 
 returns-2 : tie.Need-returns-2
 returns-2 c = search (needs, written)

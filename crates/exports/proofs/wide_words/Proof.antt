@@ -7,23 +7,18 @@ use lib.ListN.{getD}
 use lib.Dec.{eqb}
 use borrow.Author.Tests.{le-ltb, eqb-true}
 use Rattle.model.specs.Edges.{both, either, within, pagesInRange, framesInRange, member}
-use Rattle.model.specs.Keeps.{running, modeOf}
 use Rattle.model.specs.Questions.{stateInOrder}
 use Rattle.model.proofs.AskLaws.{both-no-after}
 use Rattle.exports.specs.Runs.{narrow, field, stateIn}
 use Rattle.exports.specs.Boundary.{WideRefused}
 use Rattle.exports.proofs.WordLaws.{narrow-wide, narrow-below}
+use Rattle.exports.proofs.StateLaws.{running-mode}
 use Rattle.exports.proofs.wide_words.Statement.{statement}
 use Rattle.exports.proofs.wide_words.Tie as tie
 
 wide-field : (run : List ℕ) (at : ℕ) → 65535 < getD run at 0 → field run at ≡ 65535
 unfolding field
 wide-field run at p = sym (narrow-wide (getD run at 0) p)
-
-running-mode : (b : Bool) (page : ℕ) → running (modeOf b page) ≡ page
-unfolding running modeOf
-running-mode true page = refl
-running-mode false page = refl
 
 module _ (run : List ℕ) where
   wide-pages : 65535 < getD run 0 0 → stateInOrder (stateIn run) ≡ false
