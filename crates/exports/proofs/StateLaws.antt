@@ -5,7 +5,8 @@ use mathlib.Core.List.{List, [], _∷_, _++_}
 use mathlib.Core.Path.{_≡_, refl, sym, ap, _∙_}
 use lib.ListN.{length, getD, set, drop, length-append, length-drop, length-set, List·getD-append}
 use lib.Seq.{paste, take-all, set-at, getD-at, getD-drop, append-snoc}
-use lib.Dec.{ltb, eqb}
+use lib.Dec.{leb, ltb, eqb}
+use borrow.Author.Tests.{le-leb, ltb-true}
 use native.Mathlib.Omega.{arith}
 use mir.Syntax.{w16}
 use mir.Val.{Fits}
@@ -15,7 +16,7 @@ use Rattle.model.specs.declared.State.{State}
 use Rattle.model.specs.Edges.{both, within, pagesInRange, framesInRange}
 use Rattle.model.specs.Keeps.{inUser, running, modeOf}
 use Rattle.model.specs.Questions.{stateInOrder}
-use Rattle.model.proofs.AskLaws.{within-high}
+use Rattle.model.proofs.AskLaws.{both-yes, both-no-after, within-high}
 use Rattle.model.proofs.TableLaws.{is-table}
 use Rattle.exports.specs.Runs.{narrow, field, entryPages, stateIn, modeWord, wordsOf, withMode}
 use Rattle.exports.proofs.WordLaws.{narrow-fits, narrow-within, narrow-ltb}
@@ -114,16 +115,21 @@ running-mode false page = refl
 module _ (p f e r : ℕ) where
   -- as `words_in_order` asks it
   abbrev onWords : Bool
-  onWords = both (both (within 1 2048 p) (within 1 4096 f)) (both (within 1 16 e) (ltb r p))
+  onWords = both (both (within 1 2048 p) (within 1 4096 f)) (both (within 1 16 e) (both (leb r 2047) (ltb r p)))
+
+  -- a page below V is at most 2047
+  below : p ≤ 2048 → (b : Bool) → ltb r p ≡ b → both (leb r 2047) (ltb r p) ≡ ltb r p
+  below few true e = rw e (both-yes (le-leb r 2047 (omega (arith, ltb-true r p e))) refl)
+  below few false e = rw e (both-no-after (leb r 2047) refl)
 
   on-words : onWords ≡ both (within 1 2048 p) (both (within 1 4096 f) (both (within 1 16 e) (ltb (narrow r) (narrow p))))
   unfolding both
   on-words = by (within 1 2048 p) refl
     where
       by : (b : Bool) → within 1 2048 p ≡ b
-          → both (both b (within 1 4096 f)) (both (within 1 16 e) (ltb r p))
+          → both (both b (within 1 4096 f)) (both (within 1 16 e) (both (leb r 2047) (ltb r p)))
           ≡ both b (both (within 1 4096 f) (both (within 1 16 e) (ltb (narrow r) (narrow p))))
-      by true h = let few : p ≤ 2048 = within-high 1 2048 p h in rw (narrow-ltb r p (omega arith)) refl
+      by true h = let few : p ≤ 2048 = within-high 1 2048 p h in rw (narrow-ltb r p (omega arith), below few (ltb r p) refl) refl
       by false h = refl
 
 words-asked : (run : List ℕ) → onWords (getD run 0 0) (getD run 1 0) (getD run 2 0) (getD run 20 0) ≡ stateInOrder (stateIn run)
@@ -137,6 +143,7 @@ words-asked run =
     )
     (on-words (getD run 0 0) (getD run 1 0) (getD run 2 0) (getD run 20 0))
 
-pub words-in-order : (run : List ℕ) (a b d q y r : Bool) → r ≡ both q y → q ≡ both a b → y ≡ both d (ltb (getD run 20 0) (getD run 0 0))
+pub words-in-order : (run : List ℕ) (a b d q w y r : Bool) → r ≡ both q y → q ≡ both a b → y ≡ both d w
+    → w ≡ both (leb (getD run 20 0) 2047) (ltb (getD run 20 0) (getD run 0 0))
     → a ≡ within 1 2048 (getD run 0 0) → b ≡ within 1 4096 (getD run 1 0) → d ≡ within 1 16 (getD run 2 0) → r ≡ stateInOrder (stateIn run)
-words-in-order run a b d q y r e1 e2 e3 e4 e5 e6 = cc (words-asked run)
+words-in-order run a b d q w y r e1 e2 e3 e4 e5 e6 e7 = cc (words-asked run)

@@ -162,7 +162,8 @@ pub(crate) fn lendable(run: &[u64], numbers: &[u64]) -> bool
     run[STATE_MODE] <= MODE_USER
 }
 
-// The state's part of question 7, on the words of a run. A compiler then drops what the calls below ask of the fields.
+// The state's part of question 7, on the words of a run. The compiler then drops what the calls below ask of the fields; that the running
+// page is at most 2047 follows from the rest, and is asked for it to know.
 pub(crate) fn words_in_order(run: &[u64]) -> bool
     requires { ⌜ length (now run) ≡ stateWords ⌝ }
     ensures { λ r. ⌜ r ≡ stateInOrder (stateIn (now (run .entry))) ⌝ }
@@ -173,7 +174,9 @@ pub(crate) fn words_in_order(run: &[u64]) -> bool
         questions::in_range(1, 4096, run[STATE_FRAMES]),
     );
     let entries = questions::in_range(1, 16, run[STATE_ENTRIES]);
-    questions::both(sizes, questions::both(entries, run[STATE_RUNNING] < pages))
+    let running = run[STATE_RUNNING];
+    let runs = questions::both(running <= 2047, running < pages);
+    questions::both(sizes, questions::both(entries, runs))
 }
 
 // Both runs can be lent, and the state is in order.
