@@ -1,5 +1,5 @@
 -- Laws of what an exported call returns and leaves: the runs not usable, the call accepted, the call refused.
-use Prim.Native.Nat.{ℕ, zero, suc}
+use Prim.Native.Nat.{ℕ}
 use mathlib.Core.Bool.{Bool, true, false, not}
 use mathlib.Core.List.{List, [], _∷_}
 use mathlib.Core.Path.{_≡_, refl, sym, _∙_}
@@ -12,25 +12,10 @@ use Rattle.model.specs.declared.State.{State}
 use Rattle.model.specs.Edges.{both}
 use Rattle.model.specs.Questions.{Ask, ask, firstNo, stateInOrder, inOrder, syncPageAsks, syncAllAsks, fetchAsks, writeAsks, enterAsks, leaveAsks, deviceWriteAsks}
 use Rattle.model.specs.Calls.{refused, replyOf, settle, Synced, Switched, movedBy, switchedBy, syncedBy, fetchOf, writeOf, enterOf, leaveOf, deviceWriteOf, syncPageOf, syncAllOf}
-use Rattle.model.proofs.AskLaws.{settle-accepted, settle-refused, firstNo-no, both-first, both-no-after}
-use Rattle.exports.specs.Runs.{stateIn, withNumbers, lendable}
-use Rattle.exports.specs.Boundary.{Left, left, replied, lent, runAfter, lentSync, lentSwitch, fetchAt, writeAt, enterAt, leaveAt, deviceWriteAt, syncPageAt, syncAllAt}
-use Rattle.exports.proofs.WordLaws.{run-lent}
-
-settle-other : {A : Type 0} (n : ℕ) (done : A) (refusal : ℕ → A) → (n ≡ 0 → ⊥) → settle n done refusal ≡ refusal n
-unfolding settle
-settle-other zero done refusal p = absurd (p refl)
-settle-other (suc n) done refusal p = refl
-
--- What a number in hand settles: an accepted call's part, a refused one's run as it was, or its number itself.
-pub settled-accepted : {A : Type 0} (n m : ℕ) (after done : A) (refusal : ℕ → A) → n ≡ m → n ≡ 0 → after ≡ done → after ≡ settle m done refusal
-settled-accepted n m after done refusal p q e = e ∙ sym (settle-accepted done refusal (sym p ∙ q))
-
-pub settled-refused : {A : Type 0} (n m : ℕ) (run done : A) → n ≡ m → (n ≡ 0 → ⊥) → run ≡ settle m done (λ _. run)
-settled-refused n m run done p q = sym (settle-other m done (λ _. run) (λ z. q (p ∙ z)))
-
-pub settled-number : (n m done : ℕ) → n ≡ m → (n ≡ 0 → ⊥) → n ≡ settle m done (λ k. k)
-settled-number n m done p q = p ∙ sym (settle-other m done (λ k. k) (λ z. q (p ∙ z)))
+use Rattle.model.proofs.AskLaws.{settle-refused, firstNo-no, both-first, both-no-after}
+use Rattle.runs.specs.Runs.{stateIn, withNumbers, lendable, runAfter}
+use Rattle.exports.specs.Boundary.{Left, left, replied, lent, lentSync, lentSwitch, fetchAt, writeAt, enterAt, leaveAt, deviceWriteAt, syncPageAt, syncAllAt}
+use Rattle.runs.proofs.WordLaws.{run-lent}
 
 -- What an answer returns and says to the numbers run.
 abbrev pub Says : Answer → ℕ → List ℕ → List ℕ → Type 0

@@ -1,5 +1,3 @@
 -- Laws that the proofs of this crate cite.
-mod WordLaws
-mod StateLaws
 mod BoundaryLaws
 mod StartLaws

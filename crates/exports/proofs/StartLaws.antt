@@ -17,8 +17,8 @@ use Rattle.model.proofs.AskLaws.{settle-accepted}
 use Rattle.policy.specs.Record.{recordAsks}
 use Rattle.policy.proofs.RecordLaws.{start-refused, start-asked}
 use Rattle.start.specs.Start.{startedBy}
-use Rattle.exports.specs.Runs.{runsFit}
-use Rattle.exports.specs.Boundary.{left, replied, runStarted, startAt}
+use Rattle.runs.specs.Runs.{runsFit, runStarted}
+use Rattle.exports.specs.Boundary.{left, replied, startAt}
 use Rattle.exports.proofs.BoundaryLaws.{Says}
 
 -- The number of a start is that of its first no.

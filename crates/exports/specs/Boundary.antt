@@ -1,14 +1,9 @@
 -- What each exported call returns and leaves, on every input: the model's answer on the decoded state, behind the boundary's part of question 7.
-use Prim.Native.Nat.{ℕ, _<_}
-use mathlib.Core.Bool.{true, false, cond}
+use Prim.Native.Nat.{ℕ}
+use mathlib.Core.Bool.{cond}
 use mathlib.Core.List.{List, [], _∷_}
-use mathlib.Core.Path.{_≡_}
-use lib.ListN.{getD}
-use Rattle.model.specs.declared.State.{State}
-use Rattle.model.specs.Edges.{member}
-use Rattle.model.specs.Questions.{stateInOrder}
 use Rattle.model.specs.Calls.{Reply, refused, settle, Moved, Switched, Synced, Outcome, startOf, syncPageOf, syncAllOf, fetchOf, writeOf, enterOf, leaveOf, deviceWriteOf}
-use Rattle.exports.specs.Runs.{pagesAt, framesAt, entriesAt, runningAt, stateIn, wordsOf, withMode, withNumbers, runsFit, lendable}
+use Rattle.runs.specs.Runs.{stateIn, withNumbers, runsFit, lendable, runAfter, runStarted}
 
 -- What a call returns, both runs at its exit, and the tables at its exit that it was lent to change, in the order of its parameters.
 pub record Left : Type 0 where
@@ -27,10 +22,6 @@ replied reply run numbers tables = left (reply .number) run (withNumbers numbers
 -- Question 7 comes first: where a run cannot be lent, it refuses, and changes neither the state run nor a table.
 unfoldable pub lent : List ℕ → List ℕ → List (List ℕ) → Left → Left
 lent run numbers tables call = cond (lendable run numbers) call (replied (refused 7) run numbers tables)
-
--- An accepted call that moves puts its mode into the state run. A refused one leaves the run as it was.
-unfoldable pub runAfter : List ℕ → Reply → State → List ℕ
-runAfter run reply s = settle (reply .number) (withMode run (s .mode)) (λ _. run)
 
 -- Synchronise: the shadow table and the map may change.
 unfoldable pub lentSync : List ℕ → List ℕ → List ℕ → List ℕ → Synced → Left
@@ -69,10 +60,6 @@ unfoldable pub deviceWriteAt : List ℕ → List ℕ → ℕ → ℕ → List �
 deviceWriteAt run exclusion address length numbers =
     lent run numbers [] (replied (deviceWriteOf (stateIn run) exclusion address length) run numbers [])
 
--- An accepted start writes every word of the state run. A refused one leaves the run as it was: the zero state of document 01 is not written.
-unfoldable pub runStarted : List ℕ → Reply → State → List ℕ
-runStarted run reply s = settle (reply .number) (wordsOf s) (λ _. run)
-
 -- The start asks its own questions first, whose last is 7, and then for the lengths of both runs. What the state run holds is not read.
 unfoldable pub startAt : List ℕ → List ℕ → List ℕ → List ℕ → List ℕ → List ℕ → Left
 startAt bytes run shadow map exclusion numbers =
@@ -80,10 +67,3 @@ startAt bytes run shadow map exclusion numbers =
     cond (runsFit run numbers)
     (replied (r .reply) (runStarted run (r .reply) (r .guard .state)) numbers (r .guard .shadow ∷ r .guard .map ∷ r .guard .exclusion ∷ []))
     (replied (refused (settle (r .reply .number) 7 (λ n. n))) run numbers (shadow ∷ map ∷ exclusion ∷ []))
-
--- Beside the length and the mode word, the runs need no test of their own: a word wider than its field, as V, F, e or the running page, makes
--- a state that question 7 of every call refuses.
-unfoldable pub WideRefused : Type 0
-WideRefused =
-    (run : List ℕ) (at : ℕ) → 65535 < getD run at 0 → member at (pagesAt ∷ framesAt ∷ entriesAt ∷ runningAt ∷ []) ≡ true
-    → stateInOrder (stateIn run) ≡ false

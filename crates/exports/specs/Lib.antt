@@ -1,3 +1,2 @@
--- What the exported calls promise, a file for the runs that cross the boundary and one for the calls.
-pub mod Runs
+-- What the exported calls promise.
 pub mod Boundary

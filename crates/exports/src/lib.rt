@@ -6,15 +6,8 @@ ghost use mathlib.Core.List.{[], _∷_};
 ghost use Rattle.model.specs.Calls.{settle};
 ghost use Rattle.model.specs.Questions.{firstNo};
 ghost use Rattle.policy.specs.Record.{recordAsks};
-ghost use Rattle.exports.specs.Boundary.{left, startAt, syncPageAt, syncAllAt, fetchAt, writeAt, enterAt, leaveAt, deviceWriteAt, WideRefused};
+ghost use Rattle.exports.specs.Boundary.{left, startAt, syncPageAt, syncAllAt, fetchAt, writeAt, enterAt, leaveAt, deviceWriteAt};
 use model::Answer;
-
-pub mod runs;
-
-// A word of the state run that is wider than its field is refused by question 7.
-pub fn wide_words()
-    ensures { λ _. ⌜ WideRefused ⌝ }
-{}
 
 // The refusal of a start whose runs do not fit: the record's questions come first.
 fn start_refusal(policy: &[u8]) -> u64

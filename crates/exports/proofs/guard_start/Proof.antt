@@ -1,6 +1,6 @@
 -- `exports::guard_start` meets its contract.
 use borrow.Author.Needs.{needs}
-use Rattle.exports.proofs.WordLaws.{run-fits}
+use Rattle.runs.proofs.WordLaws.{run-fits}
 use Rattle.exports.proofs.StartLaws.{start-unfit, started}
 use Rattle.exports.proofs.guard_start.Statement.{statement}
 use Rattle.exports.proofs.guard_start.Tie as tie

@@ -1,6 +1,6 @@
 -- `exports::start_refusal` meets its contract.
 use borrow.Author.Needs.{needs}
-use Rattle.exports.proofs.BoundaryLaws.{settled-accepted, settled-number}
+use Rattle.runs.proofs.SettleLaws.{settled-accepted, settled-number}
 use Rattle.exports.proofs.start_refusal.Statement.{statement}
 use Rattle.exports.proofs.start_refusal.Tie as tie
 

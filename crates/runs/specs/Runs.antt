@@ -1,0 +1,97 @@
+-- The runs of words that cross the boundary: the state in a lent run of 21 words, and the two numbers of a reply in a lent run of two.
+-- Documented for C in include/guard.h.
+use Prim.Native.Nat.{ℕ, _+_, _<_}
+use mathlib.Core.Bool.{Bool, true, false, cond}
+use mathlib.Core.Path.{_≡_}
+use mathlib.Core.List.{List, [], _∷_, _++_}
+use lib.ListN.{length, getD, set}
+use lib.Dec.{leb, eqb}
+use Rattle.model.specs.declared.State.{State}
+use Rattle.model.specs.declared.Mode.{Mode}
+use Rattle.model.specs.Edges.{both, table, member}
+use Rattle.model.specs.Questions.{stateInOrder}
+use Rattle.model.specs.Calls.{Reply, settle}
+use Rattle.model.specs.Keeps.{inUser, running, modeOf}
+
+-- The layout of a state run: V, F and e, the sixteen entry pages, kernel or user, the page now running.
+abbrev pub stateWords : ℕ
+stateWords = 21
+
+abbrev pub pagesAt : ℕ
+pagesAt = 0
+
+abbrev pub framesAt : ℕ
+framesAt = 1
+
+abbrev pub entriesAt : ℕ
+entriesAt = 2
+
+abbrev pub entryAt : ℕ
+entryAt = 3
+
+abbrev pub modeAt : ℕ
+modeAt = 19
+
+abbrev pub runningAt : ℕ
+runningAt = 20
+
+-- The mode word: 0 for kernel mode, 1 for user mode.
+unfoldable pub modeWord : Mode → ℕ
+modeWord mode = cond (inUser mode) 1 0
+
+-- A word as a 16-bit field. A wider word is taken for 65535, which is above every V, F and e, so that question 7 refuses it in those
+-- fields and as the running page, and question 9 as the page of an entry index.
+unfoldable pub narrow : ℕ → ℕ
+narrow word = cond (leb word 65535) word 65535
+
+unfoldable pub field : List ℕ → ℕ → ℕ
+field run at = narrow (getD run at 0)
+
+unfoldable pub entryPages : List ℕ → List ℕ
+entryPages run = table 16 (λ i. field run (entryAt + i))
+
+-- The state that a run holds.
+unfoldable pub stateIn : List ℕ → State
+stateIn run =
+    record {
+      pages = field run pagesAt;
+      frames = field run framesAt;
+      entries = field run entriesAt;
+      entry = entryPages run;
+      mode = modeOf (eqb (getD run modeAt 0) 1) (field run runningAt);
+    }
+
+-- The words that hold a state.
+unfoldable pub wordsOf : State → List ℕ
+wordsOf s =
+    s .pages ∷ s .frames ∷ s .entries ∷ (s .entry ++ (modeWord (s .mode) ∷ running (s .mode) ∷ []))
+
+-- A run with another mode: words 19 and 20 alone.
+unfoldable pub withMode : List ℕ → Mode → List ℕ
+withMode run mode = set (set run modeAt (modeWord mode)) runningAt (running mode)
+
+-- A numbers run has two words. One of another length is not written.
+unfoldable pub withNumbers : List ℕ → ℕ → ℕ → List ℕ
+withNumbers numbers first second = cond (eqb (length numbers) 2) (first ∷ second ∷ []) numbers
+
+-- The boundary's part of question 7. The start asks for the lengths of both runs; every other call also for a mode word of 0 or 1.
+unfoldable pub runsFit : List ℕ → List ℕ → Bool
+runsFit run numbers = both (eqb (length run) stateWords) (eqb (length numbers) 2)
+
+unfoldable pub lendable : List ℕ → List ℕ → Bool
+lendable run numbers = both (runsFit run numbers) (leb (getD run modeAt 0) 1)
+
+-- An accepted call that moves puts its mode into the state run. A refused one leaves the run as it was.
+unfoldable pub runAfter : List ℕ → Reply → State → List ℕ
+runAfter run reply s = settle (reply .number) (withMode run (s .mode)) (λ _. run)
+
+-- An accepted start writes every word of the state run. A refused one leaves the run as it was: the zero state of document 01 is not written.
+unfoldable pub runStarted : List ℕ → Reply → State → List ℕ
+runStarted run reply s = settle (reply .number) (wordsOf s) (λ _. run)
+
+-- Beside the length and the mode word, the runs need no test of their own: a word wider than its field, as V, F, e or the running page, makes
+-- a state that question 7 of every call refuses.
+unfoldable pub WideRefused : Type 0
+WideRefused =
+    (run : List ℕ) (at : ℕ) → 65535 < getD run at 0 → member at (pagesAt ∷ framesAt ∷ entriesAt ∷ runningAt ∷ []) ≡ true
+    → stateInOrder (stateIn run) ≡ false
