@@ -110,7 +110,7 @@ fn ordinary_no_execute(user: bool, bit9: bool, bit2: bool) -> bool
 }
 
 // The frame has 40 bits, as `frame_of` gives it: a larger one would not fit the entry.
-pub fn ordinary(user: bool, x: Fields) -> u64
+fn ordinary(user: bool, x: Fields) -> u64
     requires { ⌜ x .frame < 2 ^ 40 ⌝ }
     ensures { λ r. ⌜ r ≡ ordinary user x ⌝ }
 {

@@ -40,14 +40,14 @@ pub const MODE_USER: u64 = 1;
 pub const NUMBERS: usize = 2;
 
 // A word as a 16-bit field; a wider one as 65535.
-pub fn narrow(word: u64) -> u16
+fn narrow(word: u64) -> u16
     ensures { λ r. ⌜ r ≡ Runs.narrow word ⌝ }
 {
     if word <= 65535 { word as u16 } else { 65535 }
 }
 
 // The field at a place of a run that reaches so far.
-pub fn field(run: &[u64], at: usize) -> u16
+fn field(run: &[u64], at: usize) -> u16
     requires { ⌜ at < length (now run) ⌝ }
     ensures { λ r. ⌜ r ≡ Runs.field (now (run .entry)) at ⌝ }
 {
@@ -55,7 +55,7 @@ pub fn field(run: &[u64], at: usize) -> u16
 }
 
 // Kernel or user, and the page that runs.
-pub fn mode_of(word: u64, page: u16) -> Mode
+fn mode_of(word: u64, page: u16) -> Mode
     ensures { λ r. ⌜ r ≡ modeOf (eqb word 1) page ⌝ }
 {
     if word == MODE_USER {
@@ -65,7 +65,7 @@ pub fn mode_of(word: u64, page: u16) -> Mode
     }
 }
 
-pub fn mode_word(mode: Mode) -> u64
+fn mode_word(mode: Mode) -> u64
     ensures { λ r. ⌜ r ≡ modeWord mode ⌝ }
 {
     if questions::in_user(mode) {
@@ -76,7 +76,7 @@ pub fn mode_word(mode: Mode) -> u64
 }
 
 // The sixteen entry pages of a run.
-pub fn entry_pages(run: &[u64]) -> [u16; 16]
+fn entry_pages(run: &[u64]) -> [u16; 16]
     requires { ⌜ length (now run) ≡ stateWords ⌝ }
     ensures { λ r. ⌜ r ≡ entryPages (now (run .entry)) ⌝ }
 {
@@ -109,7 +109,7 @@ pub fn state_in(run: &[u64]) -> State
 }
 
 // Writes the words of a mode into a run. A mode's page is a 16-bit number, on which decoding rests.
-pub fn put_mode(run: &mut [u64], mode: Mode)
+fn put_mode(run: &mut [u64], mode: Mode)
     requires { ⌜ length (now run) ≡ stateWords ⌝ }
     ensures words { λ _. ⌜ now (run .exit) ≡ withMode (now (run .entry)) mode ⌝ }
     ensures fits { λ _. ⌜ running mode < 65536 ⌝ }
@@ -118,7 +118,7 @@ pub fn put_mode(run: &mut [u64], mode: Mode)
     run[STATE_RUNNING] = questions::running(mode) as u64;
 }
 
-pub fn put_entry_pages(run: &mut [u64], entry: [u16; 16])
+fn put_entry_pages(run: &mut [u64], entry: [u16; 16])
     requires { ⌜ length (now run) ≡ stateWords ⌝ }
     ensures { λ _. ⌜ now (run .exit) ≡ paste (now (run .entry)) entryAt entry 16 ⌝ }
 {
@@ -130,7 +130,7 @@ pub fn put_entry_pages(run: &mut [u64], entry: [u16; 16])
 }
 
 // Writes all words of a state into a run. What was encoded decodes to the same state.
-pub fn put_state(run: &mut [u64], s: State)
+fn put_state(run: &mut [u64], s: State)
     requires { ⌜ length (now run) ≡ stateWords ⌝ }
     ensures encoded { λ _. ⌜ now (run .exit) ≡ wordsOf s ⌝ }
     ensures decoded { λ _. ⌜ stateIn (now (run .exit)) ≡ s ⌝ }
@@ -152,7 +152,7 @@ pub fn runs_fit(run: &[u64], numbers: &[u64]) -> bool
 }
 
 // What every other call asks for: a mode word of 0 or 1 too.
-pub fn lendable(run: &[u64], numbers: &[u64]) -> bool
+fn lendable(run: &[u64], numbers: &[u64]) -> bool
     ensures { λ r. ⌜ r ≡ Runs.lendable (now (run .entry)) (now (numbers .entry)) ⌝ }
 {
     if !runs_fit(run, numbers) {
@@ -163,7 +163,7 @@ pub fn lendable(run: &[u64], numbers: &[u64]) -> bool
 
 // The state's part of question 7, on the words of a run. The compiler then drops what the calls below ask of the fields; that the running
 // page is at most 2047 follows from the rest, and is asked for it to know.
-pub fn words_in_order(run: &[u64]) -> bool
+fn words_in_order(run: &[u64]) -> bool
     requires { ⌜ length (now run) ≡ stateWords ⌝ }
     ensures { λ r. ⌜ r ≡ stateInOrder (stateIn (now (run .entry))) ⌝ }
 {
@@ -189,7 +189,7 @@ pub fn usable(run: &[u64], numbers: &[u64]) -> bool
 }
 
 // Two numbers to a numbers run. A run of another length is not written.
-pub fn put_numbers(numbers: &mut [u64], first: u64, second: u64)
+fn put_numbers(numbers: &mut [u64], first: u64, second: u64)
     ensures { λ _. ⌜ now (numbers .exit) ≡ withNumbers (now (numbers .entry)) first second ⌝ }
 {
     if numbers.len() == NUMBERS {
