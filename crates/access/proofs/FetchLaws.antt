@@ -13,9 +13,9 @@ use Rattle.model.specs.declared.Answer.the-variants.{Done, Refused}
 use Rattle.model.specs.Edges.{both, either}
 use Rattle.model.specs.Keeps.{inUser, modeOf, inMode}
 use Rattle.model.specs.Bits.{present, noExecute, userBit, frameOf}
-use Rattle.model.specs.Questions.{Ask, firstNo, seen, stateInOrder, inOrder, fetchPermitted, fetchAsks}
+use Rattle.model.specs.Questions.{Question, firstNo, seen, stateInOrder, inOrder, fetchPermitted, fetchQuestions}
 use Rattle.model.specs.Calls.{replyOf, movedBy, fetchOf}
-use Rattle.model.proofs.AskLaws.{both-first, both-second, firstNo-yes, firstNo-no, asked, numbered, all-yes, settle-accepted}
+use Rattle.model.proofs.QuestionLaws.{both-first, both-second, firstNo-yes, firstNo-no, asked, numbered, all-yes, settle-accepted}
 use Rattle.model.proofs.CallLaws.{passed, passed-always, stopped, none-left, settle-refused-by, pages-few, shadow-long}
 use Rattle.access.specs.Lent.{lent}
 
@@ -31,14 +31,14 @@ fetch-by-user user entry r m e f p = p ∙ rw (← e, f) refl
 
 -- The page of an accepted fetch is below V.
 pub fetched-below : (user : Bool) (pages page number : ℕ) (shadow : List ℕ)
-    → number ≡ firstNo (fetchAsks (lent user pages 0 shadow []) page) → number ≡ 0 → page < pages
-unfolding fetchAsks asked numbered both either
+    → number ≡ firstNo (fetchQuestions (lent user pages 0 shadow []) page) → number ≡ 0 → page < pages
+unfolding fetchQuestions asked numbered both either
 fetched-below user pages page number shadow p z =
-    ltb-true page pages (both-first _ _ (all-yes 9 (fetchAsks (lent user pages 0 shadow []) page) refl (sym p ∙ z)))
+    ltb-true page pages (both-first _ _ (all-yes 9 (fetchQuestions (lent user pages 0 shadow []) page) refl (sym p ∙ z)))
 
 pub fetched-in : (s : State) (user r7 : Bool) (page number : ℕ) (shadow : List ℕ)
     → r7 ≡ inOrder (stateInOrder s) (eqb (length shadow) (s .pages) ∷ []) → not r7 ≡ false
-    → number ≡ firstNo (fetchAsks (lent user (s .pages) 0 shadow []) page) → number ≡ 0 → page < length shadow
+    → number ≡ firstNo (fetchQuestions (lent user (s .pages) 0 shadow []) page) → number ≡ 0 → page < length shadow
 fetched-in s user r7 page number shadow p q e z =
     let l : length shadow ≡ s .pages = shadow-long s (length shadow) r7 p q in
     let b : page < s .pages = fetched-below user (s .pages) page number shadow e z in
@@ -46,22 +46,22 @@ fetched-in s user r7 page number shadow p q e z =
 
 -- The questions after 7, at each answer.
 module _ (user : Bool) (pages page : ℕ) (shadow : List ℕ) (r9 : Bool) (e9 : r9 ≡ ltb page pages) where
-  pub fetch-absent : not r9 ≡ true → 9 ≡ firstNo (fetchAsks (lent user pages 0 shadow []) page)
-  unfolding fetchAsks inOrder both
+  pub fetch-absent : not r9 ≡ true → 9 ≡ firstNo (fetchQuestions (lent user pages 0 shadow []) page)
+  unfolding fetchQuestions inOrder both
   fetch-absent n9 = passed-always 7 9 _ (stopped 9 r9 _ _ e9 n9)
 
   module _ (y9 : not r9 ≡ false) (r11 : Bool) (e11 : r11 ≡ present (getD shadow page 0)) where
-    pub fetch-not-present : not r11 ≡ true → 11 ≡ firstNo (fetchAsks (lent user pages 0 shadow []) page)
-    unfolding fetchAsks inOrder both
+    pub fetch-not-present : not r11 ≡ true → 11 ≡ firstNo (fetchQuestions (lent user pages 0 shadow []) page)
+    unfolding fetchQuestions inOrder both
     fetch-not-present n11 = passed-always 7 11 _ (passed 9 11 r9 _ _ e9 y9 (stopped 11 r11 _ _ e11 n11))
 
     module _ (y11 : not r11 ≡ false) (r12 : Bool) (e12 : r12 ≡ fetchPermitted user (getD shadow page 0)) where
-      pub fetch-not-permitted : not r12 ≡ true → 12 ≡ firstNo (fetchAsks (lent user pages 0 shadow []) page)
-      unfolding fetchAsks inOrder both
+      pub fetch-not-permitted : not r12 ≡ true → 12 ≡ firstNo (fetchQuestions (lent user pages 0 shadow []) page)
+      unfolding fetchQuestions inOrder both
       fetch-not-permitted n12 = passed-always 7 12 _ (passed 9 12 r9 _ _ e9 y9 (passed 11 12 r11 _ _ e11 y11 (stopped 12 r12 _ _ e12 n12)))
 
-      pub fetch-none-refuses : not r12 ≡ false → 0 ≡ firstNo (fetchAsks (lent user pages 0 shadow []) page)
-      unfolding fetchAsks inOrder both
+      pub fetch-none-refuses : not r12 ≡ false → 0 ≡ firstNo (fetchQuestions (lent user pages 0 shadow []) page)
+      unfolding fetchQuestions inOrder both
       fetch-none-refuses y12 =
           passed-always 7 0 _ (passed 9 0 r9 _ _ e9 y9 (passed 11 0 r11 _ _ e11 y11 (passed 12 0 r12 _ _ e12 y12 none-left)))
 
@@ -74,25 +74,25 @@ found-in long pages page r9 l e y =
 module _ (s : State) (shadow : List ℕ) (page : ℕ) where
   pub fetch-unfit : (r7 : Bool) → r7 ≡ inOrder (stateInOrder s) (eqb (length shadow) (s .pages) ∷ []) → not r7 ≡ true
       → movedBy (record { answer = Refused 7; state = s }) ≡ fetchOf s shadow page
-  unfolding movedBy replyOf fetchOf fetchAsks
+  unfolding movedBy replyOf fetchOf fetchQuestions
   fetch-unfit r7 p q = sym (settle-refused-by 7 _ _ (λ z. omega arith) (firstNo-no 7 _ (sym p ∙ not-true r7 q)))
 
   -- The questions after 7 do not look at the lengths.
   fetch-rest : (r7 user : Bool) (number : ℕ) → r7 ≡ inOrder (stateInOrder s) (eqb (length shadow) (s .pages) ∷ []) → not r7 ≡ false
-      → user ≡ inUser (s .mode) → number ≡ firstNo (fetchAsks (lent user (s .pages) 0 shadow []) page)
-      → firstNo (fetchAsks (seen s shadow [] []) page) ≡ number
-  unfolding fetchAsks inOrder both
+      → user ≡ inUser (s .mode) → number ≡ firstNo (fetchQuestions (lent user (s .pages) 0 shadow []) page)
+      → firstNo (fetchQuestions (seen s shadow [] []) page) ≡ number
+  unfolding fetchQuestions inOrder both
   fetch-rest r7 user number p q u e = firstNo-yes 7 _ (sym p ∙ not-false r7 q) ∙ sym ((rw u at e) ∙ firstNo-yes 7 _ refl)
 
   pub fetch-refused : (r7 user : Bool) (number : ℕ) → r7 ≡ inOrder (stateInOrder s) (eqb (length shadow) (s .pages) ∷ [])
-      → not r7 ≡ false → user ≡ inUser (s .mode) → number ≡ firstNo (fetchAsks (lent user (s .pages) 0 shadow []) page)
+      → not r7 ≡ false → user ≡ inUser (s .mode) → number ≡ firstNo (fetchQuestions (lent user (s .pages) 0 shadow []) page)
       → (number ≡ 0 → ⊥) → movedBy (record { answer = Refused number; state = s }) ≡ fetchOf s shadow page
   unfolding movedBy replyOf fetchOf
   fetch-refused r7 user number p q u e z = sym (settle-refused-by number _ _ z (fetch-rest r7 user number p q u e))
 
   pub fetch-accepted : (after : State) (m : Mode) (r7 user : Bool) (number frame : ℕ)
       → r7 ≡ inOrder (stateInOrder s) (eqb (length shadow) (s .pages) ∷ []) → not r7 ≡ false → user ≡ inUser (s .mode)
-      → number ≡ firstNo (fetchAsks (lent user (s .pages) 0 shadow []) page) → number ≡ 0
+      → number ≡ firstNo (fetchQuestions (lent user (s .pages) 0 shadow []) page) → number ≡ 0
       → frame ≡ frameOf (getD shadow page 0) → m ≡ modeOf (inUser (s .mode)) (page % 65536) → after ≡ inMode s m
       → movedBy (record { answer = Done frame frame; state = after }) ≡ fetchOf s shadow page
   unfolding movedBy replyOf fetchOf inOrder

@@ -13,9 +13,9 @@ use Rattle.model.specs.declared.State.{State}
 use Rattle.model.specs.declared.Answer.the-variants.{Done, Refused}
 use Rattle.model.specs.Edges.{both, either, within, everyFrom, lastByte, lastPage, touched}
 use Rattle.model.specs.Keeps.{vectorBytes, excludedIn}
-use Rattle.model.specs.Questions.{firstNo, seen, stateInOrder, inOrder, free, everyTouched, deviceWriteAsks}
+use Rattle.model.specs.Questions.{firstNo, seen, stateInOrder, inOrder, free, everyTouched, deviceWriteQuestions}
 use Rattle.model.specs.Calls.{replyOf, deviceWriteOf}
-use Rattle.model.proofs.AskLaws.{both-first, both-second, within-low, firstNo-yes, firstNo-no, asked, numbered, all-yes, settle-accepted}
+use Rattle.model.proofs.QuestionLaws.{both-first, both-second, within-low, firstNo-yes, firstNo-no, asked, numbered, all-yes, settle-accepted}
 use Rattle.model.proofs.CallLaws.{passed, passed-always, stopped, none-left, settle-refused-by, frames-few}
 use Rattle.model.proofs.TouchLaws.{last-page-below, first-up-to-last, every-same}
 use Rattle.access.specs.Lent.{lent}
@@ -60,30 +60,30 @@ module _ (address length frames : ℕ) (r8 r9 : Bool) (e8 : r8 ≡ within 1 1048
     asked-free : r13 ≡ everyTouched (free (lent true 0 frames [] exclusion)) address length
     asked-free = (rw el at e13) ∙ sym (transfer-free frames address length exclusion (first-up-to-last address length least) below)
 
-    pub transfer-excluded : not r13 ≡ true → 13 ≡ firstNo (deviceWriteAsks (lent true 0 frames [] exclusion) address length)
-    unfolding deviceWriteAsks inOrder both
+    pub transfer-excluded : not r13 ≡ true → 13 ≡ firstNo (deviceWriteQuestions (lent true 0 frames [] exclusion) address length)
+    unfolding deviceWriteQuestions inOrder both
     transfer-excluded n = passed-always 7 13 _ (passed 8 13 r8 _ _ e8 y8 (passed 9 13 r9 _ _ e9 y9 (stopped 13 r13 _ _ asked-free n)))
 
-    pub transfer-fits : not r13 ≡ false → 0 ≡ firstNo (deviceWriteAsks (lent true 0 frames [] exclusion) address length)
-    unfolding deviceWriteAsks inOrder both
+    pub transfer-fits : not r13 ≡ false → 0 ≡ firstNo (deviceWriteQuestions (lent true 0 frames [] exclusion) address length)
+    unfolding deviceWriteQuestions inOrder both
     transfer-fits y =
         passed-always 7 0 _ (passed 8 0 r8 _ _ e8 y8 (passed 9 0 r9 _ _ e9 y9 (passed 13 0 r13 _ _ asked-free y none-left)))
 
 -- And at those to 8 and 9.
 module _ (frames address length : ℕ) (exclusion : List ℕ) (r8 : Bool) (e8 : r8 ≡ within 1 1048576 length) where
-  pub transfer-unlike : not r8 ≡ true → 8 ≡ firstNo (deviceWriteAsks (lent true 0 frames [] exclusion) address length)
-  unfolding deviceWriteAsks inOrder both
+  pub transfer-unlike : not r8 ≡ true → 8 ≡ firstNo (deviceWriteQuestions (lent true 0 frames [] exclusion) address length)
+  unfolding deviceWriteQuestions inOrder both
   transfer-unlike n8 = passed-always 7 8 _ (stopped 8 r8 _ _ e8 n8)
 
   pub transfer-absent : not r8 ≡ false → (r9 : Bool) → r9 ≡ ltb (lastByte address length) (frames * 4096) → not r9 ≡ true
-      → 9 ≡ firstNo (deviceWriteAsks (lent true 0 frames [] exclusion) address length)
-  unfolding deviceWriteAsks inOrder both
+      → 9 ≡ firstNo (deviceWriteQuestions (lent true 0 frames [] exclusion) address length)
+  unfolding deviceWriteQuestions inOrder both
   transfer-absent y8 r9 e9 n9 = passed-always 7 9 _ (passed 8 9 r8 _ _ e8 y8 (stopped 9 r9 _ _ e9 n9))
 
 module _ (s : State) (exclusion : List ℕ) (address length : ℕ) (r7 : Bool)
     (p : r7 ≡ inOrder (stateInOrder s) (eqb (lib.ListN.length exclusion) (vectorBytes (s .frames)) ∷ [])) where
   pub transfer-unfit : not r7 ≡ true → replyOf (Refused 7) ≡ deviceWriteOf s exclusion address length
-  unfolding replyOf deviceWriteOf deviceWriteAsks
+  unfolding replyOf deviceWriteOf deviceWriteQuestions
   transfer-unfit q = sym (settle-refused-by 7 _ _ (λ z. omega arith) (firstNo-no 7 _ (sym p ∙ not-true r7 q)))
 
   pub transfer-vector : not r7 ≡ false → lib.ListN.length exclusion ≡ vectorBytes (s .frames)
@@ -91,9 +91,9 @@ module _ (s : State) (exclusion : List ℕ) (address length : ℕ) (r7 : Bool)
   transfer-vector q = eqb-true _ _ (both-first _ _ (sym p ∙ not-false r7 q))
 
   module _ (q : not r7 ≡ false) (number : ℕ)
-      (e : number ≡ firstNo (deviceWriteAsks (lent true 0 (s .frames) [] exclusion) address length)) where
-    transfer-rest : firstNo (deviceWriteAsks (seen s [] [] exclusion) address length) ≡ number
-    unfolding deviceWriteAsks inOrder both free
+      (e : number ≡ firstNo (deviceWriteQuestions (lent true 0 (s .frames) [] exclusion) address length)) where
+    transfer-rest : firstNo (deviceWriteQuestions (seen s [] [] exclusion) address length) ≡ number
+    unfolding deviceWriteQuestions inOrder both free
     transfer-rest = firstNo-yes 7 _ (sym p ∙ not-false r7 q) ∙ sym (e ∙ firstNo-yes 7 _ refl)
 
     pub transfer-refused : (number ≡ 0 → ⊥) → replyOf (Refused number) ≡ deviceWriteOf s exclusion address length
@@ -106,12 +106,12 @@ module _ (s : State) (exclusion : List ℕ) (address length : ℕ) (r7 : Bool)
       few = frames-few s (both-second _ _ (sym p ∙ not-false r7 q))
 
       pub transferred-last : (1 ≤ length) × (lastPage address length < 65536)
-      unfolding deviceWriteAsks asked numbered both either
+      unfolding deviceWriteQuestions asked numbered both either
       transferred-last =
           let yes8 : within 1 1048576 length ≡ true =
-          both-first _ _ (all-yes 8 (deviceWriteAsks (lent true 0 (s .frames) [] exclusion) address length) refl (sym e ∙ z)) in
+          both-first _ _ (all-yes 8 (deviceWriteQuestions (lent true 0 (s .frames) [] exclusion) address length) refl (sym e ∙ z)) in
           let yes9 : ltb (lastByte address length) (s .frames * 4096) ≡ true =
-          both-first _ _ (all-yes 9 (deviceWriteAsks (lent true 0 (s .frames) [] exclusion) address length) refl (sym e ∙ z)) in
+          both-first _ _ (all-yes 9 (deviceWriteQuestions (lent true 0 (s .frames) [] exclusion) address length) refl (sym e ∙ z)) in
           let b : lastPage address length < s .frames = ltb-true _ _ (sym (last-page-below address length (s .frames)) ∙ yes9) in
           let f : s .frames ≤ 4096 = few in
           (within-low 1 1048576 length yes8, omega arith)

@@ -15,12 +15,12 @@ use Rattle.model.specs.declared.Answer.the-variants.{Done, Refused}
 use Rattle.model.specs.Edges.{both, either, within, lastPage}
 use Rattle.model.specs.Keeps.{vectorBytes, excludedIn, inUser}
 use Rattle.model.specs.Bits.{present, frameOf}
-use Rattle.model.specs.Questions.{firstNo, seen, stateInOrder, inOrder, writePermitted, free, writeAsks}
+use Rattle.model.specs.Questions.{firstNo, seen, stateInOrder, inOrder, writePermitted, free, writeQuestions}
 use Rattle.model.specs.Calls.{replyOf, writeOf}
-use Rattle.model.proofs.AskLaws.{both-first, both-second, within-low, firstNo-yes, firstNo-no, asked, numbered, all-yes, settle-accepted}
+use Rattle.model.proofs.QuestionLaws.{both-first, both-second, within-low, firstNo-yes, firstNo-no, asked, numbered, all-yes, settle-accepted}
 use Rattle.model.proofs.CallLaws.{passed, passed-always, stopped, none-left, settle-refused-by, pages-few}
 use Rattle.model.proofs.TouchLaws.{first-up-to-last, touched-both}
-use Rattle.access.specs.Lent.{lent, freeIn, entryAsks}
+use Rattle.access.specs.Lent.{lent, freeIn, entryQuestions}
 use Rattle.access.proofs.CommonLaws.{common-present, common-permitted}
 
 -- Question 13 of a frame: one at or above F, and one below it, which has a bit in the vector.
@@ -42,16 +42,16 @@ module _ (user : Bool) (frames first last : ℕ) (exclusion : List ℕ) (r : Boo
   one : r ≡ both (present first) (present last)
   one = e ∙ common-present first last
 
-  pub entries-absent : not r ≡ true → 11 ≡ firstNo (entryAsks user frames exclusion first last)
-  unfolding entryAsks
+  pub entries-absent : not r ≡ true → 11 ≡ firstNo (entryQuestions user frames exclusion first last)
+  unfolding entryQuestions
   entries-absent n = stopped 11 r _ _ one n
 
   module _ (y : not r ≡ false) (r′ : Bool) (e′ : r′ ≡ writePermitted user (bitAnd first last)) where
     two : r′ ≡ both (writePermitted user first) (writePermitted user last)
     two = e′ ∙ common-permitted user first last
 
-    pub entries-not-permitted : not r′ ≡ true → 12 ≡ firstNo (entryAsks user frames exclusion first last)
-    unfolding entryAsks
+    pub entries-not-permitted : not r′ ≡ true → 12 ≡ firstNo (entryQuestions user frames exclusion first last)
+    unfolding entryQuestions
     entries-not-permitted n = passed 11 12 r _ _ one y (stopped 12 r′ _ _ two n)
 
     module _ (y′ : not r′ ≡ false) (f : ℕ) (a : Bool) (ef : f ≡ frameOf first) (ea : a ≡ freeIn frames exclusion f) where
@@ -60,31 +60,31 @@ module _ (user : Bool) (frames first last : ℕ) (exclusion : List ℕ) (r : Boo
       three b c q eb = sym q ∙ rw (← ef, ← ea, ← eb) refl
 
       entries-thirteen : (b : Bool) → b ≡ freeIn frames exclusion (frameOf last) → both a b ≡ false
-          → 13 ≡ firstNo (entryAsks user frames exclusion first last)
-      unfolding entryAsks
+          → 13 ≡ firstNo (entryQuestions user frames exclusion first last)
+      unfolding entryQuestions
       entries-thirteen b eb q = passed 11 13 r _ _ one y (passed 12 13 r′ _ _ two y′ (stopped 13 false _ _ (three b false q eb) refl))
 
-      pub first-excluded : not a ≡ true → 13 ≡ firstNo (entryAsks user frames exclusion first last)
+      pub first-excluded : not a ≡ true → 13 ≡ firstNo (entryQuestions user frames exclusion first last)
       unfolding both
       first-excluded n = entries-thirteen (freeIn frames exclusion (frameOf last)) refl (rw (not-true a n) refl)
 
       module _ (ya : not a ≡ false) (g : ℕ) (eg : g ≡ frameOf last) where
         entries-none : (b : Bool) → b ≡ freeIn frames exclusion (frameOf last) → both a b ≡ true
-            → 0 ≡ firstNo (entryAsks user frames exclusion first last)
-        unfolding entryAsks
+            → 0 ≡ firstNo (entryQuestions user frames exclusion first last)
+        unfolding entryQuestions
         entries-none b eb q = passed 11 0 r _ _ one y (passed 12 0 r′ _ _ two y′ (passed 13 0 true _ _ (three b true q eb) refl none-left))
 
         -- One frame, which was asked.
-        pub one-frame : g ≡ f → 0 ≡ firstNo (entryAsks user frames exclusion first last)
+        pub one-frame : g ≡ f → 0 ≡ firstNo (entryQuestions user frames exclusion first last)
         unfolding both
         one-frame same = entries-none a (rw (← eg, same) ea) (rw (not-false a ya) refl)
 
         module _ (b : Bool) (eb : b ≡ freeIn frames exclusion g) where
-          pub last-excluded : not b ≡ true → 13 ≡ firstNo (entryAsks user frames exclusion first last)
+          pub last-excluded : not b ≡ true → 13 ≡ firstNo (entryQuestions user frames exclusion first last)
           unfolding both
           last-excluded n = entries-thirteen b (rw (← eg) eb) (rw (not-false a ya, not-true b n) refl)
 
-          pub entries-fit : not b ≡ false → 0 ≡ firstNo (entryAsks user frames exclusion first last)
+          pub entries-fit : not b ≡ false → 0 ≡ firstNo (entryQuestions user frames exclusion first last)
           unfolding both
           entries-fit yb = entries-none b (rw (← eg) eb) (rw (not-false a ya, not-false b yb) refl)
 
@@ -111,19 +111,19 @@ last-in address length pages page long r9 e9 y9 l p =
 
 -- The questions after 7, at each answer.
 module _ (user : Bool) (pages frames address length : ℕ) (shadow exclusion : List ℕ) (r8 : Bool) (e8 : r8 ≡ within 1 16 length) where
-  pub write-unlike : not r8 ≡ true → 8 ≡ firstNo (writeAsks (lent user pages frames shadow exclusion) address length)
-  unfolding writeAsks inOrder both
+  pub write-unlike : not r8 ≡ true → 8 ≡ firstNo (writeQuestions (lent user pages frames shadow exclusion) address length)
+  unfolding writeQuestions inOrder both
   write-unlike n8 = passed-always 7 8 _ (stopped 8 r8 _ _ e8 n8)
 
   module _ (y8 : not r8 ≡ false) (r9 : Bool) (e9 : r9 ≡ ltb (lastPage address length) pages) where
-    pub write-absent : not r9 ≡ true → 9 ≡ firstNo (writeAsks (lent user pages frames shadow exclusion) address length)
-    unfolding writeAsks inOrder both
+    pub write-absent : not r9 ≡ true → 9 ≡ firstNo (writeQuestions (lent user pages frames shadow exclusion) address length)
+    unfolding writeQuestions inOrder both
     write-absent n9 = passed-always 7 9 _ (passed 8 9 r8 _ _ e8 y8 (stopped 9 r9 _ _ e9 n9))
 
     pub write-entries : not r9 ≡ false → (number page : ℕ) → page ≡ lastPage address length
-        → number ≡ firstNo (entryAsks user frames exclusion (getD shadow (address / 4096) 0) (getD shadow page 0))
-        → number ≡ firstNo (writeAsks (lent user pages frames shadow exclusion) address length)
-    unfolding writeAsks inOrder both entryAsks free freeIn
+        → number ≡ firstNo (entryQuestions user frames exclusion (getD shadow (address / 4096) 0) (getD shadow page 0))
+        → number ≡ firstNo (writeQuestions (lent user pages frames shadow exclusion) address length)
+    unfolding writeQuestions inOrder both entryQuestions free freeIn
     write-entries y9 number page p e =
         let w : within 1 16 length ≡ true = sym e8 ∙ not-false r8 y8 in
         passed-always 7 number _
@@ -138,17 +138,17 @@ module _ (user : Bool) (pages frames address length : ℕ) (shadow exclusion : L
 
 -- An accepted write has 1 to 16 bytes, and its last page is below V.
 module _ (user : Bool) (pages frames address length number : ℕ) (shadow exclusion : List ℕ)
-    (e : number ≡ firstNo (writeAsks (lent user pages frames shadow exclusion) address length)) (z : number ≡ 0) where
+    (e : number ≡ firstNo (writeQuestions (lent user pages frames shadow exclusion) address length)) (z : number ≡ 0) where
   written-long : 1 ≤ length
-  unfolding writeAsks asked numbered both either
+  unfolding writeQuestions asked numbered both either
   written-long =
-      within-low 1 16 length (both-first _ _ (all-yes 8 (writeAsks (lent user pages frames shadow exclusion) address length) refl (sym e ∙ z)))
+      within-low 1 16 length (both-first _ _ (all-yes 8 (writeQuestions (lent user pages frames shadow exclusion) address length) refl (sym e ∙ z)))
 
   written-below : lastPage address length < pages
-  unfolding writeAsks asked numbered both either
+  unfolding writeQuestions asked numbered both either
   written-below =
       ltb-true (lastPage address length) pages
-      (both-first _ _ (all-yes 9 (writeAsks (lent user pages frames shadow exclusion) address length) refl (sym e ∙ z)))
+      (both-first _ _ (all-yes 9 (writeQuestions (lent user pages frames shadow exclusion) address length) refl (sym e ∙ z)))
 
 -- Question 7 of a write: the tables have their lengths.
 pub write-tables : (s : State) (long bytes : ℕ) (r7 : Bool)
@@ -162,13 +162,13 @@ write-tables s long bytes r7 p q =
 module _ (s : State) (shadow exclusion : List ℕ) (address length : ℕ) (r7 : Bool)
     (p : r7 ≡ inOrder (stateInOrder s) (eqb (lib.ListN.length shadow) (s .pages) ∷ eqb (lib.ListN.length exclusion) (vectorBytes (s .frames)) ∷ [])) where
   pub write-unfit : not r7 ≡ true → replyOf (Refused 7) ≡ writeOf s shadow exclusion address length
-  unfolding replyOf writeOf writeAsks
+  unfolding replyOf writeOf writeQuestions
   write-unfit q = sym (settle-refused-by 7 _ _ (λ z. omega arith) (firstNo-no 7 _ (sym p ∙ not-true r7 q)))
 
   module _ (q : not r7 ≡ false) (user : Bool) (number : ℕ) (u : user ≡ inUser (s .mode))
-      (e : number ≡ firstNo (writeAsks (lent user (s .pages) (s .frames) shadow exclusion) address length)) where
-    write-rest : firstNo (writeAsks (seen s shadow [] exclusion) address length) ≡ number
-    unfolding writeAsks inOrder both free
+      (e : number ≡ firstNo (writeQuestions (lent user (s .pages) (s .frames) shadow exclusion) address length)) where
+    write-rest : firstNo (writeQuestions (seen s shadow [] exclusion) address length) ≡ number
+    unfolding writeQuestions inOrder both free
     write-rest = firstNo-yes 7 _ (sym p ∙ not-false r7 q) ∙ sym ((rw u at e) ∙ firstNo-yes 7 _ refl)
 
     pub write-refused : (number ≡ 0 → ⊥) → replyOf (Refused number) ≡ writeOf s shadow exclusion address length

@@ -8,7 +8,7 @@ use lib.Dec.{ltb}
 use Rattle.model.specs.Edges.{both}
 use Rattle.model.specs.Keeps.{none, excludedIn}
 use Rattle.model.specs.Bits.{present, frameOf}
-use Rattle.model.specs.Questions.{Ask, ask, View, writePermitted}
+use Rattle.model.specs.Questions.{Question, question, View, writePermitted}
 
 abbrev pub lent : Bool → ℕ → ℕ → List ℕ → List ℕ → View
 lent user pages frames shadow exclusion =
@@ -32,9 +32,9 @@ unfoldable pub freeIn : ℕ → List ℕ → ℕ → Bool
 freeIn frames exclusion f = both (ltb f frames) (not (excludedIn exclusion f))
 
 -- Questions 11 to 13 of a write, of the entries of its first and its last page.
-unfoldable pub entryAsks : Bool → ℕ → List ℕ → ℕ → ℕ → List Ask
-entryAsks user frames exclusion first last =
-    ask 11 (both (present first) (present last))
-    ∷ ask 12 (both (writePermitted user first) (writePermitted user last))
-    ∷ ask 13 (both (freeIn frames exclusion (frameOf first)) (freeIn frames exclusion (frameOf last)))
+unfoldable pub entryQuestions : Bool → ℕ → List ℕ → ℕ → ℕ → List Question
+entryQuestions user frames exclusion first last =
+    question 11 (both (present first) (present last))
+    ∷ question 12 (both (writePermitted user first) (writePermitted user last))
+    ∷ question 13 (both (freeIn frames exclusion (frameOf first)) (freeIn frames exclusion (frameOf last)))
     ∷ []

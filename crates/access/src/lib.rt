@@ -9,9 +9,9 @@ ghost use lib.ListN.{length};
 ghost use Rattle.model.specs.Edges.{either, lastPage};
 ghost use Rattle.model.specs.Keeps.{vectorBytes};
 ghost use Rattle.model.specs.Bits.{userBit};
-ghost use Rattle.model.specs.Questions.{firstNo, fetchPermitted, writePermitted, fetchAsks, writeAsks, deviceWriteAsks};
+ghost use Rattle.model.specs.Questions.{firstNo, fetchPermitted, writePermitted, fetchQuestions, writeQuestions, deviceWriteQuestions};
 ghost use Rattle.model.specs.Calls.{replyOf, movedBy, fetchOf, writeOf, deviceWriteOf};
-ghost use Rattle.access.specs.Lent.{lent, freeIn, entryAsks};
+ghost use Rattle.access.specs.Lent.{lent, freeIn, entryQuestions};
 use model::Answer;
 use model::Called;
 use model::State;
@@ -37,7 +37,7 @@ fn fetch_permitted(user: bool, entry: u64) -> bool
 // The number of the question that refuses a fetch, or 0. Question 7 is answered yes, so that the table has V entries.
 fn fetch_refusal(user: bool, pages: u16, shadow: &[u64], page: u64) -> u64
     requires { ⌜ length (now shadow) ≡ pages ⌝ }
-    ensures { λ r. ⌜ r ≡ firstNo (fetchAsks (lent user pages 0 (now (shadow .entry)) []) page) ⌝ }
+    ensures { λ r. ⌜ r ≡ firstNo (fetchQuestions (lent user pages 0 (now (shadow .entry)) []) page) ⌝ }
 {
     if !questions::page_exists(page, pages) {
         return 9;
@@ -100,7 +100,7 @@ fn frame_free(frames: u16, exclusion: &[u8], frame: u64) -> bool
 // A bit that both entries have is a bit of what they have in common. One frame is asked once.
 fn entries_refusal(user: bool, frames: u16, exclusion: &[u8], first: u64, last: u64) -> u64
     requires { ⌜ length (now exclusion) ≡ vectorBytes frames ⌝ }
-    ensures { λ r. ⌜ r ≡ firstNo (entryAsks user frames (now (exclusion .entry)) first last) ⌝ }
+    ensures { λ r. ⌜ r ≡ firstNo (entryQuestions user frames (now (exclusion .entry)) first last) ⌝ }
 {
     let common = first & last;
     if !entry::present(common) {
@@ -143,7 +143,7 @@ fn write_refusal(
     length: u64,
 ) -> u64
     requires { ⌜ (lib.ListN.length (now shadow) ≡ pages) × (lib.ListN.length (now exclusion) ≡ vectorBytes frames) ⌝ }
-    ensures { λ r. ⌜ r ≡ firstNo (writeAsks (lent user pages frames (now (shadow .entry)) (now (exclusion .entry))) address length) ⌝ }
+    ensures { λ r. ⌜ r ≡ firstNo (writeQuestions (lent user pages frames (now (shadow .entry)) (now (exclusion .entry))) address length) ⌝ }
 {
     if !questions::write_length(length) {
         return 8;
@@ -179,7 +179,7 @@ pub fn write(s: State, shadow: &[u64], exclusion: &[u8], address: u64, length: u
 // Question 9 has settled that every frame touched is below F.
 fn device_write_refusal(frames: u16, exclusion: &[u8], address: u64, length: u64) -> u64
     requires { ⌜ lib.ListN.length (now exclusion) ≡ vectorBytes frames ⌝ }
-    ensures { λ r. ⌜ r ≡ firstNo (deviceWriteAsks (lent true 0 frames [] (now (exclusion .entry))) address length) ⌝ }
+    ensures { λ r. ⌜ r ≡ firstNo (deviceWriteQuestions (lent true 0 frames [] (now (exclusion .entry))) address length) ⌝ }
 {
     if !questions::device_length(length) {
         return 8;

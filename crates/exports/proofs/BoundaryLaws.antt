@@ -10,9 +10,9 @@ use Rattle.model.specs.declared.Answer.the-variants.{Refused}
 use Rattle.model.specs.declared.Called.{Called}
 use Rattle.model.specs.declared.State.{State}
 use Rattle.model.specs.Edges.{both}
-use Rattle.model.specs.Questions.{Ask, ask, firstNo, stateInOrder, inOrder, syncPageAsks, syncAllAsks, fetchAsks, writeAsks, enterAsks, leaveAsks, deviceWriteAsks}
+use Rattle.model.specs.Questions.{Question, question, firstNo, stateInOrder, inOrder, syncPageQuestions, syncAllQuestions, fetchQuestions, writeQuestions, enterQuestions, leaveQuestions, deviceWriteQuestions}
 use Rattle.model.specs.Calls.{refused, replyOf, settle, Synced, Switched, movedBy, switchedBy, syncedBy, fetchOf, writeOf, enterOf, leaveOf, deviceWriteOf, syncPageOf, syncAllOf}
-use Rattle.model.proofs.AskLaws.{settle-refused, firstNo-no, both-first, both-no-after}
+use Rattle.model.proofs.QuestionLaws.{settle-refused, firstNo-no, both-first, both-no-after}
 use Rattle.runs.specs.Runs.{stateIn, withNumbers, lendable, runAfter}
 use Rattle.exports.specs.Boundary.{Left, left, replied, lent, lentSync, lentSwitch, fetchAt, writeAt, enterAt, leaveAt, deviceWriteAt, syncPageAt, syncAllAt}
 use Rattle.runs.proofs.WordLaws.{run-lent}
@@ -28,8 +28,8 @@ unfolding inOrder
 state-no [] p = p
 state-no (fit ∷ fits) p = both-no-after fit (state-no fits p)
 
-stops : {A : Type 0} (fits : List Bool) (qs : List Ask) (done : A) (refusal : ℕ → A) {b : Bool} → b ≡ false
-    → settle (firstNo (ask 7 (inOrder b fits) ∷ qs)) done refusal ≡ refusal 7
+stops : {A : Type 0} (fits : List Bool) (qs : List Question) (done : A) (refusal : ℕ → A) {b : Bool} → b ≡ false
+    → settle (firstNo (question 7 (inOrder b fits) ∷ qs)) done refusal ≡ refusal 7
 stops fits qs done refusal p = settle-refused 6 done refusal (firstNo-no 7 qs (state-no fits p))
 
 -- What the boundary asks: the runs can be lent, and the state is in order.
@@ -53,33 +53,33 @@ module _ (run numbers after : List ℕ) (r : ℕ) (b : Bool) (asks : b ≡ usabl
 
   pub page-sync-unused : (kernel shadow map exclusion : List ℕ) (page : ℕ)
       → left r run after (shadow ∷ map ∷ []) ≡ syncPageAt run kernel shadow map exclusion page numbers
-  unfolding syncPageAt lentSync syncPageOf syncPageAsks
+  unfolding syncPageAt lentSync syncPageOf syncPageQuestions
   page-sync-unused kernel shadow map exclusion page = refuses _ _ (λ p. rw (stops _ _ _ _ p) refl)
 
   pub all-sync-unused : (kernel shadow map exclusion : List ℕ)
       → left r run after (shadow ∷ map ∷ []) ≡ syncAllAt run kernel shadow map exclusion numbers
-  unfolding syncAllAt lentSync syncAllOf syncAllAsks
+  unfolding syncAllAt lentSync syncAllOf syncAllQuestions
   all-sync-unused kernel shadow map exclusion = refuses _ _ (λ p. rw (stops _ _ _ _ p) refl)
 
   pub fetch-unused : (shadow : List ℕ) (page : ℕ) → left r run after [] ≡ fetchAt run shadow page numbers
-  unfolding fetchAt fetchOf fetchAsks runAfter settle
+  unfolding fetchAt fetchOf fetchQuestions runAfter settle
   fetch-unused shadow page = refuses _ _ (λ p. rw (stops _ _ _ _ p) refl)
 
   pub write-unused : (shadow exclusion : List ℕ) (address length : ℕ)
       → left r run after [] ≡ writeAt run shadow exclusion address length numbers
-  unfolding writeAt writeOf writeAsks
+  unfolding writeAt writeOf writeQuestions
   write-unused shadow exclusion address length = refuses _ _ (λ p. rw (stops _ _ _ _ p) refl)
 
   pub enter-unused : (shadow : List ℕ) (index : ℕ) → left r run after (shadow ∷ []) ≡ enterAt run shadow index numbers
-  unfolding enterAt lentSwitch enterOf enterAsks runAfter settle
+  unfolding enterAt lentSwitch enterOf enterQuestions runAfter settle
   enter-unused shadow index = refuses _ _ (λ p. rw (stops _ _ _ _ p) refl)
 
   pub leave-unused : (shadow : List ℕ) (page : ℕ) → left r run after (shadow ∷ []) ≡ leaveAt run shadow page numbers
-  unfolding leaveAt lentSwitch leaveOf leaveAsks runAfter settle
+  unfolding leaveAt lentSwitch leaveOf leaveQuestions runAfter settle
   leave-unused shadow page = refuses _ _ (λ p. rw (stops _ _ _ _ p) refl)
 
   pub device-unused : (exclusion : List ℕ) (address length : ℕ) → left r run after [] ≡ deviceWriteAt run exclusion address length numbers
-  unfolding deviceWriteAt deviceWriteOf deviceWriteAsks
+  unfolding deviceWriteAt deviceWriteOf deviceWriteQuestions
   device-unused exclusion address length = refuses _ _ (λ p. rw (stops _ _ _ _ p) refl)
 
 -- The runs can be lent: the call's own answer.

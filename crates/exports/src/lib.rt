@@ -5,13 +5,13 @@ ghost use mathlib.Core.Path.{_≡_};
 ghost use mathlib.Core.List.{[], _∷_};
 ghost use Rattle.model.specs.Calls.{settle};
 ghost use Rattle.model.specs.Questions.{firstNo};
-ghost use Rattle.policy.specs.Record.{recordAsks};
+ghost use Rattle.policy.specs.Record.{recordQuestions};
 ghost use Rattle.exports.specs.Boundary.{left, startAt, syncPageAt, syncAllAt, fetchAt, writeAt, enterAt, leaveAt, deviceWriteAt};
 use model::Answer;
 
 // The refusal of a start whose runs do not fit: the record's questions come first.
 fn start_refusal(policy: &[u8]) -> u64
-    ensures { λ r. ⌜ r ≡ settle (firstNo (recordAsks (now (policy .entry)))) 7 (λ n. n) ⌝ }
+    ensures { λ r. ⌜ r ≡ settle (firstNo (recordQuestions (now (policy .entry)))) 7 (λ n. n) ⌝ }
 {
     let number = policy::record_question(policy);
     if number == 0 { 7 } else { number }

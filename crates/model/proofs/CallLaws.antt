@@ -7,18 +7,18 @@ use lib.Dec.{eqb}
 use borrow.Author.Tests.{not-true, not-false, eqb-true}
 use Rattle.model.specs.declared.State.{State}
 use Rattle.model.specs.Edges.{pagesInRange, framesInRange}
-use Rattle.model.specs.Questions.{Ask, ask, firstNo, stateInOrder, inOrder}
+use Rattle.model.specs.Questions.{Question, question, firstNo, stateInOrder, inOrder}
 use Rattle.model.specs.Calls.{settle}
-use Rattle.model.proofs.AskLaws.{both-first, both-second, within-high, firstNo-yes, firstNo-no}
+use Rattle.model.proofs.QuestionLaws.{both-first, both-second, within-high, firstNo-yes, firstNo-no}
 
 -- Down the questions: past a yes, past one that is always answered so, at a no, and at the end.
-pub passed : (n k : ℕ) (r b : Bool) (qs : List Ask) → r ≡ b → not r ≡ false → k ≡ firstNo qs → k ≡ firstNo (ask n b ∷ qs)
+pub passed : (n k : ℕ) (r b : Bool) (qs : List Question) → r ≡ b → not r ≡ false → k ≡ firstNo qs → k ≡ firstNo (question n b ∷ qs)
 passed n k r b qs p q rest = rest ∙ sym (firstNo-yes n qs (sym p ∙ not-false r q))
 
-pub passed-always : (n k : ℕ) (qs : List Ask) → k ≡ firstNo qs → k ≡ firstNo (ask n true ∷ qs)
+pub passed-always : (n k : ℕ) (qs : List Question) → k ≡ firstNo qs → k ≡ firstNo (question n true ∷ qs)
 passed-always n k qs rest = rest ∙ sym (firstNo-yes n qs refl)
 
-pub stopped : (n : ℕ) (r b : Bool) (qs : List Ask) → r ≡ b → not r ≡ true → n ≡ firstNo (ask n b ∷ qs)
+pub stopped : (n : ℕ) (r b : Bool) (qs : List Question) → r ≡ b → not r ≡ true → n ≡ firstNo (question n b ∷ qs)
 stopped n r b qs p q = sym (firstNo-no n qs (sym p ∙ not-true r q))
 
 pub none-left : 0 ≡ firstNo []

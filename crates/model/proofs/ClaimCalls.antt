@@ -15,16 +15,16 @@ use Rattle.model.specs.Keeps.{none, Guard, inUser, running, modeOf, inMo
 use Rattle.model.specs.Policy.{Policy}
 use Rattle.model.specs.Bits.{present, takenApart}
 use Rattle.model.specs.Sync.{Rules, Place, place, step, stepOf, Run, switchedAll, runOver}
-use Rattle.model.specs.Questions.{firstNo, syncAllAsks}
+use Rattle.model.specs.Questions.{firstNo, syncAllQuestions}
 use Rattle.model.specs.Calls.{rulesOf, pageSynced, allSynced, switchTo}
 use Rattle.model.specs.Lists.{Call, syncPage, syncAll, fetch, write, enter, leave, deviceWrite, withSynced, withMoved, withSwitched, withReply}
 use Rattle.model.specs.OnePage.{synchronised, nothing, seenBy, settled, stepped, turned, told, news}
 use Rattle.model.specs.Claim.{Carried, carriedAfter}
-use Rattle.model.proofs.AskLaws.{within-high}
+use Rattle.model.proofs.QuestionLaws.{within-high}
 use Rattle.model.proofs.ClaimPages.{Good, told-good}
 use Rattle.model.proofs.RunLaws.{run-shadow-length, run-map-length, run-shadow-at, run-map-at}
 use Rattle.model.proofs.SwitchLaws.{length-switched, switched-at}
-use Rattle.model.proofs.ClaimAsks.{syncPage-page, syncAll-kernel, fetch-page, enter-page, leave-page}
+use Rattle.model.proofs.ClaimQuestions.{syncPage-page, syncAll-kernel, fetch-page, enter-page, leave-page}
 use Rattle.model.proofs.ClaimKept.{Sound, Kept, pageOf, acceptedOf}
 
 inUser-modeOf : (user : Bool) (page : ℕ) → inUser (modeOf user page) ≡ user
@@ -82,7 +82,7 @@ module _ (policy : Policy) (carried : Carried) (g : Guard) (sound : Sound policy
       at true e = rw (eqb-true p page e) (syncPage-here kernel page below)
       at false e = syncPage-other kernel page p (eqb-false p page e)
 
-  syncAll-commutes : (kernel : List ℕ) → firstNo (syncAllAsks (seenBy policy (pageOf g)) (length kernel)) ≡ 0 → (p : ℕ)
+  syncAll-commutes : (kernel : List ℕ) → firstNo (syncAllQuestions (seenBy policy (pageOf g)) (length kernel)) ≡ 0 → (p : ℕ)
       → told policy (pageOf g p) (news p (syncAll kernel)) ≡ pageOf ((acceptedOf g (syncAll kernel)) .guard) p
   unfolding news told acceptedOf withSynced allSynced
   syncAll-commutes kernel passed p = at (ltb p (policy .pages)) refl

@@ -11,12 +11,12 @@ use Rattle.model.specs.Keeps.{none, Guard, vectorBytes, excludedIn, inUs
 use Rattle.model.specs.Policy.{Policy, named, entryPages}
 use Rattle.model.specs.Bits.{frameOf}
 use Rattle.model.specs.Sync.{step, runOver}
-use Rattle.model.specs.Questions.{firstNo, seen, stateInOrder, syncPageAsks, syncAllAsks, fetchAsks, free, writeAsks, enterAsks, leaveAsks, deviceWriteAsks}
+use Rattle.model.specs.Questions.{firstNo, seen, stateInOrder, syncPageQuestions, syncAllQuestions, fetchQuestions, free, writeQuestions, enterQuestions, leaveQuestions, deviceWriteQuestions}
 use Rattle.model.specs.Calls.{Outcome, refused, accepted, settle, rulesOf, pageSynced, syncPageOf, allSynced, syncAllOf, fetchOf, writeOf, switchTo, enterOf, leaveOf, deviceWriteOf}
 use Rattle.model.specs.Lists.{Call, syncPage, syncAll, fetch, write, enter, leave, deviceWrite, withSynced, withMoved, withSwitched, withReply, answer}
 use Rattle.model.specs.OnePage.{Page, seenBy, settled}
 use Rattle.model.specs.Claim.{Carried}
-use Rattle.model.proofs.AskLaws.{both-yes}
+use Rattle.model.proofs.QuestionLaws.{both-yes}
 use Rattle.model.proofs.ClaimPages.{Good}
 
 -- What an accepted start says of the policy.
@@ -110,11 +110,11 @@ module _ (policy : Policy) (carried : Carried) (g : Guard) (sound : Sound policy
 
   -- The guard's outcome, by the number that the one-page guards settle.
   pub answered : (call : Call) → answer g call ≡ settle (settled policy (pageOf g) g call) (acceptedOf g call) (refusedOf g)
-  unfolding answer settled acceptedOf withSynced withMoved withSwitched withReply syncPageOf syncAllOf fetchOf writeOf enterOf leaveOf deviceWriteOf syncPageAsks syncAllAsks fetchAsks writeAsks enterAsks leaveAsks deviceWriteAsks free
-  answered (syncPage kernel page) = settle-map (withSynced g) _ _ _ (ap (λ v. firstNo (syncPageAsks v (length kernel) page)) same-view)
-  answered (syncAll kernel) = settle-map (withSynced g) _ _ _ (ap (λ v. firstNo (syncAllAsks v (length kernel))) same-view)
-  answered (fetch page) = settle-map (withMoved g) _ _ _ (ap (λ v. firstNo (fetchAsks v page)) same-view)
-  answered (write address size) = settle-map (withReply g) _ _ _ (ap (λ v. firstNo (writeAsks v address size)) same-view)
-  answered (enter index) = settle-map (withSwitched g) _ _ _ (ap (λ v. firstNo (enterAsks v index)) same-view)
-  answered (leave page) = settle-map (withSwitched g) _ _ _ (ap (λ v. firstNo (leaveAsks v page)) same-view)
-  answered (deviceWrite address size) = settle-map (withReply g) _ _ _ (ap (λ v. firstNo (deviceWriteAsks v address size)) same-view)
+  unfolding answer settled acceptedOf withSynced withMoved withSwitched withReply syncPageOf syncAllOf fetchOf writeOf enterOf leaveOf deviceWriteOf syncPageQuestions syncAllQuestions fetchQuestions writeQuestions enterQuestions leaveQuestions deviceWriteQuestions free
+  answered (syncPage kernel page) = settle-map (withSynced g) _ _ _ (ap (λ v. firstNo (syncPageQuestions v (length kernel) page)) same-view)
+  answered (syncAll kernel) = settle-map (withSynced g) _ _ _ (ap (λ v. firstNo (syncAllQuestions v (length kernel))) same-view)
+  answered (fetch page) = settle-map (withMoved g) _ _ _ (ap (λ v. firstNo (fetchQuestions v page)) same-view)
+  answered (write address size) = settle-map (withReply g) _ _ _ (ap (λ v. firstNo (writeQuestions v address size)) same-view)
+  answered (enter index) = settle-map (withSwitched g) _ _ _ (ap (λ v. firstNo (enterQuestions v index)) same-view)
+  answered (leave page) = settle-map (withSwitched g) _ _ _ (ap (λ v. firstNo (leaveQuestions v page)) same-view)
+  answered (deviceWrite address size) = settle-map (withReply g) _ _ _ (ap (λ v. firstNo (deviceWriteQuestions v address size)) same-view)

@@ -6,12 +6,12 @@ use lib.ListN.{length}
 use native.Mathlib.Omega.{arith}
 use Rattle.model.specs.Keeps.{Guard}
 use Rattle.model.specs.Policy.{Policy, policyOf, startGuard}
-use Rattle.model.specs.Questions.{firstNo, startAsks}
+use Rattle.model.specs.Questions.{firstNo, startQuestions}
 use Rattle.model.specs.Calls.{Outcome, startOf, pageSynced, allSynced, switchTo}
 use Rattle.model.specs.Lists.{Call, syncPage, syncAll, fetch, write, enter, leave, deviceWrite, withSynced, withMoved, withSwitched, withReply, answer}
 use Rattle.model.specs.OnePage.{Page, firstPage, settled, pagesAfter}
 use Rattle.model.specs.Claim.{Agree, Carried, carriedFirst, carriedAfter, Always, Claim}
-use Rattle.model.proofs.AskLaws.{settle-accepted, settle-refused}
+use Rattle.model.proofs.QuestionLaws.{settle-accepted, settle-refused}
 use Rattle.model.proofs.ClaimKept.{Sound, Kept, pageOf, acceptedOf, refusedOf, answered}
 use Rattle.model.proofs.ClaimCalls.{commutes, kept}
 use Rattle.model.proofs.ClaimSafe.{safe}
@@ -77,9 +77,9 @@ always policy sound (call ∷ calls) carried g h = by-number (settled policy (pa
 -- The start is settled first: a refused one has a number, and the list of an accepted one begins with what always holds.
 pub claim : Claim
 unfolding startOf
-claim bytes shadow map exclusion calls accepted = by-number (firstNo (startAsks bytes (policyOf bytes) (length shadow) (length map) (length exclusion))) refl
+claim bytes shadow map exclusion calls accepted = by-number (firstNo (startQuestions bytes (policyOf bytes) (length shadow) (length map) (length exclusion))) refl
   where
-    by-number : (n : ℕ) → firstNo (startAsks bytes (policyOf bytes) (length shadow) (length map) (length exclusion)) ≡ n
+    by-number : (n : ℕ) → firstNo (startQuestions bytes (policyOf bytes) (length shadow) (length map) (length exclusion)) ≡ n
         → Always (policyOf bytes) (carriedFirst (policyOf bytes)) ((startOf bytes shadow map exclusion) .guard) (firstPage (policyOf bytes)) calls
     by-number zero e =
         let guard : (startOf bytes shadow map exclusion) .guard ≡ startGuard (policyOf bytes) = ap (λ (o : Outcome). o .guard) (settle-accepted _ _ e) in

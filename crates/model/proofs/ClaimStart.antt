@@ -13,10 +13,10 @@ use Rattle.model.specs.Edges.{both, either, pagesInRange, framesInRange,
 use Rattle.model.specs.Keeps.{none, vectorBytes, excludedIn, flag, byteOf, vectorOf, inUser, running}
 use Rattle.model.specs.Policy.{Policy, policyOf, frameFor, approvalFor, named, firstEntry, startState, startGuard}
 use Rattle.model.specs.Bits.{approved}
-use Rattle.model.specs.Questions.{firstNo, startAsks, rising}
+use Rattle.model.specs.Questions.{firstNo, startQuestions, rising}
 use Rattle.model.specs.OnePage.{Page, placeIn, firstPage}
 use Rattle.model.specs.Claim.{carriedFirst}
-use Rattle.model.proofs.AskLaws.{both-first, both-second, within-yes}
+use Rattle.model.proofs.QuestionLaws.{both-first, both-second, within-yes}
 use Rattle.model.proofs.TableLaws.{length-table, getD-table}
 use Rattle.model.proofs.PolicyLaws.{Passed, start-passed, length-numbersAt, allBelow-getD, allBelow-member, member-here, member-there, member-later, frameFor-unlisted, frameFor-member}
 use Rattle.model.proofs.VectorLaws.{byteOf-bit, byteOf-ext, vectorOf-length}
@@ -94,7 +94,7 @@ frameFor-placed pages least (p ∷ ps) (f ∷ fs) page other same up there =
     at true e rest = rw e (frameFor-unlisted ps fs page f (rising-unlisted pages (suc p) ps page later (omega (arith, eqb-true page p e))))
     at false e rest = rw e (rest (sym (member-there page p ps e) ∙ there))
 
-module _ (bytes : List ℕ) (s m x : ℕ) (accepted : firstNo (startAsks bytes (policyOf bytes) s m x) ≡ 0) where
+module _ (bytes : List ℕ) (s m x : ℕ) (accepted : firstNo (startQuestions bytes (policyOf bytes) s m x) ≡ 0) where
   abbrev policy : Policy
   policy = policyOf bytes
 

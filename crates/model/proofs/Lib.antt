@@ -1,5 +1,5 @@
 -- Laws about the definitions, each stated once. Code crates cite them.
-pub mod AskLaws
+pub mod QuestionLaws
 pub mod BitLaws
 pub mod TableLaws
 pub mod PolicyLaws
@@ -11,7 +11,7 @@ pub mod RunLaws
 pub mod SwitchLaws
 pub mod ClaimPages
 pub mod ClaimKept
-pub mod ClaimAsks
+pub mod ClaimQuestions
 pub mod ClaimCalls
 pub mod ClaimSafe
 pub mod ClaimStart

@@ -13,8 +13,8 @@ use borrow.Author.Tests.{ltb-true, lt-ltb, le-ltb, le-leb, lt-leb, eqb-true, eq-
 use Rattle.model.specs.Edges.{both, either, within, pagesInRange, framesInRange, member}
 use Rattle.model.specs.Keeps.{vectorBytes}
 use Rattle.model.specs.Policy.{Policy, numberAt, numbersAt, frameFor}
-use Rattle.model.specs.Questions.{firstNo, sizesInRange, countsInRange, rising, allBelow, inOrder, startAsks}
-use Rattle.model.proofs.AskLaws.{either-second, both-yes, both-no, both-no-after, both-first, both-second, within-low, within-high, asked, numbered, all-yes}
+use Rattle.model.specs.Questions.{firstNo, sizesInRange, countsInRange, rising, allBelow, inOrder, startQuestions}
+use Rattle.model.proofs.QuestionLaws.{either-second, both-yes, both-no, both-no-after, both-first, both-second, within-low, within-high, asked, numbered, all-yes}
 
 -- Numbers in a row: none, one more at the front, how many, and each of them.
 pub numbersAt-none : (bytes : List ℕ) (at : ℕ) {left : ℕ} → left ≡ 0 → numbersAt bytes at left ≡ []
@@ -181,13 +181,13 @@ pub record Passed (policy : Policy) (shadow map exclusion : ℕ) : Type 0 where
   pub map-fits : map ≡ policy .pages
   pub exclusion-fits : exclusion ≡ vectorBytes (policy .frames)
 
-module _ (bytes : List ℕ) (policy : Policy) (shadow map exclusion : ℕ) (h : firstNo (startAsks bytes policy shadow map exclusion) ≡ 0) where
-  answered : (n : ℕ) → asked n (startAsks bytes policy shadow map exclusion) ≡ true
-  unfolding startAsks numbered both
-  answered n = all-yes n (startAsks bytes policy shadow map exclusion) refl h
+module _ (bytes : List ℕ) (policy : Policy) (shadow map exclusion : ℕ) (h : firstNo (startQuestions bytes policy shadow map exclusion) ≡ 0) where
+  answered : (n : ℕ) → asked n (startQuestions bytes policy shadow map exclusion) ≡ true
+  unfolding startQuestions numbered both
+  answered n = all-yes n (startQuestions bytes policy shadow map exclusion) refl h
 
   sizes-yes : sizesInRange policy ≡ true
-  unfolding startAsks asked both either
+  unfolding startQuestions asked both either
   sizes-yes = both-first (sizesInRange policy) true (answered 2)
 
   pages-yes : pagesInRange (policy .pages) ≡ true
@@ -199,7 +199,7 @@ module _ (bytes : List ℕ) (policy : Policy) (shadow map exclusion : ℕ) (h : 
   frames-yes = both-second (pagesInRange (policy .pages)) (framesInRange (policy .frames)) sizes-yes
 
   counts-yes : countsInRange policy ≡ true
-  unfolding startAsks asked both either
+  unfolding startQuestions asked both either
   counts-yes = both-first (countsInRange policy) true (answered 3)
 
   count-yes : within 1 (policy .pages) (policy .count) ≡ true
@@ -211,15 +211,15 @@ module _ (bytes : List ℕ) (policy : Policy) (shadow map exclusion : ℕ) (h : 
   entries-yes = both-second (within 1 (policy .pages) (policy .count)) (within 1 (min (policy .count) 16) (policy .entries)) counts-yes
 
   rises-yes : rising (policy .pages) 0 (policy .listed) ≡ true
-  unfolding startAsks asked both either
+  unfolding startQuestions asked both either
   rises-yes = both-first (rising (policy .pages) 0 (policy .listed)) true (answered 5)
 
   below-yes : allBelow (policy .frames) (policy .backing) ≡ true
-  unfolding startAsks asked both either
+  unfolding startQuestions asked both either
   below-yes = both-first (allBelow (policy .frames) (policy .backing)) true (answered 6)
 
   lengths-yes : both (eqb shadow (policy .pages)) (both (eqb map (policy .pages)) (both (eqb exclusion (vectorBytes (policy .frames))) true)) ≡ true
-  unfolding startAsks asked both either inOrder
+  unfolding startQuestions asked both either inOrder
   lengths-yes = both-first _ true (answered 7)
 
   pub start-passed : Passed policy shadow map exclusion

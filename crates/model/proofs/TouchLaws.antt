@@ -7,7 +7,7 @@ use borrow.Author.Tests.{leb-true, leb-false, le-leb, lt-leb, le-ltb, eqb-true, 
 use native.Mathlib.Omega.{arith}
 use Rattle.model.specs.Edges.{both, within, everyFrom, lastByte, lastPage, touched}
 use Rattle.model.specs.Questions.{everyTouched}
-use Rattle.model.proofs.AskLaws.{both-first, both-second, both-no, within-low, within-high}
+use Rattle.model.proofs.QuestionLaws.{both-first, both-second, both-no, within-low, within-high}
 
 -- Two tests that hold of the same numbers. `ltb a b` is `leb (suc a) b`.
 pub same-test : (a b c d : ℕ) → (a ≤ b → c ≤ d) → (b < a → d < c) → leb a b ≡ leb c d

@@ -14,7 +14,7 @@ use Rattle.model.specs.Keeps.{none, Guard, excludedIn, inUser, modeOf, i
 use Rattle.model.specs.Policy.{Policy, policyOf, startGuard, zeroState}
 use Rattle.model.specs.Bits.{frameOf}
 use Rattle.model.specs.Sync.{Rules, Place, step, differs, Run, runOver, switchedAll, changes}
-use Rattle.model.specs.Questions.{Ask, firstNo, seen, startAsks, syncPageAsks, syncAllAsks, fetchAsks, writeAsks, enterAsks, leaveAsks, deviceWriteAsks}
+use Rattle.model.specs.Questions.{Question, firstNo, seen, startQuestions, syncPageQuestions, syncAllQuestions, fetchQuestions, writeQuestions, enterQuestions, leaveQuestions, deviceWriteQuestions}
 
 -- Whether a call was accepted; the number of the question that refused it, or 0; and the call's two numbers.
 pub record Reply : Type 0 where
@@ -70,11 +70,16 @@ pub record Outcome : Type 0 where
   pub reply : Reply
   pub guard : Guard
 
+-- What a call gave, with all three tables that it left, in that form.
+unfoldable pub outcomeBy : Called → List ℕ → List ℕ → List ℕ → Outcome
+outcomeBy r shadow map exclusion =
+    record { reply = replyOf (r .answer); guard = record { state = r .state; shadow = shadow; map = map; exclusion = exclusion } }
+
 -- "Start: n and e." A refused start leaves every lent table as it was.
 unfoldable pub startOf : List ℕ → List ℕ → List ℕ → List ℕ → Outcome
 startOf bytes shadow map exclusion =
     let policy : Policy = policyOf bytes in
-    settle (firstNo (startAsks bytes policy (length shadow) (length map) (length exclusion)))
+    settle (firstNo (startQuestions bytes policy (length shadow) (length map) (length exclusion)))
     (record { reply = accepted (policy .count) (policy .entries); guard = startGuard policy })
     (λ n. record { reply = refused n; guard = record { state = zeroState; shadow = shadow; map = map; exclusion = exclusion } })
 
@@ -93,7 +98,7 @@ pageSynced shadow map page p =
 
 unfoldable pub syncPageOf : State → List ℕ → List ℕ → List ℕ → List ℕ → ℕ → Synced
 syncPageOf s kernel shadow map exclusion page =
-    settle (firstNo (syncPageAsks (seen s shadow map exclusion) (length kernel) page))
+    settle (firstNo (syncPageQuestions (seen s shadow map exclusion) (length kernel) page))
     (pageSynced shadow map page (step (rulesOf s exclusion) (getD kernel page 0) (getD map page none)))
     (λ n. record { reply = refused n; shadow = shadow; map = map })
 
@@ -103,7 +108,7 @@ allSynced r = record { reply = accepted (r .changed) (r .joined); shadow = r .sh
 
 unfoldable pub syncAllOf : State → List ℕ → List ℕ → List ℕ → List ℕ → Synced
 syncAllOf s kernel shadow map exclusion =
-    settle (firstNo (syncAllAsks (seen s shadow map exclusion) (length kernel)))
+    settle (firstNo (syncAllQuestions (seen s shadow map exclusion) (length kernel)))
     (allSynced (runOver (step (rulesOf s exclusion)) kernel shadow map))
     (λ n. record { reply = refused n; shadow = shadow; map = map })
 
@@ -111,14 +116,14 @@ syncAllOf s kernel shadow map exclusion =
 unfoldable pub fetchOf : State → List ℕ → ℕ → Moved
 fetchOf s shadow page =
     let frame : ℕ = frameOf (getD shadow page 0) in
-    settle (firstNo (fetchAsks (seen s shadow [] []) page))
+    settle (firstNo (fetchQuestions (seen s shadow [] []) page))
     (record { reply = accepted frame frame; state = inMode s (modeOf (inUser (s .mode)) page) })
     (λ n. record { reply = refused n; state = s })
 
 -- "Write at an address, 1 to 16 bytes: first and last frame."
 unfoldable pub writeOf : State → List ℕ → List ℕ → ℕ → ℕ → Reply
 writeOf s shadow exclusion address length =
-    settle (firstNo (writeAsks (seen s shadow [] exclusion) address length))
+    settle (firstNo (writeQuestions (seen s shadow [] exclusion) address length))
     (accepted (frameOf (getD shadow (address / pageBytes) 0)) (frameOf (getD shadow (lastPage address length) 0)))
     refused
 
@@ -130,16 +135,16 @@ switchTo s shadow mode =
 
 unfoldable pub enterOf : State → List ℕ → ℕ → Switched
 enterOf s shadow index =
-    settle (firstNo (enterAsks (seen s shadow [] []) index)) (switchTo s shadow (Kernel (getD (s .entry) index 0)))
+    settle (firstNo (enterQuestions (seen s shadow [] []) index)) (switchTo s shadow (Kernel (getD (s .entry) index 0)))
     (λ n. record { reply = refused n; state = s; shadow = shadow })
 
 unfoldable pub leaveOf : State → List ℕ → ℕ → Switched
 leaveOf s shadow page =
-    settle (firstNo (leaveAsks (seen s shadow [] []) page)) (switchTo s shadow (User page))
+    settle (firstNo (leaveQuestions (seen s shadow [] []) page)) (switchTo s shadow (User page))
     (λ n. record { reply = refused n; state = s; shadow = shadow })
 
 -- "Device write at an address, 1 to 1,048,576 bytes: first and last frame."
 unfoldable pub deviceWriteOf : State → List ℕ → ℕ → ℕ → Reply
 deviceWriteOf s exclusion address length =
-    settle (firstNo (deviceWriteAsks (seen s [] [] exclusion) address length)) (accepted (address / pageBytes) (lastPage address length))
+    settle (firstNo (deviceWriteQuestions (seen s [] [] exclusion) address length)) (accepted (address / pageBytes) (lastPage address length))
     refused

@@ -9,7 +9,7 @@ use Rattle.model.specs.declared.Mode.{Mode}
 use Rattle.model.specs.Edges.{within}
 use Rattle.model.specs.Keeps.{Guard, vectorBytes, excludedIn, inUser, running}
 use Rattle.model.specs.Policy.{Policy, policyOf, numberAt}
-use Rattle.model.specs.Questions.{Ask, ask, firstNo}
+use Rattle.model.specs.Questions.{Question, question, firstNo}
 use Rattle.model.specs.Calls.{Reply, accepted, refused, settle, Outcome, startOf}
 use Rattle.model.specs.Lists.{Call, syncPage, syncAll, fetch, write, enter, leave, deviceWrite, answer}
 
@@ -56,7 +56,7 @@ withGuard d outcome = record { reply = outcome .reply; drill = record { guard = 
 -- "0 edit the kernel table (index, value; question 9)". "An accepted edit gives 0 and 0."
 unfoldable pub edited : Drill → ℕ → ℕ → Drilled
 edited d page value =
-    settle (firstNo (ask 9 (ltb page (d .guard .state .pages)) ∷ []))
+    settle (firstNo (question 9 (ltb page (d .guard .state .pages)) ∷ []))
     (record { reply = accepted 0 0; drill = record { guard = d .guard; kernel = set (d .kernel) page value } })
     (λ n. record { reply = refused n; drill = d })
 
@@ -111,7 +111,7 @@ unfoldable pub turn : Drill → List ℕ → Turn
 turn d [] = record { drill = d; line = []; goes = false }
 turn d (kind ∷ rest) =
     let bytes : List ℕ = kind ∷ rest in
-    settle (firstNo (ask 14 (eqb (length bytes) 16) ∷ ask 15 (ltb kind 8) ∷ []))
+    settle (firstNo (question 14 (eqb (length bytes) 16) ∷ question 15 (ltb kind 8) ∷ []))
     (turnOf kind (performed d kind (indexOf bytes) (lengthOf bytes) (valueOf bytes)))
     (λ n. record { drill = d; line = line 88 (refused n) (d .guard .state .mode); goes = false })
 

@@ -10,7 +10,7 @@ use Rattle.model.specs.Keeps.{none, Guard}
 use Rattle.model.specs.Policy.{Policy, named, entryPages}
 use Rattle.model.specs.Bits.{approved, switched}
 use Rattle.model.specs.Sync.{Place, step}
-use Rattle.model.specs.Questions.{View, firstNo, syncPageAsks, syncAllAsks, fetchAsks, writeAsks, enterAsks, leaveAsks, deviceWriteAsks}
+use Rattle.model.specs.Questions.{View, firstNo, syncPageQuestions, syncAllQuestions, fetchQuestions, writeQuestions, enterQuestions, leaveQuestions, deviceWriteQuestions}
 use Rattle.model.specs.Calls.{settle}
 use Rattle.model.specs.Lists.{Call, syncPage, syncAll, fetch, write, enter, leave, deviceWrite}
 
@@ -98,13 +98,13 @@ seenBy policy ps =
 -- entries, approvals and excluded frames of the one-page guards". "Only what else a later request asks about is read from the state and
 -- tables that reach the call": the last guard argument, of which the base reads nothing.
 unfoldable pub settled : Policy → (ℕ → Page) → Guard → Call → ℕ
-settled policy ps reaching (syncPage kernel page) = firstNo (syncPageAsks (seenBy policy ps) (length kernel) page)
-settled policy ps reaching (syncAll kernel) = firstNo (syncAllAsks (seenBy policy ps) (length kernel))
-settled policy ps reaching (fetch page) = firstNo (fetchAsks (seenBy policy ps) page)
-settled policy ps reaching (write address length) = firstNo (writeAsks (seenBy policy ps) address length)
-settled policy ps reaching (enter index) = firstNo (enterAsks (seenBy policy ps) index)
-settled policy ps reaching (leave page) = firstNo (leaveAsks (seenBy policy ps) page)
-settled policy ps reaching (deviceWrite address length) = firstNo (deviceWriteAsks (seenBy policy ps) address length)
+settled policy ps reaching (syncPage kernel page) = firstNo (syncPageQuestions (seenBy policy ps) (length kernel) page)
+settled policy ps reaching (syncAll kernel) = firstNo (syncAllQuestions (seenBy policy ps) (length kernel))
+settled policy ps reaching (fetch page) = firstNo (fetchQuestions (seenBy policy ps) page)
+settled policy ps reaching (write address length) = firstNo (writeQuestions (seenBy policy ps) address length)
+settled policy ps reaching (enter index) = firstNo (enterQuestions (seenBy policy ps) index)
+settled policy ps reaching (leave page) = firstNo (leaveQuestions (seenBy policy ps) page)
+settled policy ps reaching (deviceWrite address length) = firstNo (deviceWriteQuestions (seenBy policy ps) address length)
 
 -- The one-page guards after a call that was settled with this number: told of it if it was accepted. "any refused call: no change"
 unfoldable pub pagesAfter : Policy → ℕ → Call → (ℕ → Page) → ℕ → Page

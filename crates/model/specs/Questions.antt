@@ -11,15 +11,15 @@ use Rattle.model.specs.Policy.{Policy}
 use Rattle.model.specs.Bits.{present, writable, userBit, noExecute, kernelNoExecute, approvedMark, frameOf}
 
 -- A question with its number, and whether its answer is yes.
-pub record Ask : Type 0 where
+pub record Question : Type 0 where
   pub number : ℕ
   pub holds : Bool
 
-abbrev pub ask : ℕ → Bool → Ask
-ask number holds = record { number = number; holds = holds }
+abbrev pub question : ℕ → Bool → Question
+question number holds = record { number = number; holds = holds }
 
 -- "Each call goes down the list [..]. The first no gives its number": 0 where every answer is yes.
-unfoldable pub firstNo : List Ask → ℕ
+unfoldable pub firstNo : List Question → ℕ
 firstNo [] = 0
 firstNo (q ∷ qs) = cond (q .holds) (firstNo qs) (q .number)
 
@@ -91,39 +91,39 @@ inOrder stateFits [] = stateFits
 inOrder stateFits (fits ∷ lent) = both fits (inOrder stateFits lent)
 
 -- The questions of the start. Its question 7 goes "by the record's V and F", and there is no state yet.
-unfoldable pub startAsks : List ℕ → Policy → ℕ → ℕ → ℕ → List Ask
-startAsks bytes policy shadowLength mapLength exclusionLength =
-    ask 1 (leb 8 (length bytes))
-    ∷ ask 2 (sizesInRange policy)
-    ∷ ask 3 (countsInRange policy)
-    ∷ ask 4 (eqb (length bytes) (8 + 4 * policy .count))
-    ∷ ask 5 (rising (policy .pages) 0 (policy .listed))
-    ∷ ask 6 (allBelow (policy .frames) (policy .backing))
-    ∷ ask 7 (inOrder true (eqb shadowLength (policy .pages) ∷ eqb mapLength (policy .pages) ∷ eqb exclusionLength (vectorBytes (policy .frames)) ∷ []))
+unfoldable pub startQuestions : List ℕ → Policy → ℕ → ℕ → ℕ → List Question
+startQuestions bytes policy shadowLength mapLength exclusionLength =
+    question 1 (leb 8 (length bytes))
+    ∷ question 2 (sizesInRange policy)
+    ∷ question 3 (countsInRange policy)
+    ∷ question 4 (eqb (length bytes) (8 + 4 * policy .count))
+    ∷ question 5 (rising (policy .pages) 0 (policy .listed))
+    ∷ question 6 (allBelow (policy .frames) (policy .backing))
+    ∷ question 7 (inOrder true (eqb shadowLength (policy .pages) ∷ eqb mapLength (policy .pages) ∷ eqb exclusionLength (vectorBytes (policy .frames)) ∷ []))
     ∷ []
 
 -- Synchronise all: the kernel table is lent too, and has a length of its own.
-unfoldable pub syncAllAsks : View → ℕ → List Ask
-syncAllAsks v kernelLength =
-    ask 7 (inOrder (v .stateFits) (eqb kernelLength (v .pages) ∷ v .shadowFits ∷ v .mapFits ∷ v .exclusionFits ∷ [])) ∷ []
+unfoldable pub syncAllQuestions : View → ℕ → List Question
+syncAllQuestions v kernelLength =
+    question 7 (inOrder (v .stateFits) (eqb kernelLength (v .pages) ∷ v .shadowFits ∷ v .mapFits ∷ v .exclusionFits ∷ [])) ∷ []
 
 -- Synchronise one: "page below V" besides.
-unfoldable pub syncPageAsks : View → ℕ → ℕ → List Ask
-syncPageAsks v kernelLength page =
-    ask 7 (inOrder (v .stateFits) (eqb kernelLength (v .pages) ∷ v .shadowFits ∷ v .mapFits ∷ v .exclusionFits ∷ []))
-    ∷ ask 9 (ltb page (v .pages))
+unfoldable pub syncPageQuestions : View → ℕ → ℕ → List Question
+syncPageQuestions v kernelLength page =
+    question 7 (inOrder (v .stateFits) (eqb kernelLength (v .pages) ∷ v .shadowFits ∷ v .mapFits ∷ v .exclusionFits ∷ []))
+    ∷ question 9 (ltb page (v .pages))
     ∷ []
 
 -- Fetch: "Needs bit 63 clear and, in user mode, bit 2."
 unfoldable pub fetchPermitted : Bool → ℕ → Bool
 fetchPermitted user entry = both (not (noExecute entry)) (either (not user) (userBit entry))
 
-unfoldable pub fetchAsks : View → ℕ → List Ask
-fetchAsks v page =
-    ask 7 (inOrder (v .stateFits) (v .shadowFits ∷ []))
-    ∷ ask 9 (ltb page (v .pages))
-    ∷ ask 11 (present (v .shadow page))
-    ∷ ask 12 (fetchPermitted (v .user) (v .shadow page))
+unfoldable pub fetchQuestions : View → ℕ → List Question
+fetchQuestions v page =
+    question 7 (inOrder (v .stateFits) (v .shadowFits ∷ []))
+    ∷ question 9 (ltb page (v .pages))
+    ∷ question 11 (present (v .shadow page))
+    ∷ question 12 (fetchPermitted (v .user) (v .shadow page))
     ∷ []
 
 -- Write: "Every touched page needs bit 1 and, in user mode, bit 2."
@@ -138,45 +138,45 @@ free v f = both (ltb f (v .frames)) (not (v .excluded f))
 unfoldable pub everyTouched : (ℕ → Bool) → ℕ → ℕ → Bool
 everyTouched test address length = everyFrom test (address / pageBytes) (touched address length)
 
-unfoldable pub writeAsks : View → ℕ → ℕ → List Ask
-writeAsks v address length =
-    ask 7 (inOrder (v .stateFits) (v .shadowFits ∷ v .exclusionFits ∷ []))
-    ∷ ask 8 (within 1 16 length)
-    ∷ ask 9 (ltb (lastPage address length) (v .pages))
-    ∷ ask 11 (everyTouched (λ p. present (v .shadow p)) address length)
-    ∷ ask 12 (everyTouched (λ p. writePermitted (v .user) (v .shadow p)) address length)
-    ∷ ask 13 (everyTouched (λ p. free v (frameOf (v .shadow p))) address length)
+unfoldable pub writeQuestions : View → ℕ → ℕ → List Question
+writeQuestions v address length =
+    question 7 (inOrder (v .stateFits) (v .shadowFits ∷ v .exclusionFits ∷ []))
+    ∷ question 8 (within 1 16 length)
+    ∷ question 9 (ltb (lastPage address length) (v .pages))
+    ∷ question 11 (everyTouched (λ p. present (v .shadow p)) address length)
+    ∷ question 12 (everyTouched (λ p. writePermitted (v .user) (v .shadow p)) address length)
+    ∷ question 13 (everyTouched (λ p. free v (frameOf (v .shadow p))) address length)
     ∷ []
 
 -- Enter by entry index: "entry index below e with its page below V"; "user to enter"; "the page needs bit 10".
 -- Question 12 is source 001's slide "Checking Entry Pointers": the page of an entry must translate to approved code.
-unfoldable pub enterAsks : View → ℕ → List Ask
-enterAsks v index =
-    ask 7 (inOrder (v .stateFits) (v .shadowFits ∷ []))
-    ∷ ask 9 (both (ltb index (v .entries)) (ltb (v .entry index) (v .pages)))
-    ∷ ask 10 (v .user)
-    ∷ ask 11 (present (v .shadow (v .entry index)))
-    ∷ ask 12 (approvedMark (v .shadow (v .entry index)))
+unfoldable pub enterQuestions : View → ℕ → List Question
+enterQuestions v index =
+    question 7 (inOrder (v .stateFits) (v .shadowFits ∷ []))
+    ∷ question 9 (both (ltb index (v .entries)) (ltb (v .entry index) (v .pages)))
+    ∷ question 10 (v .user)
+    ∷ question 11 (present (v .shadow (v .entry index)))
+    ∷ question 12 (approvedMark (v .shadow (v .entry index)))
     ∷ []
 
 -- Leave to a page: "kernel to leave"; "it needs bit 2 set and bit 9 clear".
 unfoldable pub leavePermitted : ℕ → Bool
 leavePermitted entry = both (userBit entry) (not (kernelNoExecute entry))
 
-unfoldable pub leaveAsks : View → ℕ → List Ask
-leaveAsks v page =
-    ask 7 (inOrder (v .stateFits) (v .shadowFits ∷ []))
-    ∷ ask 9 (ltb page (v .pages))
-    ∷ ask 10 (not (v .user))
-    ∷ ask 11 (present (v .shadow page))
-    ∷ ask 12 (leavePermitted (v .shadow page))
+unfoldable pub leaveQuestions : View → ℕ → List Question
+leaveQuestions v page =
+    question 7 (inOrder (v .stateFits) (v .shadowFits ∷ []))
+    ∷ question 9 (ltb page (v .pages))
+    ∷ question 10 (not (v .user))
+    ∷ question 11 (present (v .shadow page))
+    ∷ question 12 (leavePermitted (v .shadow page))
     ∷ []
 
 -- Device write: "last transfer byte below F × 4,096"; the frames that it touches are numbered by its addresses.
-unfoldable pub deviceWriteAsks : View → ℕ → ℕ → List Ask
-deviceWriteAsks v address length =
-    ask 7 (inOrder (v .stateFits) (v .exclusionFits ∷ []))
-    ∷ ask 8 (within 1 1048576 length)
-    ∷ ask 9 (ltb (lastByte address length) (v .frames * pageBytes))
-    ∷ ask 13 (everyTouched (free v) address length)
+unfoldable pub deviceWriteQuestions : View → ℕ → ℕ → List Question
+deviceWriteQuestions v address length =
+    question 7 (inOrder (v .stateFits) (v .exclusionFits ∷ []))
+    ∷ question 8 (within 1 1048576 length)
+    ∷ question 9 (ltb (lastByte address length) (v .frames * pageBytes))
+    ∷ question 13 (everyTouched (free v) address length)
     ∷ []

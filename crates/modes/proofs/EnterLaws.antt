@@ -13,15 +13,15 @@ use Rattle.model.specs.declared.Answer.the-variants.{Done, Refused}
 use Rattle.model.specs.Edges.{both}
 use Rattle.model.specs.Keeps.{inUser, inMode}
 use Rattle.model.specs.Sync.{switchedAll, changes}
-use Rattle.model.specs.Questions.{firstNo, seen, stateInOrder, inOrder, enterAsks}
+use Rattle.model.specs.Questions.{firstNo, seen, stateInOrder, inOrder, enterQuestions}
 use Rattle.model.specs.Calls.{replyOf, switchedBy, switchTo, enterOf}
-use Rattle.model.proofs.AskLaws.{both-second, settle-accepted}
+use Rattle.model.proofs.QuestionLaws.{both-second, settle-accepted}
 use Rattle.model.proofs.CallLaws.{passed, stopped, settle-refused-by, shadow-long}
-use Rattle.modes.specs.Switches.{switchPermitted, switchAsks}
+use Rattle.modes.specs.Switches.{switchPermitted, switchQuestions}
 
 module _ (s : State) (shadow : List ℕ) (index : ℕ) (r7 : Bool) (e7 : r7 ≡ inOrder (stateInOrder s) (eqb (length shadow) (s .pages) ∷ [])) where
   pub enter-unfit : not r7 ≡ true → switchedBy (record { answer = Refused 7; state = s }) shadow ≡ enterOf s shadow index
-  unfolding switchedBy replyOf enterOf enterAsks
+  unfolding switchedBy replyOf enterOf enterQuestions
   enter-unfit n = sym (settle-refused-by 7 _ _ (λ z. omega arith) (sym (stopped 7 r7 _ _ e7 n)))
 
   module _ (y7 : not r7 ≡ false) (exists : Bool) (e9 : exists ≡ both (ltb index (s .entries)) (ltb (getD (s .entry) index 0) (s .pages)))
@@ -33,9 +33,9 @@ module _ (s : State) (shadow : List ℕ) (index : ℕ) (r7 : Bool) (e7 : r7 ≡ 
         omega arith
 
     module _ (user : Bool) (u : user ≡ inUser (s .mode)) (number : ℕ)
-        (e : number ≡ firstNo (switchAsks exists user true (getD shadow page 0))) where
-      enter-number : number ≡ firstNo (enterAsks (seen s shadow [] []) index)
-      unfolding enterAsks switchAsks switchPermitted
+        (e : number ≡ firstNo (switchQuestions exists user true (getD shadow page 0))) where
+      enter-number : number ≡ firstNo (enterQuestions (seen s shadow [] []) index)
+      unfolding enterQuestions switchQuestions switchPermitted
       enter-number = passed 7 number r7 _ _ e7 y7 (rw (e9, u, p) at e)
 
       pub enter-refused : (number ≡ 0 → ⊥) → switchedBy (record { answer = Refused number; state = s }) shadow ≡ enterOf s shadow index

@@ -13,15 +13,15 @@ use Rattle.model.specs.declared.Answer.the-variants.{Done, Refused}
 use Rattle.model.specs.Edges.{both, either}
 use Rattle.model.specs.Keeps.{inUser, inMode}
 use Rattle.model.specs.Sync.{switchedAll, changes}
-use Rattle.model.specs.Questions.{firstNo, seen, stateInOrder, inOrder, leaveAsks}
+use Rattle.model.specs.Questions.{firstNo, seen, stateInOrder, inOrder, leaveQuestions}
 use Rattle.model.specs.Calls.{replyOf, switchedBy, switchTo, leaveOf}
-use Rattle.model.proofs.AskLaws.{both-first, both-second, asked, numbered, all-yes, settle-accepted}
+use Rattle.model.proofs.QuestionLaws.{both-first, both-second, asked, numbered, all-yes, settle-accepted}
 use Rattle.model.proofs.CallLaws.{passed, stopped, settle-refused-by, pages-few, shadow-long}
-use Rattle.modes.specs.Switches.{switchPermitted, switchAsks}
+use Rattle.modes.specs.Switches.{switchPermitted, switchQuestions}
 
 module _ (s : State) (shadow : List ℕ) (page : ℕ) (r7 : Bool) (e7 : r7 ≡ inOrder (stateInOrder s) (eqb (length shadow) (s .pages) ∷ [])) where
   pub leave-unfit : not r7 ≡ true → switchedBy (record { answer = Refused 7; state = s }) shadow ≡ leaveOf s shadow page
-  unfolding switchedBy replyOf leaveOf leaveAsks
+  unfolding switchedBy replyOf leaveOf leaveQuestions
   leave-unfit n = sym (settle-refused-by 7 _ _ (λ z. omega arith) (sym (stopped 7 r7 _ _ e7 n)))
 
   module _ (y7 : not r7 ≡ false) (exists : Bool) (e9 : exists ≡ ltb page (s .pages)) where
@@ -36,9 +36,9 @@ module _ (s : State) (shadow : List ℕ) (page : ℕ) (r7 : Bool) (e7 : r7 ≡ i
     few = pages-few s (both-second _ _ (sym e7 ∙ not-false r7 y7))
 
     module _ (user : Bool) (u : user ≡ inUser (s .mode)) (number : ℕ)
-        (e : number ≡ firstNo (switchAsks exists (not user) false (getD shadow page 0))) where
-      leave-number : number ≡ firstNo (leaveAsks (seen s shadow [] []) page)
-      unfolding leaveAsks switchAsks switchPermitted
+        (e : number ≡ firstNo (switchQuestions exists (not user) false (getD shadow page 0))) where
+      leave-number : number ≡ firstNo (leaveQuestions (seen s shadow [] []) page)
+      unfolding leaveQuestions switchQuestions switchPermitted
       leave-number = passed 7 number r7 _ _ e7 y7 (rw (e9, u) at e)
 
       pub leave-refused : (number ≡ 0 → ⊥) → switchedBy (record { answer = Refused number; state = s }) shadow ≡ leaveOf s shadow page
@@ -47,10 +47,10 @@ module _ (s : State) (shadow : List ℕ) (page : ℕ) (r7 : Bool) (e7 : r7 ≡ i
 
       -- The page of an accepted leave is below V, and so fits its 16 bits.
       left-below : number ≡ 0 → page < s .pages
-      unfolding switchAsks asked numbered both either
+      unfolding switchQuestions asked numbered both either
       left-below z =
           ltb-true page (s .pages)
-          (sym e9 ∙ both-first _ _ (all-yes 9 (switchAsks exists (not user) false (getD shadow page 0)) refl (sym e ∙ z)))
+          (sym e9 ∙ both-first _ _ (all-yes 9 (switchQuestions exists (not user) false (getD shadow page 0)) refl (sym e ∙ z)))
 
       pub leave-accepted : number ≡ 0 → (after : List ℕ) (changed : ℕ) (t : State) → after ≡ switchedAll true shadow
           → changed ≡ changes shadow (switchedAll true shadow) → t ≡ inMode s (User (page % 65536))

@@ -1,5 +1,5 @@
 -- Laws that the proofs of this crate cite.
 pub mod TableLaws
-pub mod SwitchAskLaws
+pub mod SwitchQuestionLaws
 pub mod EnterLaws
 pub mod LeaveLaws

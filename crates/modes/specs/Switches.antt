@@ -4,11 +4,11 @@ use Prim.Native.Nat.{ℕ}
 use mathlib.Core.Bool.{Bool, cond}
 use mathlib.Core.List.{List, [], _∷_}
 use Rattle.model.specs.Bits.{present, approvedMark}
-use Rattle.model.specs.Questions.{Ask, ask, leavePermitted}
+use Rattle.model.specs.Questions.{Question, question, leavePermitted}
 
 unfoldable pub switchPermitted : Bool → ℕ → Bool
 switchPermitted enters entry = cond enters (approvedMark entry) (leavePermitted entry)
 
-unfoldable pub switchAsks : Bool → Bool → Bool → ℕ → List Ask
-switchAsks exists suits enters entry =
-    ask 9 exists ∷ ask 10 suits ∷ ask 11 (present entry) ∷ ask 12 (switchPermitted enters entry) ∷ []
+unfoldable pub switchQuestions : Bool → Bool → Bool → ℕ → List Question
+switchQuestions exists suits enters entry =
+    question 9 exists ∷ question 10 suits ∷ question 11 (present entry) ∷ question 12 (switchPermitted enters entry) ∷ []

@@ -9,7 +9,7 @@ ghost use Rattle.model.specs.Sync;
 ghost use Rattle.model.specs.Sync.{switchedAll};
 ghost use Rattle.model.specs.Questions.{firstNo, leavePermitted};
 ghost use Rattle.model.specs.Calls.{switchedBy, enterOf, leaveOf};
-ghost use Rattle.modes.specs.Switches.{switchPermitted, switchAsks};
+ghost use Rattle.modes.specs.Switches.{switchPermitted, switchQuestions};
 use model::Answer;
 use model::Called;
 use model::Mode;
@@ -54,7 +54,7 @@ fn permitted(enters: bool, entry: u64) -> bool
 // It asks for what question 7 has settled of a page that exists.
 fn refusal(exists: bool, suits: bool, enters: bool, shadow: &[u64], page: u64) -> u64
     requires { ⌜ (exists ≡ true → page < length (now shadow)) ⌝ }
-    ensures { λ r. ⌜ r ≡ firstNo (switchAsks exists suits enters (getD (now (shadow .entry)) page 0)) ⌝ }
+    ensures { λ r. ⌜ r ≡ firstNo (switchQuestions exists suits enters (getD (now (shadow .entry)) page 0)) ⌝ }
 {
     if !exists {
         return 9;

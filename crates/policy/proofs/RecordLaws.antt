@@ -11,10 +11,10 @@ use borrow.Author.Tests.{not-true, not-false, le-leb, lt-leb, eq-eqb, ne-eqb, eq
 use Rattle.model.specs.Edges.{both, either, within, pagesInRange, framesInRange}
 use Rattle.model.specs.Keeps.{vectorBytes}
 use Rattle.model.specs.Policy.{numberAt, numbersAt, policyOf}
-use Rattle.model.specs.Questions.{Ask, ask, firstNo, sizesInRange, countsInRange, rising, allBelow, inOrder, startAsks}
-use Rattle.model.proofs.AskLaws.{both-first, both-second, firstNo-yes, firstNo-no, asked, numbered, all-yes}
+use Rattle.model.specs.Questions.{Question, question, firstNo, sizesInRange, countsInRange, rising, allBelow, inOrder, startQuestions}
+use Rattle.model.proofs.QuestionLaws.{both-first, both-second, firstNo-yes, firstNo-no, asked, numbered, all-yes}
 use Rattle.model.proofs.PolicyLaws.{numbersAt-none, numbersAt-more, rising-none, rising-more, rising-low, rising-high, allBelow-none, allBelow-more, allBelow-no}
-use Rattle.policy.specs.Record.{recordAsks}
+use Rattle.policy.specs.Record.{recordQuestions}
 
 -- A number past the end, one whose second byte is, and one inside.
 pub number-none : (bytes : List ℕ) (at : ℕ) → length bytes ≤ at → 0 ≡ numberAt bytes at
@@ -68,10 +68,10 @@ module _ (bytes : List ℕ) (limit at left : ℕ) (whole : Bool) (e : allBelow l
     below-goes-on h = sym (allBelow-more limit frame _ h) ∙ listed
 
 -- A question asked by a test t: past a yes, and at a no.
-past : (n : ℕ) {b t : Bool} (qs : List Ask) → t ≡ b → not t ≡ false → firstNo (ask n b ∷ qs) ≡ firstNo qs
+past : (n : ℕ) {b t : Bool} (qs : List Question) → t ≡ b → not t ≡ false → firstNo (question n b ∷ qs) ≡ firstNo qs
 past n {t = t} qs e h = firstNo-yes n qs (sym e ∙ not-false t h)
 
-stops : (n : ℕ) {b t : Bool} (qs : List Ask) → t ≡ b → not t ≡ true → firstNo (ask n b ∷ qs) ≡ n
+stops : (n : ℕ) {b t : Bool} (qs : List Question) → t ≡ b → not t ≡ true → firstNo (question n b ∷ qs) ≡ n
 stops n {t = t} qs e h = firstNo-no n qs (sym e ∙ not-true t h)
 
 firstNo-none : firstNo [] ≡ 0
@@ -80,21 +80,21 @@ firstNo-none = refl
 
 -- Questions 1 to 6 in order, by the tests that the code makes of the numbers that it read.
 module _ (bytes : List ℕ) where
-  pub record-1 : length bytes < 8 → 1 ≡ firstNo (recordAsks bytes)
-  unfolding recordAsks startAsks
+  pub record-1 : length bytes < 8 → 1 ≡ firstNo (recordQuestions bytes)
+  unfolding recordQuestions startQuestions
   record-1 h = sym (firstNo-no 1 _ (lt-leb 8 (length bytes) h))
 
   module _ (h1 : 8 ≤ length bytes) (pages frames : ℕ) (eV : pages ≡ numberAt bytes 0) (eF : frames ≡ numberAt bytes 2) (sizes : Bool)
       (e2 : sizes ≡ both (pagesInRange pages) (framesInRange frames)) where
-    yes1 : (qs : List Ask) → firstNo (ask 1 (leb 8 (length bytes)) ∷ qs) ≡ firstNo qs
+    yes1 : (qs : List Question) → firstNo (question 1 (leb 8 (length bytes)) ∷ qs) ≡ firstNo qs
     yes1 qs = firstNo-yes 1 qs (le-leb 8 (length bytes) h1)
 
     is2 : sizes ≡ sizesInRange (policyOf bytes)
     unfolding sizesInRange policyOf
     is2 = rw (← eV, ← eF) e2
 
-    pub record-2 : not sizes ≡ true → 2 ≡ firstNo (recordAsks bytes)
-    unfolding recordAsks startAsks
+    pub record-2 : not sizes ≡ true → 2 ≡ firstNo (recordQuestions bytes)
+    unfolding recordQuestions startQuestions
     record-2 h = sym (yes1 _ ∙ stops 2 _ is2 h)
 
     module _ (h2 : not sizes ≡ false) (count entries : ℕ) (eN : count ≡ numberAt bytes 4) (eE : entries ≡ numberAt bytes 6) (counts : Bool)
@@ -103,22 +103,22 @@ module _ (bytes : List ℕ) where
       unfolding countsInRange policyOf
       is3 = rw (← eV, ← eN, ← eE) e3
 
-      pub record-3 : not counts ≡ true → 3 ≡ firstNo (recordAsks bytes)
-      unfolding recordAsks startAsks
+      pub record-3 : not counts ≡ true → 3 ≡ firstNo (recordQuestions bytes)
+      unfolding recordQuestions startQuestions
       record-3 h = sym (yes1 _ ∙ (past 2 _ is2 h2 ∙ stops 3 _ is3 h))
 
       module _ (h3 : not counts ≡ false) where
-        yes123 : (qs : List Ask)
-            → firstNo (ask 1 (leb 8 (length bytes)) ∷ ask 2 (sizesInRange (policyOf bytes)) ∷ ask 3 (countsInRange (policyOf bytes)) ∷ qs) ≡ firstNo qs
+        yes123 : (qs : List Question)
+            → firstNo (question 1 (leb 8 (length bytes)) ∷ question 2 (sizesInRange (policyOf bytes)) ∷ question 3 (countsInRange (policyOf bytes)) ∷ qs) ≡ firstNo qs
         yes123 qs = yes1 _ ∙ (past 2 _ is2 h2 ∙ past 3 _ is3 h3)
 
-        pub record-4 : (length bytes ≡ 8 + 4 * count → ⊥) → 4 ≡ firstNo (recordAsks bytes)
-        unfolding recordAsks startAsks policyOf
+        pub record-4 : (length bytes ≡ 8 + 4 * count → ⊥) → 4 ≡ firstNo (recordQuestions bytes)
+        unfolding recordQuestions startQuestions policyOf
         record-4 h = sym (yes123 _ ∙ firstNo-no 4 _ (rw (← eN) (ne-eqb (length bytes) (8 + 4 * count) h)))
 
         module _ (h4 : length bytes ≡ 8 + 4 * count) (rises : Bool) (e5 : rises ≡ rising pages 0 (numbersAt bytes 8 count)) where
-          yes1234 : (qs : List Ask) → firstNo (ask 1 (leb 8 (length bytes)) ∷ ask 2 (sizesInRange (policyOf bytes)) ∷ ask 3 (countsInRange (policyOf bytes))
-              ∷ ask 4 (eqb (length bytes) (8 + 4 * policyOf bytes .count)) ∷ qs) ≡ firstNo qs
+          yes1234 : (qs : List Question) → firstNo (question 1 (leb 8 (length bytes)) ∷ question 2 (sizesInRange (policyOf bytes)) ∷ question 3 (countsInRange (policyOf bytes))
+              ∷ question 4 (eqb (length bytes) (8 + 4 * policyOf bytes .count)) ∷ qs) ≡ firstNo qs
           unfolding policyOf
           yes1234 qs = yes123 _ ∙ firstNo-yes 4 qs (rw (← eN) (eq-eqb (length bytes) (8 + 4 * count) h4))
 
@@ -126,8 +126,8 @@ module _ (bytes : List ℕ) where
           unfolding policyOf
           is5 = rw (← eV, ← eN) e5
 
-          pub record-5 : not rises ≡ true → 5 ≡ firstNo (recordAsks bytes)
-          unfolding recordAsks startAsks
+          pub record-5 : not rises ≡ true → 5 ≡ firstNo (recordQuestions bytes)
+          unfolding recordQuestions startQuestions
           record-5 h = sym (yes1234 _ ∙ stops 5 _ is5 h)
 
           module _ (h5 : not rises ≡ false) (below : Bool) (e6 : below ≡ allBelow frames (numbersAt bytes (8 + 2 * count) count)) where
@@ -135,26 +135,26 @@ module _ (bytes : List ℕ) where
             unfolding policyOf
             is6 = rw (← eF, ← eN) e6
 
-            pub record-6 : not below ≡ true → 6 ≡ firstNo (recordAsks bytes)
-            unfolding recordAsks startAsks
+            pub record-6 : not below ≡ true → 6 ≡ firstNo (recordQuestions bytes)
+            unfolding recordQuestions startQuestions
             record-6 h = sym (yes1234 _ ∙ (past 5 _ is5 h5 ∙ stops 6 _ is6 h))
 
-            pub record-yes : not below ≡ false → 0 ≡ firstNo (recordAsks bytes)
-            unfolding recordAsks startAsks
+            pub record-yes : not below ≡ false → 0 ≡ firstNo (recordQuestions bytes)
+            unfolding recordQuestions startQuestions
             record-yes h = sym (yes1234 _ ∙ (past 5 _ is5 h5 ∙ (past 6 _ is6 h ∙ firstNo-none)))
 
 -- A record with no first no has the length of question 4, and so has one that the start accepts.
-pub record-length : (bytes : List ℕ) (n : ℕ) → n ≡ firstNo (recordAsks bytes) → n ≡ 0 → length bytes ≡ 8 + 4 * policyOf bytes .count
-unfolding recordAsks startAsks asked numbered both either
-record-length bytes n e h = eqb-true _ _ (both-first _ true (all-yes 4 (recordAsks bytes) refl (sym e ∙ h)))
+pub record-length : (bytes : List ℕ) (n : ℕ) → n ≡ firstNo (recordQuestions bytes) → n ≡ 0 → length bytes ≡ 8 + 4 * policyOf bytes .count
+unfolding recordQuestions startQuestions asked numbered both either
+record-length bytes n e h = eqb-true _ _ (both-first _ true (all-yes 4 (recordQuestions bytes) refl (sym e ∙ h)))
 
-pub start-length : (bytes : List ℕ) (n shadow map exclusion : ℕ) → n ≡ firstNo (startAsks bytes (policyOf bytes) shadow map exclusion) → n ≡ 0
+pub start-length : (bytes : List ℕ) (n shadow map exclusion : ℕ) → n ≡ firstNo (startQuestions bytes (policyOf bytes) shadow map exclusion) → n ≡ 0
     → length bytes ≡ 8 + 4 * policyOf bytes .count
-unfolding startAsks asked numbered both either
-start-length bytes n shadow map exclusion e h = eqb-true _ _ (both-first _ true (all-yes 4 (startAsks bytes (policyOf bytes) shadow map exclusion) refl (sym e ∙ h)))
+unfolding startQuestions asked numbered both either
+start-length bytes n shadow map exclusion e h = eqb-true _ _ (both-first _ true (all-yes 4 (startQuestions bytes (policyOf bytes) shadow map exclusion) refl (sym e ∙ h)))
 
 -- The first no of two lists in a row: that of the first list, where it has one, and else that of the second.
-firstNo-front : (xs ys : List Ask) → (firstNo xs ≡ 0 → ⊥) → firstNo (xs ++ ys) ≡ firstNo xs
+firstNo-front : (xs ys : List Question) → (firstNo xs ≡ 0 → ⊥) → firstNo (xs ++ ys) ≡ firstNo xs
 unfolding firstNo
 firstNo-front [] ys h = absurd (h refl)
 firstNo-front (x ∷ xs) ys h = at (x .holds) refl (firstNo-front xs ys)
@@ -164,7 +164,7 @@ firstNo-front (x ∷ xs) ys h = at (x .holds) refl (firstNo-front xs ys)
     at true e rest = rw e (rest (λ z. h (rw e z)))
     at false e rest = rw e refl
 
-firstNo-back : (xs ys : List Ask) → numbered xs ≡ true → firstNo xs ≡ 0 → firstNo (xs ++ ys) ≡ firstNo ys
+firstNo-back : (xs ys : List Question) → numbered xs ≡ true → firstNo xs ≡ 0 → firstNo (xs ++ ys) ≡ firstNo ys
 unfolding firstNo numbered
 firstNo-back [] ys n h = refl
 firstNo-back (x ∷ xs) ys n h = at (x .holds) refl (firstNo-back xs ys (both-second (not (eqb (x .number) 0)) (numbered xs) n))
@@ -175,12 +175,12 @@ firstNo-back (x ∷ xs) ys n h = at (x .holds) refl (firstNo-back xs ys (both-se
     at false e rest = absurd (eqb-false (x .number) 0 (not-true (eqb (x .number) 0) (both-first (not (eqb (x .number) 0)) (numbered xs) n)) (rw e at h))
 
 -- What the record's answer is to the start, whatever the lengths of the tables are: its number where it has one, and else question 7 decides.
-module _ (bytes : List ℕ) (n shadow map exclusion : ℕ) (e : n ≡ firstNo (recordAsks bytes)) where
-  pub start-refused : (n ≡ 0 → ⊥) → firstNo (startAsks bytes (policyOf bytes) shadow map exclusion) ≡ n
-  unfolding recordAsks startAsks
-  start-refused h = firstNo-front (recordAsks bytes) (ask 7 (inOrder true (eqb shadow (policyOf bytes .pages) ∷ eqb map (policyOf bytes .pages) ∷ eqb exclusion (vectorBytes (policyOf bytes .frames)) ∷ [])) ∷ []) (λ z. h (e ∙ z)) ∙ sym e
+module _ (bytes : List ℕ) (n shadow map exclusion : ℕ) (e : n ≡ firstNo (recordQuestions bytes)) where
+  pub start-refused : (n ≡ 0 → ⊥) → firstNo (startQuestions bytes (policyOf bytes) shadow map exclusion) ≡ n
+  unfolding recordQuestions startQuestions
+  start-refused h = firstNo-front (recordQuestions bytes) (question 7 (inOrder true (eqb shadow (policyOf bytes .pages) ∷ eqb map (policyOf bytes .pages) ∷ eqb exclusion (vectorBytes (policyOf bytes .frames)) ∷ [])) ∷ []) (λ z. h (e ∙ z)) ∙ sym e
 
-  pub start-asked : n ≡ 0 → firstNo (startAsks bytes (policyOf bytes) shadow map exclusion)
+  pub start-asked : n ≡ 0 → firstNo (startQuestions bytes (policyOf bytes) shadow map exclusion)
       ≡ cond (inOrder true (eqb shadow (policyOf bytes .pages) ∷ eqb map (policyOf bytes .pages) ∷ eqb exclusion (vectorBytes (policyOf bytes .frames)) ∷ [])) 0 7
-  unfolding recordAsks startAsks firstNo numbered both
-  start-asked h = firstNo-back (recordAsks bytes) (ask 7 (inOrder true (eqb shadow (policyOf bytes .pages) ∷ eqb map (policyOf bytes .pages) ∷ eqb exclusion (vectorBytes (policyOf bytes .frames)) ∷ [])) ∷ []) refl (sym e ∙ h)
+  unfolding recordQuestions startQuestions firstNo numbered both
+  start-asked h = firstNo-back (recordQuestions bytes) (question 7 (inOrder true (eqb shadow (policyOf bytes .pages) ∷ eqb map (policyOf bytes .pages) ∷ eqb exclusion (vectorBytes (policyOf bytes .frames)) ∷ [])) ∷ []) refl (sym e ∙ h)

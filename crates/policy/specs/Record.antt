@@ -4,8 +4,8 @@ use mathlib.Core.List.{List}
 use Prim.Native.Nat.{ℕ}
 use lib.ListN.{take}
 use Rattle.model.specs.Policy.{policyOf}
-use Rattle.model.specs.Questions.{Ask, startAsks}
+use Rattle.model.specs.Questions.{Question, startQuestions}
 
 -- Questions 1 to 6 of the start. None of them looks at the length of a table.
-unfoldable pub recordAsks : List ℕ → List Ask
-recordAsks bytes = take 6 (startAsks bytes (policyOf bytes) 0 0 0)
+unfoldable pub recordQuestions : List ℕ → List Question
+recordQuestions bytes = take 6 (startQuestions bytes (policyOf bytes) 0 0 0)

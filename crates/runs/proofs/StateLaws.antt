@@ -16,7 +16,7 @@ use Rattle.model.specs.declared.State.{State}
 use Rattle.model.specs.Edges.{both, within, pagesInRange, framesInRange}
 use Rattle.model.specs.Keeps.{inUser, running, modeOf}
 use Rattle.model.specs.Questions.{stateInOrder}
-use Rattle.model.proofs.AskLaws.{both-yes, both-no-after, within-high}
+use Rattle.model.proofs.QuestionLaws.{both-yes, both-no-after, within-high}
 use Rattle.model.proofs.TableLaws.{is-table}
 use Rattle.runs.specs.Runs.{narrow, field, entryPages, stateIn, modeWord, wordsOf, withMode}
 use Rattle.runs.proofs.WordLaws.{narrow-fits, narrow-within, narrow-ltb}

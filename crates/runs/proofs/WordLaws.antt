@@ -16,7 +16,7 @@ use Rattle.model.specs.declared.Mode.{Mode}
 use Rattle.model.specs.Edges.{both, within}
 use Rattle.model.specs.Keeps.{inUser}
 use Rattle.model.specs.Calls.{replyOf}
-use Rattle.model.proofs.AskLaws.{both-no, both-first, within-above}
+use Rattle.model.proofs.QuestionLaws.{both-no, both-first, within-above}
 use Rattle.model.proofs.TableLaws.{is-table}
 use Rattle.runs.specs.Runs.{narrow, field, entryPages, modeWord, withNumbers, runsFit, lendable}
 

@@ -12,13 +12,13 @@ use Rattle.model.specs.declared.Answer.the-variants.{Done}
 use Rattle.model.specs.declared.Mode.the-variants.{Kernel}
 use Rattle.model.specs.Keeps.{vectorBytes}
 use Rattle.model.specs.Policy.{numberAt, policyOf, startState, startGuard}
-use Rattle.model.specs.Questions.{firstNo, allBelow, inOrder, startAsks}
-use Rattle.model.specs.Calls.{replyOf, startOf}
-use Rattle.model.proofs.AskLaws.{settle-accepted, settle-refused}
+use Rattle.model.specs.Questions.{firstNo, allBelow, inOrder, startQuestions}
+use Rattle.model.specs.Calls.{replyOf, outcomeBy, startOf}
+use Rattle.model.proofs.QuestionLaws.{settle-accepted, settle-refused}
 use Rattle.model.proofs.PolicyLaws.{allBelow-wider, Passed, start-passed}
-use Rattle.policy.specs.Record.{recordAsks}
+use Rattle.policy.specs.Record.{recordQuestions}
 use Rattle.policy.proofs.RecordLaws.{record-length, start-length, start-refused, start-asked}
-use Rattle.start.specs.Start.{startedBy, refusedWith, acceptedOn, entryTable, withEach}
+use Rattle.start.specs.Start.{refusedWith, acceptedOn, entryTable, withEach}
 use Rattle.start.proofs.TablesSet.{entries-are, first-is, each-length}
 
 -- The answer of an accepted start, made of the numbers that were read.
@@ -38,8 +38,8 @@ unfolding vectorBytes
 buffer-room frames n fs buffer e h b = rw (b, each-length, length-replicate) (omega arith)
 
 -- The start's questions: the record's, and then question 7 by the V and F that were read.
-module _ (bytes : List ℕ) (shadow map exclusion question : ℕ) (asked : question ≡ firstNo (recordAsks bytes)) where
-  pub asks-record : (question ≡ 0 → ⊥) → question ≡ firstNo (startAsks bytes (policyOf bytes) shadow map exclusion)
+module _ (bytes : List ℕ) (shadow map exclusion question : ℕ) (asked : question ≡ firstNo (recordQuestions bytes)) where
+  pub asks-record : (question ≡ 0 → ⊥) → question ≡ firstNo (startQuestions bytes (policyOf bytes) shadow map exclusion)
   asks-record named = sym (start-refused bytes question shadow map exclusion asked named)
 
   -- The bytes of V and F are there.
@@ -48,18 +48,18 @@ module _ (bytes : List ℕ) (shadow map exclusion question : ℕ) (asked : quest
 
   module _ (six : question ≡ 0) (pages frames : ℕ) (eV : pages ≡ numberAt bytes 0) (eF : frames ≡ numberAt bytes 2) (fits : Bool)
       (e7 : fits ≡ inOrder true (eqb shadow pages ∷ eqb map pages ∷ eqb exclusion (vectorBytes frames) ∷ [])) where
-    last : firstNo (startAsks bytes (policyOf bytes) shadow map exclusion) ≡ cond fits 0 7
+    last : firstNo (startQuestions bytes (policyOf bytes) shadow map exclusion) ≡ cond fits 0 7
     unfolding policyOf
     last = start-asked bytes question shadow map exclusion asked six ∙ rw (e7, eV, eF) refl
 
-    pub asks-lengths : not fits ≡ true → 7 ≡ firstNo (startAsks bytes (policyOf bytes) shadow map exclusion)
+    pub asks-lengths : not fits ≡ true → 7 ≡ firstNo (startQuestions bytes (policyOf bytes) shadow map exclusion)
     asks-lengths short = sym (last ∙ rw (not-true fits short) refl)
 
-    pub asks-none : not fits ≡ false → 0 ≡ firstNo (startAsks bytes (policyOf bytes) shadow map exclusion)
+    pub asks-none : not fits ≡ false → 0 ≡ firstNo (startQuestions bytes (policyOf bytes) shadow map exclusion)
     asks-none ok = sym (last ∙ rw (not-false fits ok) refl)
 
 -- All were yes: what the tables and the answer require.
-module _ (bytes : List ℕ) (shadow map exclusion question : ℕ) (asked : question ≡ firstNo (startAsks bytes (policyOf bytes) shadow map exclusion))
+module _ (bytes : List ℕ) (shadow map exclusion question : ℕ) (asked : question ≡ firstNo (startQuestions bytes (policyOf bytes) shadow map exclusion))
     (none : question ≡ 0) where
   passed : Passed (policyOf bytes) shadow map exclusion
   passed = start-passed bytes (policyOf bytes) shadow map exclusion (sym asked ∙ none)
@@ -83,17 +83,17 @@ module _ (bytes : List ℕ) (shadow map exclusion question : ℕ) (asked : quest
 
 -- The two answers. A refused start leaves the tables as they were.
 module _ (bytes shadow map exclusion : List ℕ) (question : ℕ) (r : Called)
-    (asked : question ≡ firstNo (startAsks bytes (policyOf bytes) (length shadow) (length map) (length exclusion))) where
-  pub start-refuses : (question ≡ 0 → ⊥) → r ≡ refusedWith question → startedBy r shadow map exclusion ≡ startOf bytes shadow map exclusion
-  unfolding startOf startedBy refusedWith replyOf
+    (asked : question ≡ firstNo (startQuestions bytes (policyOf bytes) (length shadow) (length map) (length exclusion))) where
+  pub start-refuses : (question ≡ 0 → ⊥) → r ≡ refusedWith question → outcomeBy r shadow map exclusion ≡ startOf bytes shadow map exclusion
+  unfolding startOf outcomeBy refusedWith replyOf
   start-refuses named e = at question (sym asked) named e
     where
-      at : (q : ℕ) → firstNo (startAsks bytes (policyOf bytes) (length shadow) (length map) (length exclusion)) ≡ q → (q ≡ 0 → ⊥) → r ≡ refusedWith q
-          → startedBy r shadow map exclusion ≡ startOf bytes shadow map exclusion
+      at : (q : ℕ) → firstNo (startQuestions bytes (policyOf bytes) (length shadow) (length map) (length exclusion)) ≡ q → (q ≡ 0 → ⊥) → r ≡ refusedWith q
+          → outcomeBy r shadow map exclusion ≡ startOf bytes shadow map exclusion
       at zero n z d = absurd (z refl)
       at (suc k) n z d = rw d (sym (settle-refused k _ _ n))
 
   pub start-accepts : (s m x : List ℕ) → question ≡ 0 → r ≡ acceptedOn bytes → s ≡ startGuard (policyOf bytes) .shadow
-      → m ≡ startGuard (policyOf bytes) .map → x ≡ startGuard (policyOf bytes) .exclusion → startedBy r s m x ≡ startOf bytes shadow map exclusion
-  unfolding startOf startedBy acceptedOn replyOf startGuard
+      → m ≡ startGuard (policyOf bytes) .map → x ≡ startGuard (policyOf bytes) .exclusion → outcomeBy r s m x ≡ startOf bytes shadow map exclusion
+  unfolding startOf outcomeBy acceptedOn replyOf startGuard
   start-accepts s m x none e es em ex = rw (e, es, em, ex) (sym (settle-accepted _ _ (sym asked ∙ none)))

@@ -1,5 +1,5 @@
 -- What the start gives, and the tables after each of its loops: places set one by one, frames excluded one by one.
--- The start's own promise names startedBy alone; the others stand in the promises of the functions below it.
+-- These stand in the promises of the functions below the start. Its own promise names the model's definitions alone.
 use Prim.Native.Nat.{ℕ, _+_, _*_}
 use mathlib.Core.Bool.{false, cond}
 use mathlib.Core.List.{List, [], _∷_, map}
@@ -11,12 +11,6 @@ use Rattle.model.specs.Edges.{table}
 use Rattle.model.specs.Keeps.{withExcluded}
 use Rattle.model.specs.Policy.{numberAt, policyOf, startState, zeroState}
 use Rattle.model.specs.Bits.{approved}
-use Rattle.model.specs.Calls.{Outcome, replyOf}
-
--- What a start gave, with the tables that it left, as an outcome.
-unfoldable pub startedBy : Called → List ℕ → List ℕ → List ℕ → Outcome
-startedBy r shadow map exclusion =
-    record { reply = replyOf (r .answer); guard = record { state = r .state; shadow = shadow; map = map; exclusion = exclusion } }
 
 -- A refused start, and an accepted one on these bytes.
 unfoldable pub refusedWith : ℕ → Called

@@ -7,9 +7,9 @@ ghost use Prim.Native.Nat.{_+_, _*_, _≤_};
 ghost use lib.ListN.{length, take, replicate};
 ghost use Rattle.model.specs.Keeps.{vectorBytes};
 ghost use Rattle.model.specs.Policy.{numbersAt, policyOf, startGuard};
-ghost use Rattle.model.specs.Questions.{firstNo, allBelow, startAsks};
-ghost use Rattle.model.specs.Calls.{startOf};
-ghost use Rattle.start.specs.Start.{startedBy, refusedWith, acceptedOn, placed, approvedEach, withEach, entryTable};
+ghost use Rattle.model.specs.Questions.{firstNo, allBelow, startQuestions};
+ghost use Rattle.model.specs.Calls.{outcomeBy, startOf};
+ghost use Rattle.start.specs.Start.{refusedWith, acceptedOn, placed, approvedEach, withEach, entryTable};
 use model::Answer;
 use model::Called;
 use model::Mode;
@@ -160,7 +160,7 @@ fn accepted(bytes: &[u8]) -> Called
 
 // The first no of the start's questions, or 0. Its arguments are the lengths of the tables. Past the record's questions V and F are there.
 fn start_question(bytes: &[u8], shadow: usize, map: usize, exclusion: usize) -> u64
-    ensures { λ r. ⌜ r ≡ firstNo (startAsks (now (bytes .entry)) (policyOf (now (bytes .entry))) shadow map exclusion) ⌝ }
+    ensures { λ r. ⌜ r ≡ firstNo (startQuestions (now (bytes .entry)) (policyOf (now (bytes .entry))) shadow map exclusion) ⌝ }
 {
     let question = policy::record_question(bytes);
     if question != 0 {
@@ -175,7 +175,7 @@ fn start_question(bytes: &[u8], shadow: usize, map: usize, exclusion: usize) -> 
 }
 
 pub fn start(bytes: &[u8], shadow: &mut [u64], map: &mut [u16], exclusion: &mut [u8]) -> Called
-    ensures { λ r. ⌜ startedBy r (now (shadow .exit)) (now (map .exit)) (now (exclusion .exit)) ≡ startOf (now (bytes .entry)) (now (shadow .entry)) (now (map .entry)) (now (exclusion .entry)) ⌝ }
+    ensures { λ r. ⌜ outcomeBy r (now (shadow .exit)) (now (map .exit)) (now (exclusion .exit)) ≡ startOf (now (bytes .entry)) (now (shadow .entry)) (now (map .entry)) (now (exclusion .entry)) ⌝ }
 {
     let refusal = start_question(bytes, shadow.len(), map.len(), exclusion.len());
     if refusal != 0 {

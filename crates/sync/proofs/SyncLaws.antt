@@ -18,9 +18,9 @@ use Rattle.model.specs.Edges.{both}
 use Rattle.model.specs.Keeps.{none, vectorBytes, inUser}
 use Rattle.model.specs.Bits.{present, fieldsOf, takenApart, approved, ordinary}
 use Rattle.model.specs.Sync.{Rules, Place, place, stepOf, step, differs, Run, run, runOver}
-use Rattle.model.specs.Questions.{firstNo, stateInOrder, inOrder, syncAllAsks, syncPageAsks}
+use Rattle.model.specs.Questions.{firstNo, stateInOrder, inOrder, syncAllQuestions, syncPageQuestions}
 use Rattle.model.specs.Calls.{replyOf, syncedBy, rulesOf, pageSynced, syncPageOf, allSynced, syncAllOf}
-use Rattle.model.proofs.AskLaws.{both-first, both-second, firstNo-no, firstNo-yes, settle-accepted, settle-refused}
+use Rattle.model.proofs.QuestionLaws.{both-first, both-second, firstNo-no, firstNo-yes, settle-accepted, settle-refused}
 use Rattle.model.proofs.RunLaws.{getD-inside, whole, whole-more}
 use Rattle.sync.specs.Steps.{rules, stored, stepAt}
 
@@ -142,31 +142,31 @@ none-left = refl
 module _ (s : State) (kernel shadow map exclusion : List ℕ) (r : Bool)
     (asked : r ≡ inOrderOf s (length kernel) (length shadow) (length map) (length exclusion)) where
   pub all-refused : not r ≡ true → syncedBy (Refused 7) shadow map ≡ syncAllOf s kernel shadow map exclusion
-  unfolding syncAllOf syncAllAsks syncedBy replyOf
+  unfolding syncAllOf syncAllQuestions syncedBy replyOf
   all-refused p = sym (settle-refused 6 _ _ (firstNo-no 7 [] (sym asked ∙ not-true r p)))
 
   pub page-refused : (page : ℕ) → not r ≡ true → syncedBy (Refused 7) shadow map ≡ syncPageOf s kernel shadow map exclusion page
-  unfolding syncPageOf syncPageAsks syncedBy replyOf
+  unfolding syncPageOf syncPageQuestions syncedBy replyOf
   page-refused page p = sym (settle-refused 6 _ _ (firstNo-no 7 _ (sym asked ∙ not-true r p)))
 
   module _ (answer : not r ≡ false) where
     pub all-accepted : (u t : Bool) (shadow′ map′ : List ℕ) (x y : ℕ) → u ≡ inUser (s .mode) → u ≡ t
         → run shadow′ map′ x y ≡ runOver (step (rules t (s .frames) exclusion)) kernel shadow map
         → syncedBy (Done x y) shadow′ map′ ≡ syncAllOf s kernel shadow map exclusion
-    unfolding syncAllOf syncAllAsks allSynced syncedBy replyOf
+    unfolding syncAllOf syncAllQuestions allSynced syncedBy replyOf
     all-accepted u t shadow′ map′ x y q i p =
         ap allSynced (rw (sym i ∙ q) at p) ∙ sym (settle-accepted _ _ (firstNo-yes 7 [] (sym asked ∙ not-false r answer) ∙ none-left))
 
     module _ (page : ℕ) (b : Bool) (exists : b ≡ ltb page (s .pages)) where
       pub page-absent : not b ≡ true → syncedBy (Refused 9) shadow map ≡ syncPageOf s kernel shadow map exclusion page
-      unfolding syncPageOf syncPageAsks syncedBy replyOf
+      unfolding syncPageOf syncPageQuestions syncedBy replyOf
       page-absent p =
           sym (settle-refused 8 _ _ (firstNo-yes 7 _ (sym asked ∙ not-false r answer) ∙ firstNo-no 9 [] (sym exists ∙ not-true b p)))
 
       pub page-accepted : (u : Bool) (shadow′ map′ : List ℕ) (x y : ℕ) → not b ≡ false → u ≡ inUser (s .mode)
           → run shadow′ map′ x y ≡ stepAt (step (rules u (s .frames) exclusion)) (getD kernel page 0) page (run shadow map 0 0)
           → syncedBy (Done x y) shadow′ map′ ≡ syncPageOf s kernel shadow map exclusion page
-      unfolding syncPageOf syncPageAsks pageSynced allSynced stepAt syncedBy replyOf
+      unfolding syncPageOf syncPageQuestions pageSynced allSynced stepAt syncedBy replyOf
       page-accepted u shadow′ map′ x y there q p =
           let inside : page < length map = page-in-map s (length kernel) (length shadow) (length map) (length exclusion) r asked answer page b exists there in
           let z : Place = step (rulesOf s exclusion) (getD kernel page 0) (getD map page none) in

@@ -18,13 +18,12 @@ use Rattle.model.specs.Edges.{within, pagesInRange, framesInRange}
 use Rattle.model.specs.Keeps.{Guard, vectorBytes}
 use Rattle.model.specs.Policy.{policyOf, numberAt}
 use Rattle.model.specs.Questions.{firstNo}
-use Rattle.model.specs.Calls.{Reply, Outcome, refused, replyOf, settle}
+use Rattle.model.specs.Calls.{Reply, Outcome, refused, replyOf, outcomeBy, settle}
 use Rattle.model.specs.Lists.{answer}
 use Rattle.model.specs.Drill.{Drill, policyExtent, indexOf, lengthOf, valueOf, edited, callOf, withGuard, performed, line, startLine, turnOf, turn}
-use Rattle.model.proofs.AskLaws.{within-high}
-use Rattle.start.specs.Start.{startedBy}
+use Rattle.model.proofs.QuestionLaws.{within-high}
 use Rattle.turns.specs.declared.Turned.{Turned}
-use Rattle.turns.specs.Turns.{guardOf, drillOf, answeredBy, editedBy, performedBy, turnedBy, openingOf, openedBy, pagesLent, bytesLent}
+use Rattle.turns.specs.Turns.{guardOf, drillOf, editedBy, performedBy, turnedBy, openingOf, openedBy, pagesLent, bytesLent}
 
 -- The policy's extent, with n in its range and outside.
 pub extent-more : {count : ℕ} {t : Bool} (input : List ℕ) → count ≡ numberAt input 4 → t ≡ within 1 2048 count → t ≡ true → 8 + 4 * count ≡ policyExtent input
@@ -70,10 +69,10 @@ unfolding replyOf
 refused-by n p = rw p
 
 -- The start, its line and whether calls follow.
-pub opening-is : (r : Called) (l : Line) (b : Bool) (o : Outcome) (shadow map exclusion : List ℕ) → startedBy r shadow map exclusion ≡ o
+pub opening-is : (r : Called) (l : Line) (b : Bool) (o : Outcome) (shadow map exclusion : List ℕ) → outcomeBy r shadow map exclusion ≡ o
     → text l ≡ line 83 (replyOf (r .answer)) (r .state .mode) → b ≡ eqb (replyOf (r .answer) .number) 0
     → openedBy (record { state = r .state; line = l; goes = b }) shadow map exclusion ≡ openingOf o
-unfolding openedBy openingOf startedBy startLine
+unfolding openedBy openingOf outcomeBy startLine
 opening-is r l b o shadow map exclusion e f g = rw (← e, f, g)
 
 -- A call's fields by their 16-bit numbers.
@@ -111,9 +110,9 @@ module _ (s : State) (kernel shadow map exclusion : List ℕ) (kind index length
   edit-performed r kernel′ p h = rw p (h (guardOf s shadow map exclusion) refl)
 
   pub call-performed : (r : Called) (shadow′ map′ : List ℕ) → (kind ≡ 0 → ⊥)
-      → answeredBy r shadow′ map′ exclusion ≡ answer (guardOf s shadow map exclusion) (callOf kernel kind index length value)
+      → outcomeBy r shadow′ map′ exclusion ≡ answer (guardOf s shadow map exclusion) (callOf kernel kind index length value)
       → performedBy r kernel shadow′ map′ exclusion ≡ performed (drillOf (guardOf s shadow map exclusion) kernel) kind index length value
-  unfolding performed performedBy answeredBy withGuard
+  unfolding performed performedBy outcomeBy withGuard
   call-performed r shadow′ map′ p e = rw (ne-eqb kind 0 p, ← e)
 
 -- A turn: of no bytes, of too few or too many, of no kind, and of a call.

@@ -21,10 +21,7 @@ guardOf s shadow map exclusion = record { state = s; shadow = shadow; map = map;
 abbrev pub drillOf : Guard → List ℕ → Drill
 drillOf g kernel = record { guard = g; kernel = kernel }
 
--- What a guard call leaves, what an edit leaves, and what either leaves of the drill.
-unfoldable pub answeredBy : Called → List ℕ → List ℕ → List ℕ → Outcome
-answeredBy r shadow map exclusion = record { reply = replyOf (r .answer); guard = guardOf (r .state) shadow map exclusion }
-
+-- What an edit leaves, and what an edit or a guard call leaves of the drill.
 unfoldable pub editedBy : Answer → Drill → Drilled
 editedBy r d = record { reply = replyOf r; drill = d }
 

@@ -6,12 +6,12 @@ ghost use Prim.Native.Nat.{_+_, _*_, _^_, _≤_, _<_};
 ghost use mathlib.Core.Bool.{false};
 ghost use lib.Dec.{eqb};
 ghost use Rattle.model.specs.Keeps.{Guard};
-ghost use Rattle.model.specs.Calls.{refused, replyOf, deviceWriteOf, startOf};
+ghost use Rattle.model.specs.Calls.{refused, replyOf, outcomeBy, startOf};
 ghost use Rattle.model.specs.Lists.{answer};
 ghost use Rattle.model.specs.Drill;
 ghost use Rattle.model.specs.Drill.{policyExtent, indexOf, lengthOf, valueOf, edited, callOf, performed, line};
 ghost use Rattle.lines.specs.Text.{text};
-ghost use Rattle.turns.specs.Turns.{guardOf, drillOf, answeredBy, editedBy, performedBy, turnedBy, openingOf, openedBy, pagesLent, bytesLent};
+ghost use Rattle.turns.specs.Turns.{guardOf, drillOf, editedBy, performedBy, turnedBy, openingOf, openedBy, pagesLent, bytesLent};
 use lines::Line;
 use model::Answer;
 use model::Called;
@@ -135,13 +135,6 @@ pub fn edit(pages: u16, kernel: &mut [u64], page: u64, value: u64) -> Answer
     Answer::Done(0, 0)
 }
 
-// Kind 7. What a device write is lent beside the exclusion vector is made here.
-fn transfer(s: State, exclusion: &[u8], address: u64, length: u64) -> Answer
-    ensures { λ r. ⌜ replyOf r ≡ deviceWriteOf s (now (exclusion .entry)) address length ⌝ }
-{
-    access::device_write(s, exclusion, address, length)
-}
-
 // Kinds 1 to 7, the guard's calls. The definition takes any kind above 6 for a device write.
 pub fn call(
     s: State,
@@ -154,7 +147,7 @@ pub fn call(
     length: u64,
     value: u64,
 ) -> Called
-    ensures { λ r. ⌜ answeredBy r (now (shadow .exit)) (now (map .exit)) (now (exclusion .entry)) ≡ answer (guardOf s (now (shadow .entry)) (now (map .entry)) (now (exclusion .entry))) (callOf (now (kernel .entry)) kind index length value) ⌝ }
+    ensures { λ r. ⌜ outcomeBy r (now (shadow .exit)) (now (map .exit)) (now (exclusion .entry)) ≡ answer (guardOf s (now (shadow .entry)) (now (map .entry)) (now (exclusion .entry))) (callOf (now (kernel .entry)) kind index length value) ⌝ }
 {
     if kind == 1 {
         let answer = sync::sync_page(s, kernel, shadow, map, exclusion, index);
@@ -177,7 +170,7 @@ pub fn call(
     if kind == 6 {
         return modes::leave(s, shadow, index);
     }
-    let answer = transfer(s, exclusion, value, length);
+    let answer = access::device_write(s, exclusion, value, length);
     Called { answer, state: s }
 }
 

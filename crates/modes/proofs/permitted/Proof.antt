@@ -1,5 +1,5 @@
 -- `modes::permitted` meets its contract.
-use Rattle.modes.proofs.SwitchAskLaws.{enter-permits, leave-permits}
+use Rattle.modes.proofs.SwitchQuestionLaws.{enter-permits, leave-permits}
 use borrow.Author.Needs.{needs}
 use Rattle.modes.proofs.permitted.Statement.{statement}
 use Rattle.modes.proofs.permitted.Tie as tie

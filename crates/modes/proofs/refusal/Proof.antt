@@ -1,5 +1,5 @@
 -- `modes::refusal` meets its contract.
-use Rattle.modes.proofs.SwitchAskLaws.{exists-in, switch-absent, switch-unsuited, switch-not-present, switch-not-permitted, switch-none-refuses}
+use Rattle.modes.proofs.SwitchQuestionLaws.{exists-in, switch-absent, switch-unsuited, switch-not-present, switch-not-permitted, switch-none-refuses}
 use borrow.Author.Needs.{needs}
 use Rattle.modes.proofs.refusal.Statement.{statement}
 use Rattle.modes.proofs.refusal.Tie as tie

@@ -8,7 +8,7 @@ use lib.Dec.{eqb}
 use borrow.Author.Tests.{le-ltb, eqb-true}
 use Rattle.model.specs.Edges.{both, either, within, pagesInRange, framesInRange, member}
 use Rattle.model.specs.Questions.{stateInOrder}
-use Rattle.model.proofs.AskLaws.{both-no-after}
+use Rattle.model.proofs.QuestionLaws.{both-no-after}
 use Rattle.runs.specs.Runs.{narrow, field, stateIn}
 use Rattle.runs.specs.Runs.{WideRefused}
 use Rattle.runs.proofs.WordLaws.{narrow-wide, narrow-below}

@@ -6,7 +6,7 @@ use borrow.Author.Tests.{not-false}
 use Rattle.model.specs.Bits.{present, approvedMark}
 use Rattle.model.specs.Questions.{firstNo, leavePermitted}
 use Rattle.model.proofs.CallLaws.{passed, stopped, none-left}
-use Rattle.modes.specs.Switches.{switchPermitted, switchAsks}
+use Rattle.modes.specs.Switches.{switchPermitted, switchQuestions}
 
 pub enter-permits : (enters r : Bool) (entry : ℕ) → enters ≡ true → r ≡ approvedMark entry → r ≡ switchPermitted enters entry
 unfolding switchPermitted
@@ -21,29 +21,29 @@ pub exists-in : (exists : Bool) (page long : ℕ) → (exists ≡ true → page 
 exists-in exists page long h y = h (not-false exists y)
 
 module _ (exists suits enters : Bool) (entry : ℕ) where
-  pub switch-absent : not exists ≡ true → 9 ≡ firstNo (switchAsks exists suits enters entry)
-  unfolding switchAsks
+  pub switch-absent : not exists ≡ true → 9 ≡ firstNo (switchQuestions exists suits enters entry)
+  unfolding switchQuestions
   switch-absent n = stopped 9 exists _ _ refl n
 
   module _ (y9 : not exists ≡ false) where
-    pub switch-unsuited : not suits ≡ true → 10 ≡ firstNo (switchAsks exists suits enters entry)
-    unfolding switchAsks
+    pub switch-unsuited : not suits ≡ true → 10 ≡ firstNo (switchQuestions exists suits enters entry)
+    unfolding switchQuestions
     switch-unsuited n = passed 9 10 exists _ _ refl y9 (stopped 10 suits _ _ refl n)
 
     module _ (y10 : not suits ≡ false) (r11 : Bool) (e11 : r11 ≡ present entry) where
-      pub switch-not-present : not r11 ≡ true → 11 ≡ firstNo (switchAsks exists suits enters entry)
-      unfolding switchAsks
+      pub switch-not-present : not r11 ≡ true → 11 ≡ firstNo (switchQuestions exists suits enters entry)
+      unfolding switchQuestions
       switch-not-present n = passed 9 11 exists _ _ refl y9 (passed 10 11 suits _ _ refl y10 (stopped 11 r11 _ _ e11 n))
 
       module _ (y11 : not r11 ≡ false) (r12 : Bool) (e12 : r12 ≡ switchPermitted enters entry) where
-        pub switch-not-permitted : not r12 ≡ true → 12 ≡ firstNo (switchAsks exists suits enters entry)
-        unfolding switchAsks
+        pub switch-not-permitted : not r12 ≡ true → 12 ≡ firstNo (switchQuestions exists suits enters entry)
+        unfolding switchQuestions
         switch-not-permitted n =
             passed 9 12 exists _ _ refl y9
             (passed 10 12 suits _ _ refl y10 (passed 11 12 r11 _ _ e11 y11 (stopped 12 r12 _ _ e12 n)))
 
-        pub switch-none-refuses : not r12 ≡ false → 0 ≡ firstNo (switchAsks exists suits enters entry)
-        unfolding switchAsks
+        pub switch-none-refuses : not r12 ≡ false → 0 ≡ firstNo (switchQuestions exists suits enters entry)
+        unfolding switchQuestions
         switch-none-refuses y12 =
             passed 9 0 exists _ _ refl y9
             (passed 10 0 suits _ _ refl y10 (passed 11 0 r11 _ _ e11 y11 (passed 12 0 r12 _ _ e12 y12 none-left)))

@@ -7,7 +7,7 @@ use lib.Dec.{leb, ltb, eqb}
 use borrow.Author.Tests.{leb-true, leb-false, le-leb, lt-leb, eqb-true, eq-eqb}
 use native.Mathlib.Omega.{arith}
 use Rattle.model.specs.Edges.{both, either, within}
-use Rattle.model.specs.Questions.{Ask, ask, firstNo}
+use Rattle.model.specs.Questions.{Question, question, firstNo}
 use Rattle.model.specs.Calls.{settle}
 
 -- Both answers are yes where each is, and a no of either is a no.
@@ -56,21 +56,21 @@ unfolding within
 within-above low high x p = both-no-after (leb low x) (lt-leb x high p)
 
 -- The first no: past a yes, and at a no.
-pub firstNo-yes : (n : ℕ) {b : Bool} (qs : List Ask) → b ≡ true → firstNo (ask n b ∷ qs) ≡ firstNo qs
+pub firstNo-yes : (n : ℕ) {b : Bool} (qs : List Question) → b ≡ true → firstNo (question n b ∷ qs) ≡ firstNo qs
 unfolding firstNo
 firstNo-yes n qs p = rw p refl
 
-pub firstNo-no : (n : ℕ) {b : Bool} (qs : List Ask) → b ≡ false → firstNo (ask n b ∷ qs) ≡ n
+pub firstNo-no : (n : ℕ) {b : Bool} (qs : List Question) → b ≡ false → firstNo (question n b ∷ qs) ≡ n
 unfolding firstNo
 firstNo-no n qs p = rw p refl
 
 -- A question looked up by its number: every question of that number in the list is answered yes.
-unfoldable pub asked : ℕ → List Ask → Bool
+unfoldable pub asked : ℕ → List Question → Bool
 asked n [] = true
 asked n (q ∷ qs) = both (either (not (eqb n (q .number))) (q .holds)) (asked n qs)
 
 -- No question of the list has the number 0, which stands for "accepted".
-unfoldable pub numbered : List Ask → Bool
+unfoldable pub numbered : List Question → Bool
 numbered [] = true
 numbered (q ∷ qs) = both (not (eqb (q .number) 0)) (numbered qs)
 
@@ -84,7 +84,7 @@ not-zero n p q = let z : not (eqb n 0) ≡ false = rw (eq-eqb n 0 q) refl in
     mathlib.Core.Bool.true≢false (sym p ∙ z)
 
 -- "All were yes": an accepted call's questions, each by its number.
-pub all-yes : (n : ℕ) (qs : List Ask) → numbered qs ≡ true → firstNo qs ≡ 0 → asked n qs ≡ true
+pub all-yes : (n : ℕ) (qs : List Question) → numbered qs ≡ true → firstNo qs ≡ 0 → asked n qs ≡ true
 unfolding asked numbered firstNo
 all-yes n [] h p = refl
 all-yes n (q ∷ qs) h p =

@@ -1,0 +1,63 @@
+-- Demand 3: what the questions of an accepted call, each looked up by its number, say of what the call names. They hold of any view.
+use Prim.Native.Nat.{ℕ, _+_, _/_, _≤_, _<_}
+use mathlib.Core.Bool.{Bool, true, false}
+use mathlib.Core.Path.{_≡_, refl}
+use lib.Dec.{ltb}
+use native.Mathlib.Omega.{arith}
+use borrow.Author.Tests.{ltb-true, eqb-true, not-true}
+use Rattle.model.specs.Edges.{pageBytes, both, either, lastByte, lastPage}
+use Rattle.model.specs.Bits.{present, noExecute, frameOf}
+use Rattle.model.specs.Questions.{View, firstNo, inOrder, syncPageQuestions, syncAllQuestions, fetchPermitted, fetchQuestions, free, everyTouched, writeQuestions, enterQuestions, leaveQuestions, deviceWriteQuestions}
+use Rattle.model.proofs.QuestionLaws.{asked, numbered, all-yes, both-first, both-second}
+use Rattle.model.proofs.TouchLaws.{touched-at}
+
+-- A test of every page (or frame) that an access touches holds of that of each of its bytes.
+every-byte : (test : ℕ → Bool) (address length a : ℕ) → everyTouched test address length ≡ true → address ≤ a → a < address + length
+    → test (a / pageBytes) ≡ true
+unfolding lastPage lastByte
+every-byte test address length a h l m = touched-at test address length (a / pageBytes) h (omega arith) (omega arith)
+
+module _ (v : View) where
+  -- The page, the entry page and the kernel table's length.
+  pub syncPage-page : (n page : ℕ) → firstNo (syncPageQuestions v n page) ≡ 0 → page < v .pages
+  unfolding syncPageQuestions asked numbered both either
+  syncPage-page n page h = ltb-true page (v .pages) (both-first _ _ (all-yes 9 (syncPageQuestions v n page) refl h))
+
+  pub syncAll-kernel : (n : ℕ) → firstNo (syncAllQuestions v n) ≡ 0 → n ≡ v .pages
+  unfolding syncAllQuestions asked numbered both either inOrder
+  syncAll-kernel n h = eqb-true n (v .pages) (both-first _ _ (both-first _ _ (all-yes 7 (syncAllQuestions v n) refl h)))
+
+  pub fetch-page : (page : ℕ) → firstNo (fetchQuestions v page) ≡ 0 → page < v .pages
+  unfolding fetchQuestions asked numbered both either
+  fetch-page page h = ltb-true page (v .pages) (both-first _ _ (all-yes 9 (fetchQuestions v page) refl h))
+
+  pub enter-page : (index : ℕ) → firstNo (enterQuestions v index) ≡ 0 → v .entry index < v .pages
+  unfolding enterQuestions asked numbered both either
+  enter-page index h =
+      ltb-true (v .entry index) (v .pages)
+      (both-second (ltb index (v .entries)) (ltb (v .entry index) (v .pages)) (both-first _ _ (all-yes 9 (enterQuestions v index) refl h)))
+
+  pub leave-page : (page : ℕ) → firstNo (leaveQuestions v page) ≡ 0 → page < v .pages
+  unfolding leaveQuestions asked numbered both either
+  leave-page page h = ltb-true page (v .pages) (both-first _ _ (all-yes 9 (leaveQuestions v page) refl h))
+
+  -- What a fetch finds there, and what a write or device write may cover.
+  pub fetch-there : (page : ℕ) → firstNo (fetchQuestions v page) ≡ 0 → present (v .shadow page) ≡ true
+  unfolding fetchQuestions asked numbered both either
+  fetch-there page h = both-first _ _ (all-yes 11 (fetchQuestions v page) refl h)
+
+  pub fetch-executable : (page : ℕ) → firstNo (fetchQuestions v page) ≡ 0 → noExecute (v .shadow page) ≡ false
+  unfolding fetchQuestions fetchPermitted asked numbered both either
+  fetch-executable page h = not-true _ (both-first _ _ (both-first _ _ (all-yes 12 (fetchQuestions v page) refl h)))
+
+  pub write-free : (address length a : ℕ) → firstNo (writeQuestions v address length) ≡ 0 → address ≤ a → a < address + length
+      → free v (frameOf (v .shadow (a / pageBytes))) ≡ true
+  unfolding writeQuestions asked numbered both either
+  write-free address length a h l m =
+      every-byte (λ p. free v (frameOf (v .shadow p))) address length a (both-first _ _ (all-yes 13 (writeQuestions v address length) refl h)) l m
+
+  pub deviceWrite-free : (address length a : ℕ) → firstNo (deviceWriteQuestions v address length) ≡ 0 → address ≤ a → a < address + length
+      → free v (a / pageBytes) ≡ true
+  unfolding deviceWriteQuestions asked numbered both either
+  deviceWrite-free address length a h l m =
+      every-byte (free v) address length a (both-first _ _ (all-yes 13 (deviceWriteQuestions v address length) refl h)) l m
