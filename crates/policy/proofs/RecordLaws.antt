@@ -7,12 +7,13 @@ use mathlib.Core.Path.{_≡_, refl, sym, _∙_}
 use lib.Dec.{leb, eqb}
 use lib.ListN.{length, getD, List·getD-eq-default}
 use native.Mathlib.Omega.{arith}
-use borrow.Author.Tests.{not-true, not-false, le-leb, lt-leb, eq-eqb, ne-eqb, eqb-true, eqb-false}
+use borrow.Author.Tests.{not-true, le-leb, lt-leb, eq-eqb, ne-eqb, eqb-true, eqb-false}
 use Rattle.model.specs.Edges.{both, either, within, pagesInRange, framesInRange}
 use Rattle.model.specs.Keeps.{vectorBytes}
 use Rattle.model.specs.Policy.{numberAt, numbersAt, policyOf}
 use Rattle.model.specs.Questions.{Question, question, firstNo, sizesInRange, countsInRange, rising, allBelow, inOrder, startQuestions}
 use Rattle.model.proofs.QuestionLaws.{both-first, both-second, firstNo-yes, firstNo-no, asked, numbered, all-yes}
+use Rattle.model.proofs.CallLaws.{passed, stopped, none-left}
 use Rattle.model.proofs.PolicyLaws.{numbersAt-none, numbersAt-more, rising-none, rising-more, rising-low, rising-high, allBelow-none, allBelow-more, allBelow-no}
 use Rattle.policy.specs.Record.{recordQuestions}
 
@@ -67,17 +68,6 @@ module _ (bytes : List ℕ) (limit at left : ℕ) (whole : Bool) (e : allBelow l
     pub below-goes-on : frame < limit → allBelow limit (numbersAt bytes (at + 2) (left - 1)) ≡ whole
     below-goes-on h = sym (allBelow-more limit frame _ h) ∙ listed
 
--- A question asked by a test t: past a yes, and at a no.
-past : (n : ℕ) {b t : Bool} (qs : List Question) → t ≡ b → not t ≡ false → firstNo (question n b ∷ qs) ≡ firstNo qs
-past n {t = t} qs e h = firstNo-yes n qs (sym e ∙ not-false t h)
-
-stops : (n : ℕ) {b t : Bool} (qs : List Question) → t ≡ b → not t ≡ true → firstNo (question n b ∷ qs) ≡ n
-stops n {t = t} qs e h = firstNo-no n qs (sym e ∙ not-true t h)
-
-firstNo-none : firstNo [] ≡ 0
-unfolding firstNo
-firstNo-none = refl
-
 -- Questions 1 to 6 in order, by the tests that the code makes of the numbers that it read.
 module _ (bytes : List ℕ) where
   pub record-1 : length bytes < 8 → 1 ≡ firstNo (recordQuestions bytes)
@@ -86,8 +76,8 @@ module _ (bytes : List ℕ) where
 
   module _ (h1 : 8 ≤ length bytes) (pages frames : ℕ) (eV : pages ≡ numberAt bytes 0) (eF : frames ≡ numberAt bytes 2) (sizes : Bool)
       (e2 : sizes ≡ both (pagesInRange pages) (framesInRange frames)) where
-    yes1 : (qs : List Question) → firstNo (question 1 (leb 8 (length bytes)) ∷ qs) ≡ firstNo qs
-    yes1 qs = firstNo-yes 1 qs (le-leb 8 (length bytes) h1)
+    past1 : (k : ℕ) (qs : List Question) → k ≡ firstNo qs → k ≡ firstNo (question 1 (leb 8 (length bytes)) ∷ qs)
+    past1 k qs rest = rest ∙ sym (firstNo-yes 1 qs (le-leb 8 (length bytes) h1))
 
     is2 : sizes ≡ sizesInRange (policyOf bytes)
     unfolding sizesInRange policyOf
@@ -95,7 +85,7 @@ module _ (bytes : List ℕ) where
 
     pub record-2 : not sizes ≡ true → 2 ≡ firstNo (recordQuestions bytes)
     unfolding recordQuestions startQuestions
-    record-2 h = sym (yes1 _ ∙ stops 2 _ is2 h)
+    record-2 h = past1 2 _ (stopped 2 sizes _ _ is2 h)
 
     module _ (h2 : not sizes ≡ false) (count entries : ℕ) (eN : count ≡ numberAt bytes 4) (eE : entries ≡ numberAt bytes 6) (counts : Bool)
         (e3 : counts ≡ both (within 1 pages count) (within 1 (min count 16) entries)) where
@@ -105,22 +95,22 @@ module _ (bytes : List ℕ) where
 
       pub record-3 : not counts ≡ true → 3 ≡ firstNo (recordQuestions bytes)
       unfolding recordQuestions startQuestions
-      record-3 h = sym (yes1 _ ∙ (past 2 _ is2 h2 ∙ stops 3 _ is3 h))
+      record-3 h = past1 3 _ (passed 2 3 sizes _ _ is2 h2 (stopped 3 counts _ _ is3 h))
 
       module _ (h3 : not counts ≡ false) where
-        yes123 : (qs : List Question)
-            → firstNo (question 1 (leb 8 (length bytes)) ∷ question 2 (sizesInRange (policyOf bytes)) ∷ question 3 (countsInRange (policyOf bytes)) ∷ qs) ≡ firstNo qs
-        yes123 qs = yes1 _ ∙ (past 2 _ is2 h2 ∙ past 3 _ is3 h3)
+        past3 : (k : ℕ) (qs : List Question) → k ≡ firstNo qs
+            → k ≡ firstNo (question 1 (leb 8 (length bytes)) ∷ question 2 (sizesInRange (policyOf bytes)) ∷ question 3 (countsInRange (policyOf bytes)) ∷ qs)
+        past3 k qs rest = past1 k _ (passed 2 k sizes _ _ is2 h2 (passed 3 k counts _ _ is3 h3 rest))
 
         pub record-4 : (length bytes ≡ 8 + 4 * count → ⊥) → 4 ≡ firstNo (recordQuestions bytes)
         unfolding recordQuestions startQuestions policyOf
-        record-4 h = sym (yes123 _ ∙ firstNo-no 4 _ (rw (← eN) (ne-eqb (length bytes) (8 + 4 * count) h)))
+        record-4 h = past3 4 _ (sym (firstNo-no 4 _ (rw (← eN) (ne-eqb (length bytes) (8 + 4 * count) h))))
 
         module _ (h4 : length bytes ≡ 8 + 4 * count) (rises : Bool) (e5 : rises ≡ rising pages 0 (numbersAt bytes 8 count)) where
-          yes1234 : (qs : List Question) → firstNo (question 1 (leb 8 (length bytes)) ∷ question 2 (sizesInRange (policyOf bytes)) ∷ question 3 (countsInRange (policyOf bytes))
-              ∷ question 4 (eqb (length bytes) (8 + 4 * policyOf bytes .count)) ∷ qs) ≡ firstNo qs
+          past4 : (k : ℕ) (qs : List Question) → k ≡ firstNo qs → k ≡ firstNo (question 1 (leb 8 (length bytes)) ∷ question 2 (sizesInRange (policyOf bytes))
+              ∷ question 3 (countsInRange (policyOf bytes)) ∷ question 4 (eqb (length bytes) (8 + 4 * policyOf bytes .count)) ∷ qs)
           unfolding policyOf
-          yes1234 qs = yes123 _ ∙ firstNo-yes 4 qs (rw (← eN) (eq-eqb (length bytes) (8 + 4 * count) h4))
+          past4 k qs rest = past3 k _ (rest ∙ sym (firstNo-yes 4 qs (rw (← eN) (eq-eqb (length bytes) (8 + 4 * count) h4))))
 
           is5 : rises ≡ rising (policyOf bytes .pages) 0 (policyOf bytes .listed)
           unfolding policyOf
@@ -128,7 +118,7 @@ module _ (bytes : List ℕ) where
 
           pub record-5 : not rises ≡ true → 5 ≡ firstNo (recordQuestions bytes)
           unfolding recordQuestions startQuestions
-          record-5 h = sym (yes1234 _ ∙ stops 5 _ is5 h)
+          record-5 h = past4 5 _ (stopped 5 rises _ _ is5 h)
 
           module _ (h5 : not rises ≡ false) (below : Bool) (e6 : below ≡ allBelow frames (numbersAt bytes (8 + 2 * count) count)) where
             is6 : below ≡ allBelow (policyOf bytes .frames) (policyOf bytes .backing)
@@ -137,11 +127,11 @@ module _ (bytes : List ℕ) where
 
             pub record-6 : not below ≡ true → 6 ≡ firstNo (recordQuestions bytes)
             unfolding recordQuestions startQuestions
-            record-6 h = sym (yes1234 _ ∙ (past 5 _ is5 h5 ∙ stops 6 _ is6 h))
+            record-6 h = past4 6 _ (passed 5 6 rises _ _ is5 h5 (stopped 6 below _ _ is6 h))
 
             pub record-yes : not below ≡ false → 0 ≡ firstNo (recordQuestions bytes)
             unfolding recordQuestions startQuestions
-            record-yes h = sym (yes1234 _ ∙ (past 5 _ is5 h5 ∙ (past 6 _ is6 h ∙ firstNo-none)))
+            record-yes h = past4 0 _ (passed 5 0 rises _ _ is5 h5 (passed 6 0 below _ _ is6 h none-left))
 
 -- A record with no first no has the length of question 4, and so has one that the start accepts.
 pub record-length : (bytes : List ℕ) (n : ℕ) → n ≡ firstNo (recordQuestions bytes) → n ≡ 0 → length bytes ≡ 8 + 4 * policyOf bytes .count

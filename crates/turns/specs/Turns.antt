@@ -1,16 +1,18 @@
 -- The drill made of a state and the tables, and what the functions of the drill leave, as records of the model.
 use Prim.Native.Nat.{ℕ}
-use mathlib.Core.Bool.{Bool, cond}
+use mathlib.Core.Bool.{Bool, true, cond}
 use mathlib.Core.List.{List}
+use mathlib.Core.Path.{_≡_}
 use lib.Dec.{eqb}
+use lib.ListN.{replicate}
 use Rattle.model.specs.declared.State.{State}
 use Rattle.model.specs.declared.Answer.{Answer}
 use Rattle.model.specs.declared.Called.{Called}
 use Rattle.model.specs.Edges.{pagesInRange, framesInRange}
 use Rattle.model.specs.Keeps.{Guard, vectorBytes}
 use Rattle.model.specs.Policy.{policyOf}
-use Rattle.model.specs.Calls.{Outcome, replyOf}
-use Rattle.model.specs.Drill.{Drill, Drilled, Turn, startLine}
+use Rattle.model.specs.Calls.{Outcome, replyOf, startOf}
+use Rattle.model.specs.Drill.{Drill, Drilled, Turn, drillStart, startLine}
 use Rattle.lines.specs.Text.{text}
 use Rattle.turns.specs.declared.Turned.{Turned}
 
@@ -52,3 +54,15 @@ pagesLent record′ = cond (pagesInRange (policyOf record′ .pages)) (policyOf 
 
 unfoldable pub bytesLent : List ℕ → ℕ
 bytesLent record′ = cond (framesInRange (policyOf record′ .frames)) (vectorBytes (policyOf record′ .frames)) 0
+
+-- The start as the drill makes it: on tables of those lengths, all zeros.
+unfoldable pub lentStart : List ℕ → Outcome
+lentStart record′ = startOf record′ (replicate (pagesLent record′) 0) (replicate (pagesLent record′) 0) (replicate (bytesLent record′) 0)
+
+-- On every record it opens the drill as the model's start does: the same line, calls in the same cases, and where they follow the same guard.
+unfoldable pub OpensAsDefined : Type 0
+OpensAsDefined =
+    (record′ : List ℕ) →
+    (openingOf (lentStart record′) .line ≡ openingOf (drillStart record′) .line)
+    × (openingOf (lentStart record′) .goes ≡ openingOf (drillStart record′) .goes)
+    × (openingOf (lentStart record′) .goes ≡ true → openingOf (lentStart record′) .guard ≡ openingOf (drillStart record′) .guard)

@@ -11,7 +11,7 @@ ghost use Rattle.model.specs.Lists.{answer};
 ghost use Rattle.model.specs.Drill;
 ghost use Rattle.model.specs.Drill.{policyExtent, indexOf, lengthOf, valueOf, edited, callOf, performed, line};
 ghost use Rattle.lines.specs.Text.{text};
-ghost use Rattle.turns.specs.Turns.{guardOf, drillOf, editedBy, performedBy, turnedBy, openingOf, openedBy, pagesLent, bytesLent};
+ghost use Rattle.turns.specs.Turns.{guardOf, drillOf, editedBy, performedBy, turnedBy, openingOf, openedBy, pagesLent, bytesLent, OpensAsDefined};
 use lines::Line;
 use model::Answer;
 use model::Called;
@@ -83,6 +83,11 @@ pub fn open(bytes: &[u8], shadow: &mut [u64], map: &mut [u16], exclusion: &mut [
         goes: accepted(answer),
     }
 }
+
+// What is lent makes no difference to the start of the drill as it is defined, on tables of the record's own sizes.
+pub fn opens_as_defined()
+    ensures { λ _. ⌜ OpensAsDefined ⌝ }
+{}
 
 // The fields of a call.
 

@@ -1,0 +1,66 @@
+-- `turns::opens_as_defined` meets its contract: where V or F is out of range, question 1 or 2 refuses before any table is looked at.
+use Prim.Native.Nat.{ℕ}
+use mathlib.Core.Bool.{Bool, true, false, cond, false≢true}
+use mathlib.Core.List.{List}
+use mathlib.Core.Path.{_≡_, refl, ap}
+use lib.Dec.{leb, eqb}
+use lib.ListN.{length}
+use Rattle.model.specs.Edges.{both, pagesInRange, framesInRange}
+use Rattle.model.specs.Policy.{policyOf, zeroState}
+use Rattle.model.specs.Questions.{firstNo, sizesInRange, startQuestions}
+use Rattle.model.specs.Calls.{Outcome, refused, settle, startOf}
+use Rattle.model.specs.Drill.{drillStart, startLine}
+use Rattle.model.proofs.QuestionLaws.{both-no, both-no-after}
+use Rattle.turns.specs.Turns.{Opening, openingOf, pagesLent, bytesLent, lentStart, OpensAsDefined}
+use Rattle.turns.proofs.opens_as_defined.Statement.{statement}
+use Rattle.turns.proofs.opens_as_defined.Tie as tie
+
+-- Two openings that nobody can tell apart.
+Same : Opening → Opening → Type 0
+Same a b = (a .line ≡ b .line) × (a .goes ≡ b .goes) × (a .goes ≡ true → a .guard ≡ b .guard)
+
+-- A start whose V or F is out of range, on any tables.
+outside : List ℕ → List ℕ → List ℕ → List ℕ → Outcome
+outside bytes shadow map exclusion =
+    record {
+      reply = refused (cond (leb 8 (length bytes)) 2 1);
+      guard = record { state = zeroState; shadow = shadow; map = map; exclusion = exclusion };
+    }
+
+module _ (bytes : List ℕ) where
+  start-outside : (shadow map exclusion : List ℕ) → sizesInRange (policyOf bytes) ≡ false
+      → startOf bytes shadow map exclusion ≡ outside bytes shadow map exclusion
+  unfolding startOf startQuestions firstNo settle outside
+  start-outside shadow map exclusion p = at (leb 8 (length bytes)) refl
+    where
+      at : (b : Bool) → leb 8 (length bytes) ≡ b → startOf bytes shadow map exclusion ≡ outside bytes shadow map exclusion
+      at true e = rw (e, p) refl
+      at false e = rw e refl
+
+  same-outside : (s m x s′ m′ x′ : List ℕ) → Same (openingOf (outside bytes s m x)) (openingOf (outside bytes s′ m′ x′))
+  unfolding Same openingOf outside startLine
+  same-outside s m x s′ m′ x′ = (refl, refl, at (leb 8 (length bytes)))
+    where
+      at : (b : Bool) → eqb (cond b 2 1) 0 ≡ true → openingOf (outside bytes s m x) .guard ≡ openingOf (outside bytes s′ m′ x′) .guard
+      at true h = absurd (false≢true h)
+      at false h = absurd (false≢true h)
+
+  opens-outside : (s m x s′ m′ x′ : List ℕ) → sizesInRange (policyOf bytes) ≡ false
+      → Same (openingOf (startOf bytes s m x)) (openingOf (startOf bytes s′ m′ x′))
+  opens-outside s m x s′ m′ x′ p = rw (start-outside s m x p, start-outside s′ m′ x′ p) (same-outside s m x s′ m′ x′)
+
+  opens : (v f : Bool) → pagesInRange (policyOf bytes .pages) ≡ v → framesInRange (policyOf bytes .frames) ≡ f
+      → Same (openingOf (lentStart bytes)) (openingOf (drillStart bytes))
+  unfolding lentStart drillStart pagesLent bytesLent sizesInRange Same
+  opens true true p q = rw (p, q) (refl, refl, λ h. refl)
+  opens false f p q = opens-outside _ _ _ _ _ _ (both-no _ p)
+  opens true false p q = opens-outside _ _ _ _ _ _ (both-no-after _ q)
+
+returns : tie.Need-returns
+unfolding OpensAsDefined Same
+returns c = λ bytes. opens bytes (pagesInRange (policyOf bytes .pages)) (framesInRange (policyOf bytes .frames)) refl refl
+
+pub opens-as-defined-spec : {M : Type 1} → statement M
+opens-as-defined-spec =
+    tie.close
+    (tie.spec returns)
