@@ -1,7 +1,8 @@
 -- What each exported call returns and leaves, on every input: the model's answer on the decoded state, behind the boundary's part of question 7.
 use Prim.Native.Nat.{ℕ}
-use mathlib.Core.Bool.{cond}
+use mathlib.Core.Bool.{true, cond}
 use mathlib.Core.List.{List, [], _∷_}
+use mathlib.Core.Path.{_≡_}
 use Rattle.model.specs.Calls.{Reply, refused, settle, Moved, Switched, Synced, Outcome, startOf, syncPageOf, syncAllOf, fetchOf, writeOf, enterOf, leaveOf, deviceWriteOf}
 use Rattle.runs.specs.Runs.{stateIn, withNumbers, runsFit, lendable, runAfter, runStarted}
 
@@ -67,3 +68,12 @@ startAt bytes run shadow map exclusion numbers =
     cond (runsFit run numbers)
     (replied (r .reply) (runStarted run (r .reply) (r .guard .state)) numbers (r .guard .shadow ∷ r .guard .map ∷ r .guard .exclusion ∷ []))
     (replied (refused (settle (r .reply .number) 7 (λ n. n))) run numbers (shadow ∷ map ∷ exclusion ∷ []))
+
+-- Where both runs can be lent, the state run holds after a call the state that the call's definition answers. The other calls leave the run as it
+-- was, and an accepted start's words decode to its state by `runs::put_state`.
+unfoldable pub StateHeld : Type 0
+StateHeld =
+    (run shadow numbers : List ℕ) (n : ℕ) → lendable run numbers ≡ true
+    → (stateIn (fetchAt run shadow n numbers .state) ≡ fetchOf (stateIn run) shadow n .state)
+    × (stateIn (enterAt run shadow n numbers .state) ≡ enterOf (stateIn run) shadow n .state)
+    × (stateIn (leaveAt run shadow n numbers .state) ≡ leaveOf (stateIn run) shadow n .state)

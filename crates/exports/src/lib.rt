@@ -6,7 +6,7 @@ ghost use mathlib.Core.List.{[], _∷_};
 ghost use Rattle.model.specs.Calls.{settle};
 ghost use Rattle.model.specs.Questions.{firstNo};
 ghost use Rattle.policy.specs.Record.{recordQuestions};
-ghost use Rattle.exports.specs.Boundary.{left, startAt, syncPageAt, syncAllAt, fetchAt, writeAt, enterAt, leaveAt, deviceWriteAt};
+ghost use Rattle.exports.specs.Boundary.{left, startAt, syncPageAt, syncAllAt, fetchAt, writeAt, enterAt, leaveAt, deviceWriteAt, StateHeld};
 use model::Answer;
 
 // The refusal of a start whose runs do not fit: the record's questions come first.
@@ -157,3 +157,8 @@ pub extern "C" fn guard_device_write(
     let answer = access::device_write(runs::state_in(state), exclusion, address, length);
     runs::reply(numbers, answer)
 }
+
+// The state goes from call to call in its run as the definitions hand it on.
+pub fn state_held()
+    ensures { λ _. ⌜ StateHeld ⌝ }
+{}

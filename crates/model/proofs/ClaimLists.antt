@@ -1,9 +1,11 @@
 -- Demand 3: the claim about the whole list, by induction on it. One call at a time, refused or accepted, and then the rest.
 use Prim.Native.Nat.{ℕ, zero, suc}
+use mathlib.Core.Bool.{true}
 use mathlib.Core.List.{List, [], _∷_}
-use mathlib.Core.Path.{_≡_, refl, ap, fun-ext, _∙_}
+use mathlib.Core.Path.{_≡_, refl, sym, ap, fun-ext, _∙_}
 use lib.ListN.{length}
 use native.Mathlib.Omega.{arith}
+use borrow.Author.Tests.{ne-eqb}
 use Rattle.model.specs.Keeps.{Guard}
 use Rattle.model.specs.Policy.{Policy, policyOf, startGuard}
 use Rattle.model.specs.Questions.{firstNo, startQuestions}
@@ -17,16 +19,16 @@ use Rattle.model.proofs.ClaimCalls.{commutes, kept}
 use Rattle.model.proofs.ClaimSafe.{safe}
 use Rattle.model.proofs.ClaimStart.{sound, first-pages, start-kept}
 
--- An accepted call has no number.
-accepted-number : (g : Guard) (call : Call) → (acceptedOf g call) .reply .number ≡ 0
+-- An accepted call has no number, and says that it is allowed.
+accepted-reply : (g : Guard) (call : Call) → ((acceptedOf g call) .reply .number ≡ 0) × ((acceptedOf g call) .reply .allowed ≡ true)
 unfolding acceptedOf withSynced withMoved withSwitched withReply pageSynced allSynced switchTo
-accepted-number g (syncPage kernel page) = refl
-accepted-number g (syncAll kernel) = refl
-accepted-number g (fetch page) = refl
-accepted-number g (write address size) = refl
-accepted-number g (enter index) = refl
-accepted-number g (leave page) = refl
-accepted-number g (deviceWrite address size) = refl
+accepted-reply g (syncPage kernel page) = (refl, refl)
+accepted-reply g (syncAll kernel) = (refl, refl)
+accepted-reply g (fetch page) = (refl, refl)
+accepted-reply g (write address size) = (refl, refl)
+accepted-reply g (enter index) = (refl, refl)
+accepted-reply g (leave page) = (refl, refl)
+accepted-reply g (deviceWrite address size) = (refl, refl)
 
 -- A refused call changes none of the frames that a list carries.
 carried-refused : (n : ℕ) (call : Call) (ps : ℕ → Page) (carried : Carried) → carriedAfter (suc n) call ps carried ≡ carried
@@ -64,7 +66,8 @@ always policy sound (call ∷ calls) carried g h = by-number (settled policy (pa
         let pages : pagesAfter policy number call (pageOf g) ≡ pageOf ((acceptedOf g call) .guard) =
         fun-ext (λ p. settle-accepted _ _ e ∙ commutes policy carried g sound h call e p) in (
           agree policy carried g h,
-          rw (outcome, e) (accepted-number g call),
+          rw (outcome, e) (accepted-reply g call .0),
+          rw (outcome, e) (accepted-reply g call .1),
           (λ _. rw outcome (safe policy carried g h call e)),
           rw (outcome, pages, e) (rest _ _ (kept policy carried g sound h call e)),
         )
@@ -72,7 +75,13 @@ always policy sound (call ∷ calls) carried g h = by-number (settled policy (pa
         let outcome : answer g call ≡ refusedOf g (suc n) =
         answered policy carried g sound h call ∙ settle-refused n (acceptedOf g call) (refusedOf g) e in
         let pages : pagesAfter policy number call (pageOf g) ≡ pageOf g = fun-ext (λ p. settle-refused n _ _ e) in
-        (agree policy carried g h, rw (outcome, e) refl, (λ z. absurd (omega arith)), rw (outcome, pages, e, carried-refused) (rest carried g h))
+        (
+          agree policy carried g h,
+          rw (outcome, e) refl,
+          rw (outcome, e) (sym (ne-eqb (suc n) 0 (λ z. omega arith))),
+          (λ z. absurd (omega arith)),
+          rw (outcome, pages, e, carried-refused) (rest carried g h),
+        )
 
 -- The start is settled first: a refused one has a number, and the list of an accepted one begins with what always holds.
 pub claim : Claim

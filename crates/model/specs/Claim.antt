@@ -4,6 +4,7 @@ use mathlib.Core.Bool.{Bool, true, false}
 use mathlib.Core.List.{List, [], _∷_}
 use mathlib.Core.Path.{_≡_}
 use lib.ListN.{length, getD}
+use lib.Dec.{eqb}
 use Rattle.model.specs.Edges.{pageBytes}
 use Rattle.model.specs.Keeps.{none, Guard, vectorBytes, inUser}
 use Rattle.model.specs.Policy.{Policy, policyOf, named}
@@ -73,8 +74,8 @@ Safe policy carried ps (enter index) reply = Unit {0}
 Safe policy carried ps (leave page) reply = Unit {0}
 Safe policy carried ps (deviceWrite address size) reply = DeviceWriteSafe policy carried address size
 
--- The guard and the one-page guards agree now; "the guard answers the same number, or none" as they settle; an allowed call is safe; and all
--- of this again after the call, for the rest of the list.
+-- The guard and the one-page guards agree now; "the guard answers the same number, or none" as they settle, and says that the call is
+-- allowed just where there is none; an allowed call is safe; and all of this again after the call, for the rest of the list.
 abbrev pub Always : Policy → Carried → Guard → (ℕ → Page) → List Call → Type 0
 Always policy carried g ps [] = Agree policy g ps
 Always policy carried g ps (call ∷ calls) =
@@ -82,6 +83,7 @@ Always policy carried g ps (call ∷ calls) =
     let outcome : Outcome = answer g call in
     Agree policy g ps
     × (outcome .reply .number ≡ number)
+    × (outcome .reply .allowed ≡ eqb number 0)
     × (number ≡ 0 → Safe policy carried ps call (outcome .reply))
     × Always policy (carriedAfter number call ps carried) (outcome .guard) (pagesAfter policy number call ps) calls
 

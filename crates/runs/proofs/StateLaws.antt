@@ -4,7 +4,7 @@ use mathlib.Core.Bool.{Bool, true, false}
 use mathlib.Core.List.{List, [], _∷_, _++_}
 use mathlib.Core.Path.{_≡_, refl, sym, ap, _∙_}
 use lib.ListN.{length, getD, set, drop, length-append, length-drop, length-set, List·getD-append}
-use lib.Seq.{paste, take-all, set-at, getD-at, getD-drop, append-snoc}
+use lib.Seq.{paste, take-all, set-at, getD-at, getD-drop, getD-set-same, getD-set-other, append-snoc}
 use lib.Dec.{leb, ltb, eqb}
 use borrow.Author.Tests.{le-leb, ltb-true}
 use native.Mathlib.Omega.{arith}
@@ -14,10 +14,10 @@ use Rattle.model.specs.declared.Mode.{Mode}
 use Rattle.model.specs.declared.Mode.the-variants.{Kernel, User}
 use Rattle.model.specs.declared.State.{State}
 use Rattle.model.specs.Edges.{both, within, pagesInRange, framesInRange}
-use Rattle.model.specs.Keeps.{inUser, running, modeOf}
+use Rattle.model.specs.Keeps.{inUser, running, modeOf, inMode}
 use Rattle.model.specs.Questions.{stateInOrder}
 use Rattle.model.proofs.QuestionLaws.{both-yes, both-no-after, within-high}
-use Rattle.model.proofs.TableLaws.{is-table}
+use Rattle.model.proofs.TableLaws.{is-table, table-same}
 use Rattle.runs.specs.Runs.{narrow, field, entryPages, stateIn, modeWord, wordsOf, withMode}
 use Rattle.runs.proofs.WordLaws.{narrow-fits, narrow-within, narrow-ltb}
 
@@ -101,6 +101,34 @@ module _ (s : State) (long : length (s .entry) ≡ 16) where
 pub written-decoded : (s : State) (t : List ℕ) → t ≡ wordsOf s → length (s .entry) ≡ 16 → s .pages < 65536 → s .frames < 65536
     → s .entries < 65536 → ((i : ℕ) → Fits w16 (getD (s .entry) i 0)) → running (s .mode) < 65536 → stateIn t ≡ s
 written-decoded s t e long p f n fits r = rw e (words-decoded s long p f n fits r)
+
+-- A run with another mode decodes to the state in that mode: the other words are as they were.
+module _ (run : List ℕ) (mode : Mode) (long : length run ≡ 21) where
+  kept-word : (at : ℕ) → at < 19 → getD (withMode run mode) at 0 ≡ getD run at 0
+  unfolding withMode
+  kept-word at h =
+      getD-set-other (set run 19 (modeWord mode)) 20 at (running mode) 0 (λ q. omega arith) ∙ getD-set-other run 19 at (modeWord mode) 0 (λ q. omega arith)
+
+  mode-put : getD (withMode run mode) 19 0 ≡ modeWord mode
+  unfolding withMode
+  mode-put = getD-set-other (set run 19 (modeWord mode)) 20 19 (running mode) 0 (λ q. omega arith) ∙ getD-set-same run 19 (modeWord mode) 0 (omega arith)
+
+  running-put : getD (withMode run mode) 20 0 ≡ running mode
+  unfolding withMode
+  running-put = getD-set-same (set run 19 (modeWord mode)) 20 (running mode) 0 (simp length-set (omega arith))
+
+  pub mode-decoded : running mode < 65536 → stateIn (withMode run mode) ≡ inMode (stateIn run) mode
+  unfolding stateIn inMode field entryPages
+  mode-decoded r =
+      state-made (inMode (stateIn run) mode) _ _ _ _ _ (ap narrow (kept-word 0 (omega arith))) (ap narrow (kept-word 1 (omega arith)))
+      (ap narrow (kept-word 2 (omega arith)))
+      (table-same 16 _ _ (λ i h. ap narrow (kept-word (3 + i) (omega arith))))
+      (rw (mode-put, running-put, narrowed (running mode) r) (mode-back mode))
+
+pub mode-written : (run : List ℕ) (mode : Mode) (word r : ℕ) → length run ≡ 21 → word ≡ modeWord mode → r ≡ running mode → Fits w16 r
+    → stateIn (set (set run 19 word) 20 r) ≡ inMode (stateIn run) mode
+unfolding withMode
+mode-written run mode word r long e p h = rw (e, p) (mode-decoded run mode long (rw p at (h .fits)))
 
 -- The page of a mode, as a function that reads it gave it.
 pub running-fits : (mode : Mode) (r : ℕ) → r ≡ running mode → Fits w16 r → running mode < 65536

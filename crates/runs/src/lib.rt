@@ -7,7 +7,7 @@ ghost use lib.ListN.{length};
 ghost use lib.Seq.{paste};
 ghost use lib.Dec.{eqb};
 ghost use Rattle.model.specs.Edges;
-ghost use Rattle.model.specs.Keeps.{modeOf, running};
+ghost use Rattle.model.specs.Keeps.{modeOf, running, inMode};
 ghost use Rattle.model.specs.Questions.{stateInOrder};
 ghost use Rattle.model.specs.Calls.{replyOf};
 ghost use Rattle.runs.specs.Runs;
@@ -108,10 +108,11 @@ pub fn state_in(run: &[u64]) -> State
     }
 }
 
-// Writes the words of a mode into a run. A mode's page is a 16-bit number, on which decoding rests.
+// Writes the words of a mode into a run. The run then decodes to the state in that mode. A mode's page is a 16-bit number, on which decoding rests.
 fn put_mode(run: &mut [u64], mode: Mode)
     requires { ⌜ length (now run) ≡ stateWords ⌝ }
     ensures words { λ _. ⌜ now (run .exit) ≡ withMode (now (run .entry)) mode ⌝ }
+    ensures decoded { λ _. ⌜ stateIn (now (run .exit)) ≡ inMode (stateIn (now (run .entry))) mode ⌝ }
     ensures fits { λ _. ⌜ running mode < 65536 ⌝ }
 {
     run[STATE_MODE] = mode_word(mode);

@@ -1,13 +1,13 @@
 -- `runs::put_mode` meets its contract.
 use borrow.Author.Needs.{needs}
 use Rattle.runs.specs.Runs.{withMode}
-use Rattle.runs.proofs.StateLaws.{running-fits}
+use Rattle.runs.proofs.StateLaws.{mode-written, running-fits}
 use Rattle.runs.proofs.put_mode.Statement.{statement}
 use Rattle.runs.proofs.put_mode.Tie as tie
 
 returns : tie.Need-returns
 unfolding withMode
-returns c = (cc, search (needs, running-fits))
+returns c = (cc, (search (needs, mode-written), search (needs, running-fits)))
 
 pub put-mode-spec : {M : Type 1} → statement M
 put-mode-spec =
