@@ -114,7 +114,7 @@ module _ (bytes : List ℕ) (s m x : ℕ) (accepted : firstNo (startQuestions by
 
   backing-length : length (policy .backing) ≡ policy .count
   unfolding policyOf
-  backing-length = length-numbersAt bytes (8 + 2 * policy .count) (policy .count)
+  backing-length = length-numbersAt bytes _ (policy .count)
 
   pub sound : Sound policy
   unfolding pagesInRange framesInRange named

@@ -32,10 +32,10 @@ unfolding acceptedOn startState policyOf
 accepted-is bytes count entries pages frames first entry n e t v f p listed some =
     rw (t, entries-are bytes entries e listed, n, e, v, f, p, first-is bytes some) refl
 
--- The buffer is as long as every vector.
-pub buffer-room : (frames n : ℕ) (fs buffer : List ℕ) → n ≡ vectorBytes frames → frames ≤ 4096 → buffer ≡ withEach fs (replicate 512 0) → n ≤ length buffer
+-- The buffer is as long as every vector, whatever it began with.
+pub buffer-room : (frames n v : ℕ) (fs buffer : List ℕ) → n ≡ vectorBytes frames → frames ≤ 4096 → buffer ≡ withEach fs (replicate 512 v) → n ≤ length buffer
 unfolding vectorBytes
-buffer-room frames n fs buffer e h b = rw (b, each-length, length-replicate) (omega arith)
+buffer-room frames n v fs buffer e h b = rw (b, each-length, length-replicate) (omega arith)
 
 -- The start's questions: the record's, and then question 7 by the V and F that were read.
 module _ (bytes : List ℕ) (shadow map exclusion question : ℕ) (asked : question ≡ firstNo (recordQuestions bytes)) where
