@@ -18,9 +18,9 @@
  * guard_refusal). Its two numbers go to the numbers run, a run of GUARD_NUMBERS words: 0 and 0 where it is refused.
  * A refused call changes nothing else: the state run and every table stay as they were.
  *
- * The runs of a call are part of question 7. A state run that has not GUARD_STATE_WORDS words, a word of it that is wider
- * than its field, a mode word that is neither GUARD_MODE_KERNEL nor GUARD_MODE_USER, or a numbers run that has not
- * GUARD_NUMBERS words gives 7. A numbers run of another length is not written.
+ * The runs of a call are part of question 7. A state run that has not GUARD_STATE_WORDS words, a V, F, e or running page
+ * that is wider than 16 bits, a mode word that is neither GUARD_MODE_KERNEL nor GUARD_MODE_USER, or a numbers run that has
+ * not GUARD_NUMBERS words gives 7. A numbers run of another length is not written.
  */
 #ifndef GUARD_H
 #define GUARD_H

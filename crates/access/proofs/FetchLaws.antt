@@ -1,8 +1,8 @@
 -- Laws of a fetch: what it answers by the first no of its questions, and the bounds that its code needs on the way.
-use Prim.Native.Nat.{ℕ, _<_, _≤_, _%_, _^_}
+use Prim.Native.Nat.{ℕ, _<_, _≤_, _%_}
 use mathlib.Core.Bool.{Bool, true, false, not}
 use mathlib.Core.List.{List, [], _∷_}
-use mathlib.Core.Path.{_≡_, refl, sym, ap, _∙_}
+use mathlib.Core.Path.{_≡_, refl, sym, _∙_}
 use lib.ListN.{length, getD}
 use lib.Dec.{ltb, eqb}
 use borrow.Author.Tests.{not-true, not-false, ltb-true}
@@ -13,7 +13,7 @@ use Rattle.model.specs.declared.Answer.the-variants.{Done, Refused}
 use Rattle.model.specs.Edges.{both, either}
 use Rattle.model.specs.Keeps.{inUser, modeOf, inMode}
 use Rattle.model.specs.Bits.{present, noExecute, userBit, frameOf}
-use Rattle.model.specs.Questions.{Question, firstNo, seen, stateInOrder, inOrder, fetchPermitted, fetchQuestions}
+use Rattle.model.specs.Questions.{firstNo, seen, stateInOrder, inOrder, fetchPermitted, fetchQuestions}
 use Rattle.model.specs.Calls.{replyOf, movedBy, fetchOf}
 use Rattle.model.proofs.QuestionLaws.{both-first, both-second, firstNo-yes, firstNo-no, asked, numbered, all-yes, settle-accepted}
 use Rattle.model.proofs.CallLaws.{passed, passed-always, stopped, none-left, settle-refused-by, pages-few, shadow-long}

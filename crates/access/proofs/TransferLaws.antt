@@ -1,8 +1,8 @@
 -- Laws of a device write: what it answers by the first no of its questions, and the bounds on the way.
-use Prim.Native.Nat.{ℕ, suc, _+_, _-_, _*_, _/_, _<_, _≤_, _^_}
+use Prim.Native.Nat.{ℕ, suc, _-_, _*_, _/_, _<_, _≤_, _^_}
 use mathlib.Core.Bool.{Bool, true, false, not}
 use mathlib.Core.List.{List, [], _∷_}
-use mathlib.Core.Path.{_≡_, refl, sym, ap, _∙_}
+use mathlib.Core.Path.{_≡_, refl, sym, _∙_}
 use lib.ListN.{length}
 use lib.Dec.{ltb, eqb}
 use mir.Syntax.{w16}

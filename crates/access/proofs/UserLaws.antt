@@ -1,6 +1,6 @@
 -- Laws of the user bit b, which is asked in user mode only. r is what the code found of it.
 use mathlib.Core.Bool.{Bool, true, false, not}
-use mathlib.Core.Path.{_≡_, refl}
+use mathlib.Core.Path.{_≡_}
 use Rattle.model.specs.Edges.{either}
 
 pub user-asks : (user b r : Bool) → user ≡ true → r ≡ b → r ≡ either (not user) b

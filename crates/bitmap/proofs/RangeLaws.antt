@@ -6,10 +6,10 @@ use mathlib.Core.Path.{_≡_, refl, sym, ap, _∙_}
 use native.Mathlib.Nat.{zero-add, add-zero, suc-add, add-comm}
 use native.Mathlib.Numerals.{add-one}
 use native.Mathlib.Omega.{arith}
-use lib.Bits.{bitAnd, bitOr, or-add-and, and-le-l, and-le-r, or-zero-l}
+use lib.Bits.{bitAnd, bitOr, or-add-and, and-le-l, and-le-r}
 use lib.Dec.{eqb}
-use lib.ListN.{length, getD}
-use lib.Pow.{mod-pow-add, shr-shr, shl-shr, shr-mod, low}
+use lib.ListN.{getD}
+use lib.Pow.{mod-pow-add, shr-shr, shr-mod}
 use borrow.Author.Tests.{eq-eqb, ne-eqb, eqb-true, eqb-false, not-true, not-false}
 use Rattle.model.specs.Edges.{both, bit, everyFrom}
 use Rattle.model.specs.Keeps.{excludedIn}

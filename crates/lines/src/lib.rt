@@ -5,7 +5,7 @@ ghost use Prim.Native.Nat.{_+_, _*_, _≤_, _<_, _%_};
 ghost use mathlib.Core.Bool.{cond};
 ghost use mathlib.Core.Path.{_≡_};
 ghost use mathlib.Core.List.{[], _∷_, _++_};
-ghost use lib.ListN.{length, take};
+ghost use lib.ListN.{take};
 ghost use Rattle.model.specs.Keeps.{inUser, running, excludedIn};
 ghost use Rattle.model.specs.Calls.{replyOf};
 ghost use Rattle.model.specs.Drill.{digits, decimal, line, hexDigit, hexDigits, countFrom, share, shareLine};
@@ -172,7 +172,7 @@ fn excluded_count(frames: u16, exclusion: &[u8]) -> u64
 }
 
 // The share of excluded frames in percent, rounded down. Of no frames it is 0.
-pub fn share_of(frames: u16, exclusion: &[u8]) -> u64
+fn share_of(frames: u16, exclusion: &[u8]) -> u64
     ensures { λ r. ⌜ r ≡ share frames (now (exclusion .entry)) ⌝ }
 {
     if frames == 0 {

@@ -6,7 +6,7 @@ use native.Mathlib.Omega.{arith}
 use Rattle.model.specs.declared.Fields.{Fields}
 use Rattle.model.specs.Edges.{bit}
 use Rattle.model.specs.Keeps.{flag}
-use Rattle.model.specs.Bits.{present, writable, noExecute, frameOf, approvedMark, approvedNoExecute, approved, ordinaryNoExecute, ordinary, noExecuteIn, switched}
+use Rattle.model.specs.Bits.{present, noExecute, frameOf, approvedMark, approvedNoExecute, approved, ordinaryNoExecute, ordinary, noExecuteIn, switched}
 use Rattle.model.proofs.VectorLaws.{flag-weight, flag-small, flag-test}
 
 -- A bit that is a Boolean's digit, one that is 1, one that is 0, and two numbers that agree at a bit.
@@ -41,21 +41,9 @@ bit-flag false x h = bit-off 63 (x + 0) (omega arith)
 
 -- An approved entry: "bits 0 and 10, the frame; bit 63 set in user mode only".
 module _ (user : Bool) (f : ℕ) where
-  pub present-approved : present (approved user f) ≡ true
-  unfolding present approved approvedNoExecute
-  present-approved = bit-on 0 (approved user f) (omega (arith, flag-is user 63))
-
-  pub writable-approved : writable (approved user f) ≡ false
-  unfolding writable approved approvedNoExecute
-  writable-approved = bit-off 1 (approved user f) (omega (arith, flag-is user 63))
-
   pub approvedMark-approved : approvedMark (approved user f) ≡ true
   unfolding approvedMark approved approvedNoExecute
   approvedMark-approved = bit-on 10 (approved user f) (omega (arith, flag-is user 63))
-
-  pub noExecute-approved : f < 2 ^ 40 → noExecute (approved user f) ≡ user
-  unfolding noExecute approved approvedNoExecute
-  noExecute-approved h = bit-flag user (2 ^ 0 + 2 ^ 10 + f * 2 ^ 12) (omega arith)
 
   pub frameOf-approved : f < 2 ^ 40 → frameOf (approved user f) ≡ f
   unfolding frameOf approved approvedNoExecute
@@ -79,31 +67,14 @@ module _ (a b c d : Bool) (f : ℕ) where
   low-lt : low < 2 ^ 10
   low-lt = omega (arith, flag-is a 1, flag-is b 2, flag-is c 9)
 
-  bit0-is : bit 0 (low + f * 2 ^ 12 + flag d 63) ≡ true
-  bit0-is = bit-on 0 (low + f * 2 ^ 12 + flag d 63) (omega (arith, flag-is a 1, flag-is b 2, flag-is c 9, flag-is d 63))
-
-  bit1-is : bit 1 (low + f * 2 ^ 12 + flag d 63) ≡ a
-  bit1-is = bit-is 1 (low + f * 2 ^ 12 + flag d 63) a (omega (arith, flag-is a 1, flag-is b 2, flag-is c 9, flag-is d 63))
-
   bit10-is : bit 10 (low + f * 2 ^ 12 + flag d 63) ≡ false
   bit10-is = above-low low f d low-lt
 
   bit63-is : f < 2 ^ 40 → bit 63 (low + f * 2 ^ 12 + flag d 63) ≡ d
   bit63-is h = bit-flag d (low + f * 2 ^ 12) (omega (arith, low-lt))
 
-  frame-is : f < 2 ^ 40 → (low + f * 2 ^ 12 + flag d 63) / 2 ^ 12 % 2 ^ 40 ≡ f
-  frame-is h = frame-of low f d low-lt h
-
 -- An ordinary entry has these: no approved mark, and bit 63 by its own rule.
 module _ (user : Bool) (x : Fields) where
-  pub present-ordinary : present (ordinary user x) ≡ true
-  unfolding present ordinary
-  present-ordinary = bit0-is _ _ _ _ (x .frame)
-
-  pub writable-ordinary : writable (ordinary user x) ≡ x .writable
-  unfolding writable ordinary
-  writable-ordinary = bit1-is _ _ _ _ (x .frame)
-
   pub approvedMark-ordinary : approvedMark (ordinary user x) ≡ false
   unfolding approvedMark ordinary
   approvedMark-ordinary = bit10-is _ _ _ _ (x .frame)
@@ -111,10 +82,6 @@ module _ (user : Bool) (x : Fields) where
   pub noExecute-ordinary : x .frame < 2 ^ 40 → noExecute (ordinary user x) ≡ ordinaryNoExecute user (x .noexec) (x .user)
   unfolding noExecute ordinary
   noExecute-ordinary h = bit63-is _ _ _ _ (x .frame) h
-
-  pub frameOf-ordinary : x .frame < 2 ^ 40 → frameOf (ordinary user x) ≡ x .frame
-  unfolding frameOf ordinary
-  frameOf-ordinary h = frame-is _ _ _ _ (x .frame) h
 
 -- A mode switch: the frame and every bit but 63 are kept.
 switched-kept : (user : Bool) (entry k : ℕ) → ((b : Bool) → (entry % 2 ^ 63 + flag b 63) / 2 ^ k % 2 ≡ entry / 2 ^ k % 2)
@@ -129,10 +96,6 @@ switched-kept user entry k h = at (present entry) _
 pub present-switched : (user : Bool) (entry : ℕ) → present (switched user entry) ≡ present entry
 unfolding present
 present-switched user entry = switched-kept user entry 0 (λ b. omega (arith, flag-is b 63))
-
-pub writable-switched : (user : Bool) (entry : ℕ) → writable (switched user entry) ≡ writable entry
-unfolding writable
-writable-switched user entry = switched-kept user entry 1 (λ b. omega (arith, flag-is b 63))
 
 pub approvedMark-switched : (user : Bool) (entry : ℕ) → approvedMark (switched user entry) ≡ approvedMark entry
 unfolding approvedMark

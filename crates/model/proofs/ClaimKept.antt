@@ -1,7 +1,7 @@
 -- Demand 3: what is always true of the guard after an accepted start, and the one-page guards that its tables show. The questions of a call
 -- see the same through both, so that the guard's answer is the one that they settle.
 use Prim.Native.Nat.{ℕ, zero, suc, _/_, _<_}
-use mathlib.Core.Bool.{Bool, true}
+use mathlib.Core.Bool.{true}
 use mathlib.Core.Path.{_≡_, refl, sym, ap, _∙_}
 use lib.ListN.{length, getD}
 use borrow.Author.Tests.{lt-ltb, eq-eqb}

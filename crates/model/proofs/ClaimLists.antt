@@ -74,8 +74,7 @@ always policy sound (call ∷ calls) carried g h = by-number (settled policy (pa
     by-number (suc n) e rest =
         let outcome : answer g call ≡ refusedOf g (suc n) =
         answered policy carried g sound h call ∙ settle-refused n (acceptedOf g call) (refusedOf g) e in
-        let pages : pagesAfter policy number call (pageOf g) ≡ pageOf g = fun-ext (λ p. settle-refused n _ _ e) in
-        (
+        let pages : pagesAfter policy number call (pageOf g) ≡ pageOf g = fun-ext (λ p. settle-refused n _ _ e) in (
           agree policy carried g h,
           rw (outcome, e) refl,
           rw (outcome, e) (sym (ne-eqb (suc n) 0 (λ z. omega arith))),

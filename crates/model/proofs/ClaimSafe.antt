@@ -1,6 +1,6 @@
 -- Demand 3: what an accepted fetch reads is code in kernel mode, and what an accepted write or device write covers is clear.
 use Prim.Native.Nat.{ℕ, _+_, _*_, _/_, _%_, _<_}
-use mathlib.Core.Bool.{Bool, true, not}
+use mathlib.Core.Bool.{true, not}
 use mathlib.Core.Path.{_≡_, refl, sym, _∙_}
 use lib.Dec.{ltb}
 use lib.ListN.{getD}

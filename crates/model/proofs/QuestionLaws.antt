@@ -1,11 +1,10 @@
 -- Laws of answers and questions: both, either, within, the first no, a question looked up by its number, and what settles a call.
-use Prim.Native.Nat.{ℕ, zero, suc, _≤_, _<_}
-use mathlib.Core.Bool.{Bool, true, false, not, cond}
+use Prim.Native.Nat.{ℕ, suc, _≤_, _<_}
+use mathlib.Core.Bool.{Bool, true, false, not}
 use mathlib.Core.List.{List, [], _∷_}
 use mathlib.Core.Path.{_≡_, refl, sym, _∙_}
-use lib.Dec.{leb, ltb, eqb}
-use borrow.Author.Tests.{leb-true, leb-false, le-leb, lt-leb, eqb-true, eq-eqb}
-use native.Mathlib.Omega.{arith}
+use lib.Dec.{leb, eqb}
+use borrow.Author.Tests.{leb-true, le-leb, lt-leb, eq-eqb}
 use Rattle.model.specs.Edges.{both, either, within}
 use Rattle.model.specs.Questions.{Question, question, firstNo}
 use Rattle.model.specs.Calls.{settle}
@@ -46,10 +45,6 @@ within-low low high x p = leb-true low x (both-first (leb low x) (leb x high) p)
 pub within-high : (low high x : ℕ) → within low high x ≡ true → x ≤ high
 unfolding within
 within-high low high x p = leb-true x high (both-second (leb low x) (leb x high) p)
-
-pub within-below : (low high x : ℕ) → x < low → within low high x ≡ false
-unfolding within
-within-below low high x p = both-no (leb x high) (lt-leb low x p)
 
 pub within-above : (low high x : ℕ) → high < x → within low high x ≡ false
 unfolding within

@@ -43,11 +43,7 @@ last-page-below address length pages =
     (λ h. omega arith)
     (λ h. omega arith)
 
--- A test of each of the count numbers from first on: none, a no at the first, a yes at the first.
-pub every-none : (test : ℕ → Bool) (first count : ℕ) → count ≡ 0 → everyFrom test first count ≡ true
-unfolding everyFrom
-every-none test first count p = rw p refl
-
+-- A test of each of the count numbers from first on: a no at the first, a yes at the first.
 pub every-no : (test : ℕ → Bool) (first count : ℕ) → 0 < count → test first ≡ false → everyFrom test first count ≡ false
 unfolding everyFrom
 every-no test first zero p q = absurd (let z : 0 < 0 = p in omega arith)

@@ -1,17 +1,16 @@
 -- Laws of the bits of a byte and of the exclusion vector: its length, a frame's bit, and a frame excluded too.
 use Prim.Native.Nat.{ℕ, zero, suc, _+_, _*_, _/_, _%_, _^_, _≤_, _<_}
 use mathlib.Core.Bool.{Bool, true, false, cond}
-use mathlib.Core.List.{List, [], _∷_}
-use mathlib.Core.Path.{_≡_, refl, sym, ap, _∙_}
-use mathlib.Core.Logic.{⊎-elim}
+use mathlib.Core.List.{List}
+use mathlib.Core.Path.{_≡_, refl, sym, _∙_}
 use native.Mathlib.Omega.{arith}
 use lib.Dec.{eqb}
-use lib.ListN.{length, getD, set, length-set}
+use lib.ListN.{length, getD, length-set}
 use lib.Pow.{mod-pow-add}
 use lib.Seq.{getD-set-same, getD-set-other, ext-getD}
 use borrow.Author.Tests.{eq-eqb, ne-eqb, eqb-true, eqb-false}
-use Rattle.model.specs.Edges.{either, table, bit}
-use Rattle.model.specs.Keeps.{vectorBytes, excludedIn, flag, byteOf, vectorOf, withExcluded}
+use Rattle.model.specs.Edges.{either, bit}
+use Rattle.model.specs.Keeps.{vectorBytes, flag, byteOf, vectorOf, withExcluded}
 use Rattle.model.proofs.TableLaws.{length-table, getD-table}
 
 -- What holds of 0 to 7 holds of every number below 8.
@@ -72,9 +71,6 @@ module _ (h : ℕ → Bool) where
     flag-small (h 7),
   )
 
-  pub byteOf-small : byteOf h < 256
-  byteOf-small = omega (arith, byteOf-sum)
-
   pub byteOf-bit : (j : ℕ) → j < 8 → bit j (byteOf h) ≡ h j
   unfolding bit
   byteOf-bit =
@@ -122,34 +118,10 @@ pub vectorOf-byte : (frames : ℕ) (h : ℕ → Bool) (i d : ℕ) → i < vector
 unfolding vectorOf
 vectorOf-byte frames h i d l = getD-table (vectorBytes frames) (λ i. byteOf (λ j. h (i * 8 + j))) i d l
 
-pub vectorOf-excluded : (frames : ℕ) (h : ℕ → Bool) (f : ℕ) → f < frames → excludedIn (vectorOf frames h) f ≡ h f
-unfolding excludedIn
-vectorOf-excluded frames h f l =
-    ap (bit (f % 8)) (vectorOf-byte frames h (f / 8) 0 (byte-below frames f l))
-    ∙ byteOf-bit (λ j. h (f / 8 * 8 + j)) (f % 8) (omega arith)
-    ∙ ap h (omega arith)
-
 -- A frame excluded too: the length stays, the frame's bit is set, and every other bit stays.
 pub withExcluded-length : (x : List ℕ) (f : ℕ) → length (withExcluded x f) ≡ length x
 unfolding withExcluded
 withExcluded-length x f = simp length-set
-
-pub withExcluded-excluded : (x : List ℕ) (f g : ℕ) → f / 8 < length x → excludedIn (withExcluded x f) g ≡ either (eqb g f) (excludedIn x g)
-unfolding withExcluded excludedIn either
-withExcluded-excluded x f g l = by (eqb (g / 8) (f / 8)) refl
-  where
-    new : ℕ → Bool
-    new j = either (eqb j (f % 8)) (bit j (getD x (f / 8) 0))
-
-    by : (t : Bool) → eqb (g / 8) (f / 8) ≡ t
-        → bit (g % 8) (getD (set x (f / 8) (byteOf new)) (g / 8) 0) ≡ either (eqb g f) (bit (g % 8) (getD x (g / 8) 0))
-    by true e =
-        let q : g / 8 ≡ f / 8 = eqb-true (g / 8) (f / 8) e in
-        let same : eqb g f ≡ eqb (g % 8) (f % 8) = eqb-together g f (g % 8) (f % 8) (λ p. omega arith) (λ p. omega arith) in
-        rw (q, getD-set-same x (f / 8) (byteOf new) 0 l, same) (byteOf-bit new (g % 8) (omega arith))
-    by false e =
-        let other : eqb g f ≡ false = ne-eqb g f (λ p. eqb-false (g / 8) (f / 8) e (ap (λ n. n / 8) p)) in
-        rw (getD-set-other x (f / 8) (g / 8) (byteOf new) 0 (eqb-false (g / 8) (f / 8) e), other)
 
 pub withExcluded-vectorOf : (frames : ℕ) (h : ℕ → Bool) (f : ℕ) → f < frames
     → withExcluded (vectorOf frames h) f ≡ vectorOf frames (λ g. either (eqb g f) (h g))

@@ -1,5 +1,5 @@
 -- Document 01, "Calls and their two numbers": what each call answers and leaves, on every input, by the questions in order.
-use Prim.Native.Nat.{ℕ, zero, suc, _+_, _-_, _/_}
+use Prim.Native.Nat.{ℕ, zero, suc, _/_}
 use mathlib.Core.Bool.{Bool, true, false}
 use mathlib.Core.List.{List, []}
 use lib.ListN.{length, getD, set}
@@ -14,7 +14,7 @@ use Rattle.model.specs.Keeps.{none, Guard, excludedIn, inUser, modeOf, i
 use Rattle.model.specs.Policy.{Policy, policyOf, startGuard, zeroState}
 use Rattle.model.specs.Bits.{frameOf}
 use Rattle.model.specs.Sync.{Rules, Place, step, differs, Run, runOver, switchedAll, changes}
-use Rattle.model.specs.Questions.{Question, firstNo, seen, startQuestions, syncPageQuestions, syncAllQuestions, fetchQuestions, writeQuestions, enterQuestions, leaveQuestions, deviceWriteQuestions}
+use Rattle.model.specs.Questions.{firstNo, seen, startQuestions, syncPageQuestions, syncAllQuestions, fetchQuestions, writeQuestions, enterQuestions, leaveQuestions, deviceWriteQuestions}
 
 -- Whether a call was accepted; the number of the question that refused it, or 0; and the call's two numbers.
 pub record Reply : Type 0 where

@@ -1,7 +1,6 @@
 -- Document 01, "Twelve cases on that policy, just started unless a mode is named": one table, a row or two for each case. Each row has
 -- the outcome that the definitions give, and the whole outcome that the document fixes: number, both values, state and the three tables.
 use Prim.Native.Nat.{ℕ}
-use mathlib.Core.Bool.{Bool}
 use mathlib.Core.List.{List, [], _∷_}
 use mathlib.Core.Path.{_≡_}
 use lib.ListN.{replicate, set}
@@ -10,7 +9,7 @@ use Rattle.model.specs.declared.Mode.{Mode}
 use Rattle.model.specs.declared.Mode.the-variants.{Kernel, User}
 use Rattle.model.specs.Keeps.{Guard, inMode}
 use Rattle.model.specs.Calls.{Outcome, accepted, refused, startOf}
-use Rattle.model.specs.Lists.{Call, syncPage, write, deviceWrite, answer}
+use Rattle.model.specs.Lists.{syncPage, write, deviceWrite, answer}
 
 -- "Policy V 4, F 4, n 1, e 1, page 1, frame 2."
 unfoldable pub policyBytes : List ℕ
@@ -20,7 +19,7 @@ policyBytes = 4 ∷ 0 ∷ 4 ∷ 0 ∷ 1 ∷ 0 ∷ 1 ∷ 0 ∷ 1 ∷ 0 ∷ 2 ∷ 
 unfoldable pub theStart : Outcome
 theStart = startOf policyBytes (5 ∷ 6 ∷ 7 ∷ 8 ∷ []) (1 ∷ 2 ∷ 3 ∷ 4 ∷ []) (255 ∷ [])
 
--- The started guard, "with the mode replaced by user" where user mode is named.
+-- The started guard, and for a case that names user mode the same guard with the mode replaced.
 unfoldable pub started : Guard
 started = theStart .guard
 

@@ -9,7 +9,7 @@ use Rattle.model.specs.declared.Mode.{Mode}
 use Rattle.model.specs.Edges.{within}
 use Rattle.model.specs.Keeps.{Guard, vectorBytes, excludedIn, inUser, running}
 use Rattle.model.specs.Policy.{Policy, policyOf, numberAt}
-use Rattle.model.specs.Questions.{Question, question, firstNo}
+use Rattle.model.specs.Questions.{question, firstNo}
 use Rattle.model.specs.Calls.{Reply, accepted, refused, settle, Outcome, startOf}
 use Rattle.model.specs.Lists.{Call, syncPage, syncAll, fetch, write, enter, leave, deviceWrite, answer}
 

@@ -1,6 +1,6 @@
 -- Cases beside the twelve of document 01, each from one of its sentences: a policy with two entry pages and a repeated frame, the calls that
 -- C1 to C12 do not make, and refusals with what comes before them. Rows as in Cases.
-use Prim.Native.Nat.{ℕ, _+_}
+use Prim.Native.Nat.{ℕ}
 use mathlib.Core.List.{List, [], _∷_}
 use lib.ListN.{replicate, set}
 use Rattle.model.specs.declared.State.{State}
@@ -57,7 +57,7 @@ stays g call reply = row (answer g call) (record { reply = reply; guard = g })
 unfoldable pub inState : State → Guard
 inState s = record { state = s; shadow = shadow6; map = started6 .map; exclusion = 0x28 ∷ [] }
 
--- A user page and a kernel page of frame 6, as they stand in each mode.
+-- A user page of frame 6 and a kernel page of frame 7, as they stand in each mode.
 unfoldable pub leaving : List ℕ
 leaving = set (set shadow6 5 0x8000000000006007) 3 0x8000000000007003
 
@@ -67,7 +67,7 @@ left6 =
 
 unfoldable pub startCases : List Case
 startCases =
-    -- "two parallel arrays"; "frames, which may repeat"; "the first e pages are the entry pages"
+    -- "two parallel arrays"; "frames, which may repeat"; "The first e pages are the entry pages"
     row (startOn twoEntries 6 6 1) (record { reply = accepted 3 2; guard = started6 })
     -- 1 to 7, each with all before it yes
     ∷ row (startOn (6 ∷ 0 ∷ 8 ∷ 0 ∷ 3 ∷ 0 ∷ 2 ∷ []) 6 6 1) (startRefused 1 6 6 1)
@@ -128,7 +128,7 @@ accessCases =
     ∷ stays (at01 (Kernel 1) 0x8000000000006003 0x8000000000008003) (write 4094 2) (accepted 6 6)
     ∷ stays started6 (write 24575 2) (refused 9)
     ∷ stays started6 (write 18446744073709551615 16) (refused 9)
-    -- Device write: "every frame touched"; 8 before 9; sums are exact
+    -- Device write: "all touched frames"; 8 before 9; sums are exact
     ∷ stays started6 (deviceWrite 1 12287) (accepted 0 2)
     ∷ stays started6 (deviceWrite 1 12288) (refused 13)
     ∷ stays started6 (deviceWrite 16384 4097) (refused 13)

@@ -1,11 +1,10 @@
 -- Document 01, "Synchronising one page", and the same for all pages; the mode switch of a whole table.
-use Prim.Native.Nat.{ℕ, _+_, _<_}
-use mathlib.Core.Bool.{Bool, true, false, not, cond}
+use Prim.Native.Nat.{ℕ, _+_}
+use mathlib.Core.Bool.{Bool, not, cond}
 use mathlib.Core.List.{List, [], _∷_, map}
 use lib.Dec.{leb, eqb}
 use Rattle.model.specs.declared.Entry.{Entry}
 use Rattle.model.specs.declared.Entry.the-variants.{Absent, Present}
-use Rattle.model.specs.declared.Fields.{Fields}
 use Rattle.model.specs.Keeps.{none}
 use Rattle.model.specs.Bits.{takenApart, approved, ordinary, switched}
 

@@ -1,7 +1,7 @@
 -- Laws of questions 9 to 12 of enter and leave, at each answer.
 use Prim.Native.Nat.{ℕ, _<_}
 use mathlib.Core.Bool.{Bool, true, false, not}
-use mathlib.Core.Path.{_≡_, refl, sym, _∙_}
+use mathlib.Core.Path.{_≡_, refl}
 use borrow.Author.Tests.{not-false}
 use Rattle.model.specs.Bits.{present, approvedMark}
 use Rattle.model.specs.Questions.{firstNo, leavePermitted}

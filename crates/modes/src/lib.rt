@@ -17,7 +17,7 @@ use model::State;
 use questions::both;
 
 // Bit 63 of every present entry by the rules of the mode; the count of entries whose value changed.
-pub fn switch_table(user: bool, shadow: &mut [u64]) -> u64
+fn switch_table(user: bool, shadow: &mut [u64]) -> u64
     ensures { λ r. ⌜ (now (shadow .exit) ≡ switchedAll user (now (shadow .entry))) × (r ≡ Sync.changes (now (shadow .entry)) (switchedAll user (now (shadow .entry)))) ⌝ }
 {
     let mut changed = 0;

@@ -1,5 +1,6 @@
 // Document 01, "The policy record", and questions 1 to 6, which are about the record alone.
-// Every number of the record is read by `number_from`, through a reader, and untested: the questions before it have settled the length.
+// Every number of the record is read by `number_from`, through a reader, with no test of the length: the questions before it have settled it.
+// `padded_number` is for bytes that may be short, and reads through the same.
 
 ghost use mathlib.Core.Path.{_≡_};
 ghost use Prim.Native.Nat.{_+_, _*_, _<_, _≤_, _^_, min};
@@ -27,19 +28,19 @@ fn number_at(bytes: &[u8], at: usize) -> u16
 
 // "Reading a record goes through a reader that carries the lent bytes and how far it has come."
 // Its functions are thin: the number is read by `number_at`, and callers use `number_from`.
-pub struct Reader<'a> {
-    pub src: &'a [u8],
-    pub at: usize,
+struct Reader<'a> {
+    src: &'a [u8],
+    at: usize,
 }
 
-pub fn new<'a>(src: &'a [u8]) -> Reader<'a>
+fn new<'a>(src: &'a [u8]) -> Reader<'a>
     ensures { λ r. ⌜ (r .src ≡ src .entry) × (r .at ≡ 0) ⌝ }
 {
     Reader { src, at: 0 }
 }
 
 // The place after the bytes skipped is a `usize`.
-pub fn skip<'a>(r: Reader<'a>, count: usize) -> Reader<'a>
+fn skip<'a>(r: Reader<'a>, count: usize) -> Reader<'a>
     requires { ⌜ r .at + count < 2 ^ 64 ⌝ }
     ensures { λ q. ⌜ (q .src ≡ r .entry .src) × (q .at ≡ r .entry .at + count) ⌝ }
 {
@@ -50,7 +51,7 @@ pub fn skip<'a>(r: Reader<'a>, count: usize) -> Reader<'a>
 }
 
 // The number where the reader stands. Both bytes are there.
-pub fn number<'a>(r: Reader<'a>) -> u16
+fn number<'a>(r: Reader<'a>) -> u16
     requires { ⌜ r .at + 1 < length (now (r .src)) ⌝ }
     ensures { λ n. ⌜ n ≡ numberAt (now (r .entry .src)) (r .entry .at) ⌝ }
 {
@@ -79,7 +80,7 @@ pub fn padded_number(bytes: &[u8], at: usize) -> u16
 }
 
 // Question 2.
-pub fn sizes_in_range(pages: u16, frames: u16) -> bool
+fn sizes_in_range(pages: u16, frames: u16) -> bool
     ensures { λ r. ⌜ r ≡ both (pagesInRange pages) (framesInRange frames) ⌝ }
 {
     questions::both(
@@ -95,7 +96,7 @@ fn smaller(a: u16, b: u16) -> u16
 }
 
 // Question 3.
-pub fn counts_in_range(pages: u16, count: u16, entries: u16) -> bool
+fn counts_in_range(pages: u16, count: u16, entries: u16) -> bool
     ensures { λ r. ⌜ r ≡ both (within 1 pages count) (within 1 (min count 16) entries) ⌝ }
 {
     let most = smaller(count, 16);
@@ -106,7 +107,7 @@ pub fn counts_in_range(pages: u16, count: u16, entries: u16) -> bool
 }
 
 // Question 5, of the count pages from byte 8 on. Question 4 has shown what is required.
-pub fn pages_rising(bytes: &[u8], pages: u16, count: u16) -> bool
+fn pages_rising(bytes: &[u8], pages: u16, count: u16) -> bool
     requires { ⌜ 8 + 2 * count ≤ length (now bytes) ⌝ }
     ensures { λ r. ⌜ r ≡ rising pages 0 (numbersAt (now (bytes .entry)) 8 count) ⌝ }
 {
@@ -129,7 +130,7 @@ pub fn pages_rising(bytes: &[u8], pages: u16, count: u16) -> bool
 }
 
 // Question 6, of the count frames behind the pages. Question 4 has shown what is required.
-pub fn frames_below(bytes: &[u8], frames: u16, count: u16) -> bool
+fn frames_below(bytes: &[u8], frames: u16, count: u16) -> bool
     requires { ⌜ 8 + 4 * count ≤ length (now bytes) ⌝ }
     ensures { λ r. ⌜ r ≡ allBelow frames (numbersAt (now (bytes .entry)) (8 + 2 * count) count) ⌝ }
 {

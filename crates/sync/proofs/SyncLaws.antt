@@ -6,7 +6,7 @@ use mathlib.Core.Path.{_≡_, refl, sym, ap, _∙_}
 use native.Mathlib.Nat.{zero-add}
 use native.Mathlib.Omega.{arith}
 use lib.Dec.{ltb, eqb}
-use lib.ListN.{length, getD, set, length-set}
+use lib.ListN.{length, getD, set}
 use lib.Seq.{set-getD}
 use borrow.Author.Tests.{eq-eqb, ne-eqb, eqb-true, le-leb, lt-leb, ltb-true, not-true, not-false}
 use Rattle.model.specs.declared.Entry.{Entry}
@@ -14,7 +14,6 @@ use Rattle.model.specs.declared.Entry.the-variants.{Absent, Present}
 use Rattle.model.specs.declared.Fields.{Fields}
 use Rattle.model.specs.declared.State.{State}
 use Rattle.model.specs.declared.Answer.the-variants.{Done, Refused}
-use Rattle.model.specs.Edges.{both}
 use Rattle.model.specs.Keeps.{none, vectorBytes, inUser}
 use Rattle.model.specs.Bits.{present, fieldsOf, takenApart, approved, ordinary}
 use Rattle.model.specs.Sync.{Rules, Place, place, stepOf, step, differs, Run, run, runOver}
@@ -22,7 +21,7 @@ use Rattle.model.specs.Questions.{firstNo, stateInOrder, inOrder, syncAllQuesti
 use Rattle.model.specs.Calls.{replyOf, syncedBy, rulesOf, pageSynced, syncPageOf, allSynced, syncAllOf}
 use Rattle.model.proofs.QuestionLaws.{both-first, both-second, firstNo-no, firstNo-yes, settle-accepted, settle-refused}
 use Rattle.model.proofs.RunLaws.{getD-inside, whole, whole-more}
-use Rattle.sync.specs.Steps.{rules, stored, stepAt}
+use Rattle.sync.specs.Steps.{rules, stepAt}
 
 -- The fields of a present entry.
 held : Fields → Entry → Fields

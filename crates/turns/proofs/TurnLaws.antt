@@ -1,6 +1,6 @@
 -- Laws of the drill's definitions over plain numbers and lists: the policy's extent, the tables lent, a call's fields, an edit, a turn.
 use Prim.Native.Nat.{ℕ, _+_, _*_, _^_, _≤_, _<_}
-use mathlib.Core.Bool.{Bool, true, false, not, cond}
+use mathlib.Core.Bool.{Bool, true, false, not}
 use mathlib.Core.List.{List, [], _∷_}
 use mathlib.Core.Path.{_≡_, refl, sym, _∙_}
 use lib.Dec.{ltb, eqb}
@@ -18,9 +18,9 @@ use Rattle.model.specs.Edges.{within, pagesInRange, framesInRange}
 use Rattle.model.specs.Keeps.{Guard, vectorBytes}
 use Rattle.model.specs.Policy.{policyOf, numberAt}
 use Rattle.model.specs.Questions.{firstNo}
-use Rattle.model.specs.Calls.{Reply, Outcome, refused, replyOf, outcomeBy, settle}
+use Rattle.model.specs.Calls.{Outcome, refused, replyOf, outcomeBy, settle}
 use Rattle.model.specs.Lists.{answer}
-use Rattle.model.specs.Drill.{Drill, policyExtent, indexOf, lengthOf, valueOf, edited, callOf, withGuard, performed, line, startLine, turnOf, turn}
+use Rattle.model.specs.Drill.{policyExtent, indexOf, lengthOf, valueOf, edited, callOf, withGuard, performed, line, startLine, turnOf, turn}
 use Rattle.model.proofs.QuestionLaws.{within-high}
 use Rattle.turns.specs.declared.Turned.{Turned}
 use Rattle.turns.specs.Turns.{guardOf, drillOf, editedBy, performedBy, turnedBy, openingOf, openedBy, pagesLent, bytesLent}

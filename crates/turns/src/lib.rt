@@ -91,7 +91,7 @@ pub fn opens_as_defined()
 
 // The fields of a call.
 
-pub fn index_of(call: &[u8]) -> u64
+fn index_of(call: &[u8]) -> u64
     ensures { λ r. ⌜ r ≡ indexOf (now (call .entry)) ⌝ }
 {
     policy::padded_number(call, 2) as u64
@@ -104,7 +104,7 @@ fn wide(low: u16, high: u16) -> u64
     low as u64 + 0x1_0000 * high as u64
 }
 
-pub fn length_of(call: &[u8]) -> u64
+fn length_of(call: &[u8]) -> u64
     ensures { λ r. ⌜ r ≡ lengthOf (now (call .entry)) ⌝ }
 {
     wide(
@@ -113,7 +113,7 @@ pub fn length_of(call: &[u8]) -> u64
     )
 }
 
-pub fn value_of(call: &[u8]) -> u64
+fn value_of(call: &[u8]) -> u64
     ensures { λ r. ⌜ r ≡ valueOf (now (call .entry)) ⌝ }
 {
     let low = wide(
@@ -128,7 +128,7 @@ pub fn value_of(call: &[u8]) -> u64
 }
 
 // Kind 0. The guard's part of the drill stays as it is, whatever it is; question 9 looks at its V alone.
-pub fn edit(pages: u16, kernel: &mut [u64], page: u64, value: u64) -> Answer
+fn edit(pages: u16, kernel: &mut [u64], page: u64, value: u64) -> Answer
     ensures { λ r. ⌜ ((g : Guard) → g .state .pages ≡ pages → editedBy r (drillOf g (now (kernel .exit))) ≡ edited (drillOf g (now (kernel .entry))) page value) ⌝ }
 {
     if !questions::page_exists(page, pages) {
@@ -141,7 +141,7 @@ pub fn edit(pages: u16, kernel: &mut [u64], page: u64, value: u64) -> Answer
 }
 
 // Kinds 1 to 7, the guard's calls. The definition takes any kind above 6 for a device write.
-pub fn call(
+fn call(
     s: State,
     kernel: &[u64],
     shadow: &mut [u64],
@@ -180,7 +180,7 @@ pub fn call(
 }
 
 // The call of a kind, an edit or a guard's call.
-pub fn perform(
+fn perform(
     s: State,
     kernel: &mut [u64],
     shadow: &mut [u64],

@@ -1,6 +1,6 @@
 -- `bitmap::clear_bytes` meets its contract.
 use Prim.Native.Nat.{_*_, _-_, _≤_}
-use mathlib.Core.Path.{_≡_, refl}
+use mathlib.Core.Path.{_≡_}
 use native.Mathlib.Omega.{arith}
 use Rattle.bitmap.proofs.RangeLaws.{freeFrom, restClear, rest-start, rest-more, rest-over}
 use borrow.Author.Needs.{needs}

@@ -1,4 +1,4 @@
-use Rattle.bitmap.proofs.BitmapLaws.{excluded-in, excluded-past}
+use Rattle.bitmap.proofs.BitmapLaws.{excluded-past}
 use borrow.Author.Needs.{needs}
 use Rattle.bitmap.proofs.excluded.Statement.{statement}
 use Rattle.bitmap.proofs.excluded.Tie as tie

@@ -8,8 +8,7 @@ use native.Mathlib.Omega.{arith}
 use Rattle.model.specs.declared.Mode.{Mode}
 use Rattle.model.specs.declared.Mode.the-variants.{Kernel, User}
 use Rattle.model.specs.Keeps.{inUser, running, modeOf, inMode}
-use Rattle.model.specs.Bits.{frameOf}
-use Rattle.model.specs.Questions.{firstNo, seen, fetchQuestions, enterQuestions, leaveQuestions}
+use Rattle.model.specs.Questions.{seen}
 use Rattle.model.specs.Calls.{settle, accepted, refused, Moved, Switched, switchTo, fetchOf, enterOf, leaveOf}
 use Rattle.model.proofs.ClaimQuestions.{fetch-page, enter-page, leave-page}
 use Rattle.runs.specs.Runs.{stateIn, field, lendable, runAfter}

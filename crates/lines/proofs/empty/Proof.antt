@@ -1,6 +1,5 @@
 -- `lines::empty` meets its contract.
 use mathlib.Core.Path.{refl}
-use borrow.Author.Needs.{needs}
 use Rattle.lines.specs.Text.{text}
 use Rattle.lines.proofs.empty.Statement.{statement}
 use Rattle.lines.proofs.empty.Tie as tie

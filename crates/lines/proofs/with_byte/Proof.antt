@@ -1,5 +1,4 @@
 -- `lines::with_byte` meets its contract.
-use mathlib.Core.Path.{refl}
 use borrow.Author.Needs.{needs}
 use Rattle.lines.specs.Text.{text}
 use Rattle.lines.proofs.LineLaws.{take-more}

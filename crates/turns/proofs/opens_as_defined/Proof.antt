@@ -2,10 +2,10 @@
 use Prim.Native.Nat.{ℕ}
 use mathlib.Core.Bool.{Bool, true, false, cond, false≢true}
 use mathlib.Core.List.{List}
-use mathlib.Core.Path.{_≡_, refl, ap}
+use mathlib.Core.Path.{_≡_, refl}
 use lib.Dec.{leb, eqb}
 use lib.ListN.{length}
-use Rattle.model.specs.Edges.{both, pagesInRange, framesInRange}
+use Rattle.model.specs.Edges.{pagesInRange, framesInRange}
 use Rattle.model.specs.Policy.{policyOf, zeroState}
 use Rattle.model.specs.Questions.{firstNo, sizesInRange, startQuestions}
 use Rattle.model.specs.Calls.{Outcome, refused, settle, startOf}
