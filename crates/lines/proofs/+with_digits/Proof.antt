@@ -1,6 +1,6 @@
 -- `lines::with_digits` meets its contract.
 -- The measure is the room that is left.
-use Prim.Native.Nat.{ℕ}
+use Prim.Native.Nat.{ℕ, _<_}
 use native.Mathlib.Omega.{arith}
 use borrow.Author.Needs.{needs}
 use borrow.Fn.Kinds.{In}
