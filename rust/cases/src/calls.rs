@@ -30,12 +30,12 @@ pub struct Called {
     pub state: State,
 }
 
-const WORDS: usize = 21;
+pub const WORDS: usize = 21;
 
 /// A run of numbers that holds neither zeros nor an answer, so that a call which does not write it is seen.
 const UNWRITTEN: [u64; 2] = [0xdead, 0xbeef];
 
-fn words(s: State) -> [u64; WORDS] {
+pub fn words(s: State) -> [u64; WORDS] {
     let mut run = [0; WORDS];
     run[0] = s.pages.into();
     run[1] = s.frames.into();
@@ -81,13 +81,17 @@ fn answer(number: u64, numbers: [u64; 2]) -> Answer {
     }
 }
 
-/// At the boundary a refused start leaves the state run as it was. The run begins as the state of zeros in user mode
-/// on page 0, which document 01 names for a refused start.
-pub fn start(policy: &[u8], shadow: &mut [u64], map: &mut [u16], exclusion: &mut [u8]) -> Called {
-    let zeros = State { pages: 0, frames: 0, entries: 0, entry: [0; 16], mode: Mode::User(0) };
-    let (mut run, mut numbers) = (words(zeros), UNWRITTEN);
-    let number = archive::start(policy, &mut run, shadow, map, exclusion, &mut numbers);
-    Called { answer: answer(number, numbers), state: state(run) }
+/// The run is the caller's: a start takes one with any words, and a refused start leaves them as they were.
+pub fn start(
+    policy: &[u8],
+    run: &mut [u64; WORDS],
+    shadow: &mut [u64],
+    map: &mut [u16],
+    exclusion: &mut [u8],
+) -> Answer {
+    let mut numbers = UNWRITTEN;
+    let number = archive::start(policy, run, shadow, map, exclusion, &mut numbers);
+    answer(number, numbers)
 }
 
 pub fn sync_page(
