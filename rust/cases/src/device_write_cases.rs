@@ -6,14 +6,13 @@ use crate::calls::Answer::Refused;
 use crate::calls::Mode::Kernel;
 use crate::calls::Mode::User;
 use crate::guard;
-use crate::same;
 use crate::tally::Tally;
 
 // Nine frames, 2 and 8 of them excluded.
 fn nine(t: Tally, name: &str, address: u64, length: u64, wanted: Answer) -> Tally {
     let s = guard::state_in(Kernel(1));
     let answer = crate::calls::device_write(s, &[0x04, 0x01], address, length);
-    t.case("device_write", name, same::answers(answer, wanted))
+    t.case("device_write", name, answer == wanted)
 }
 
 fn allowed(t: Tally) -> Tally {
@@ -70,7 +69,7 @@ fn many(t: Tally, name: &str, address: u64, length: u64, wanted: Answer) -> Tall
     exclusion[37] = 0x10;
     let s = guard::state(2048, 4096, 16, [0, 1, 2, 3], User(2047));
     let answer = crate::calls::device_write(s, &exclusion, address, length);
-    t.case("device_write", name, same::answers(answer, wanted))
+    t.case("device_write", name, answer == wanted)
 }
 
 fn long_transfers(t: Tally) -> Tally {
@@ -96,7 +95,7 @@ fn long_transfers(t: Tally) -> Tally {
 fn spare_bits(t: Tally) -> Tally {
     let s = guard::state_in(User(0));
     let answer = crate::calls::device_write(s, &[0, 0xfe], 0, 36864);
-    t.case("device_write", "spare bits exclude nothing", same::answers(answer, Done(0, 8)))
+    t.case("device_write", "spare bits exclude nothing", answer == Done(0, 8))
 }
 
 pub fn all(t: Tally) -> Tally {

@@ -8,7 +8,6 @@ use crate::calls::Mode::Kernel;
 use crate::calls::Mode::User;
 use crate::calls::State;
 use crate::guard;
-use crate::same;
 use crate::tally::Tally;
 
 // Enters by an index on a guard with these states and shadow tables, given and wanted.
@@ -26,9 +25,9 @@ fn enter_on(
     let called = crate::calls::enter(given, &mut table, index);
     let answer = called.answer;
     let state = called.state;
-    let entries = same::entries(&table, &shadow_left);
-    let moved = same::states(state, left);
-    t.case("enter", name, same::answers(answer, wanted) && moved && entries)
+    let entries = table == shadow_left;
+    let moved = state == left;
+    t.case("enter", name, answer == wanted && moved && entries)
 }
 
 // An accepted enter of entry page 1 from user mode on page 0: the count of changed entries and the table that is left.
@@ -184,10 +183,10 @@ fn largest(t: Tally) -> Tally {
     let called = crate::calls::enter(given, &mut shadow, 0);
     let answer = called.answer;
     let state = called.state;
-    let entries = same::entries(&shadow, &[0xfff401; 2048]);
+    let entries = shadow == [0xfff401; 2048];
     let left = guard::state(2048, 4096, 1, [2047, 0, 0, 0], Kernel(2047));
-    let moved = same::states(state, left);
-    t.case("enter", "2048 entries change", same::answers(answer, Done(2048, 0)) && moved && entries)
+    let moved = state == left;
+    t.case("enter", "2048 entries change", answer == Done(2048, 0) && moved && entries)
 }
 
 pub fn all(t: Tally) -> Tally {

@@ -6,7 +6,6 @@ use crate::calls::Mode;
 use crate::calls::Mode::Kernel;
 use crate::calls::Mode::User;
 use crate::guard;
-use crate::same;
 use crate::tally::Tally;
 
 // Fetches a page of four. Given: the mode, and the shadow entry of page 0. Wanted: the answer and the mode after it.
@@ -23,8 +22,8 @@ fn fetch(
     let called = crate::calls::fetch(guard::state_in(given), &shadow, page);
     let answer = called.answer;
     let state = called.state;
-    let moved = same::states(state, guard::state_in(left));
-    t.case("fetch", name, same::answers(answer, wanted) && moved)
+    let moved = state == guard::state_in(left);
+    t.case("fetch", name, answer == wanted && moved)
 }
 
 fn in_kernel_mode(t: Tally) -> Tally {
@@ -119,8 +118,8 @@ fn largest(t: Tally) -> Tally {
     let answer = called.answer;
     let state = called.state;
     let left = guard::state(2048, 4096, 1, [0, 0, 0, 0], User(2047));
-    let moved = same::states(state, left);
-    t.case("fetch", "page 2047 of 2048", same::answers(answer, Done(4095, 4095)) && moved)
+    let moved = state == left;
+    t.case("fetch", "page 2047 of 2048", answer == Done(4095, 4095) && moved)
 }
 
 pub fn all(t: Tally) -> Tally {

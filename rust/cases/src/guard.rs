@@ -1,5 +1,5 @@
 // The guard that most cases stand on: V 4, F 9, two entry pages, page 1 approved for frame 2 and page 3 for frame 8.
-// Its exclusion vector is 0x04, 0x01. And the first places of a table, lent as a table of that length.
+// Its exclusion vector is 0x04, 0x01.
 use crate::calls::Answer;
 use crate::calls::Mode;
 use crate::calls::State;
@@ -24,41 +24,4 @@ pub fn number_of(answer: Answer) -> u64 {
         Answer::Done(_, _) => 0,
         Answer::Refused(number) => number,
     }
-}
-
-// The first n places of a table, or all where it has fewer.
-
-pub fn lend<'a>(table: &'a [u64], n: usize) -> &'a [u64] {
-    if table.len() < n {
-        return table;
-    }
-    &table[..n]
-}
-
-pub fn lend_shadow<'a>(table: &'a mut [u64], n: usize) -> &'a mut [u64] {
-    if table.len() < n {
-        return table;
-    }
-    &mut table[..n]
-}
-
-pub fn lend_map<'a>(table: &'a mut [u16], n: usize) -> &'a mut [u16] {
-    if table.len() < n {
-        return table;
-    }
-    &mut table[..n]
-}
-
-pub fn lend_vector<'a>(table: &'a [u8], n: usize) -> &'a [u8] {
-    if table.len() < n {
-        return table;
-    }
-    &table[..n]
-}
-
-pub fn lend_new_vector<'a>(table: &'a mut [u8], n: usize) -> &'a mut [u8] {
-    if table.len() < n {
-        return table;
-    }
-    &mut table[..n]
 }

@@ -7,7 +7,6 @@ use crate::calls::Mode;
 use crate::calls::Mode::Kernel;
 use crate::calls::Mode::User;
 use crate::guard;
-use crate::same;
 use crate::tally::Tally;
 
 fn leave(
@@ -24,9 +23,9 @@ fn leave(
     let called = crate::calls::leave(guard::state_in(given), &mut table, page);
     let answer = called.answer;
     let state = called.state;
-    let entries = same::entries(&table, &shadow_left);
-    let moved = same::states(state, guard::state_in(left));
-    t.case("leave", name, same::answers(answer, wanted) && moved && entries)
+    let entries = table == shadow_left;
+    let moved = state == guard::state_in(left);
+    t.case("leave", name, answer == wanted && moved && entries)
 }
 
 // An accepted leave to page 0: the count of changed entries and the table that is left.
@@ -154,9 +153,9 @@ fn largest(t: Tally) -> Tally {
     let called = crate::calls::leave(given, &mut shadow, 2047);
     let answer = called.answer;
     let state = called.state;
-    let entries = same::entries(&shadow, &[0xfff007; 2048]);
-    let moved = same::states(state, guard::state(2048, 4096, 1, [0, 0, 0, 0], User(2047)));
-    t.case("leave", "2048 entries change", same::answers(answer, Done(2048, 0)) && moved && entries)
+    let entries = shadow == [0xfff007; 2048];
+    let moved = state == guard::state(2048, 4096, 1, [0, 0, 0, 0], User(2047));
+    t.case("leave", "2048 entries change", answer == Done(2048, 0) && moved && entries)
 }
 
 pub fn all(t: Tally) -> Tally {

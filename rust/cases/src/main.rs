@@ -9,7 +9,6 @@ mod fetch_cases;
 mod guard;
 mod leave_cases;
 mod question_7_cases;
-mod same;
 mod start_cases;
 mod sync_all_cases;
 mod sync_page_cases;

@@ -5,7 +5,6 @@ use crate::calls::Mode::Kernel;
 use crate::calls::Mode::User;
 use crate::calls::State;
 use crate::guard;
-use crate::same;
 use crate::tally::Tally;
 
 // The numbers that refuse the calls, or 0.
@@ -57,14 +56,14 @@ fn sync_page(t: Tally, name: &str, s: State, lent: Lent, number: u64) -> Tally {
     let mut map = r.map;
     let answer = crate::calls::sync_page(
         s,
-        guard::lend(&[0; 2049], lent.kernel),
-        guard::lend_shadow(&mut shadow, lent.shadow),
-        guard::lend_map(&mut map, lent.map),
-        guard::lend_vector(&[0; 513], lent.exclusion),
+        &[0; 2049][..lent.kernel],
+        &mut shadow[..lent.shadow],
+        &mut map[..lent.map],
+        &[0; 513][..lent.exclusion],
         0,
     );
-    let entries = same::entries(&shadow, &given);
-    let unchanged = same::numbers(&map, &numbers) && entries;
+    let entries = shadow == given;
+    let unchanged = map == numbers && entries;
     t.case("sync_page", name, told(answer, number, unchanged))
 }
 
@@ -76,13 +75,13 @@ fn sync_all(t: Tally, name: &str, s: State, lent: Lent, number: u64) -> Tally {
     let mut map = r.map;
     let answer = crate::calls::sync_all(
         s,
-        guard::lend(&[0; 2049], lent.kernel),
-        guard::lend_shadow(&mut shadow, lent.shadow),
-        guard::lend_map(&mut map, lent.map),
-        guard::lend_vector(&[0; 513], lent.exclusion),
+        &[0; 2049][..lent.kernel],
+        &mut shadow[..lent.shadow],
+        &mut map[..lent.map],
+        &[0; 513][..lent.exclusion],
     );
-    let entries = same::entries(&shadow, &given);
-    let unchanged = same::numbers(&map, &numbers) && entries;
+    let entries = shadow == given;
+    let unchanged = map == numbers && entries;
     t.case("sync_all", name, told(answer, number, unchanged))
 }
 
@@ -90,10 +89,10 @@ fn sync_all(t: Tally, name: &str, s: State, lent: Lent, number: u64) -> Tally {
 fn fetch(t: Tally, name: &str, s: State, lent: Lent, number: u64) -> Tally {
     let r = tables();
     let shadow = r.shadow;
-    let called = crate::calls::fetch(s, guard::lend(&shadow, lent.shadow), 1);
+    let called = crate::calls::fetch(s, &shadow[..lent.shadow], 1);
     let answer = called.answer;
     let state = called.state;
-    let unchanged = same::states(state, s);
+    let unchanged = state == s;
     t.case("fetch", name, told(answer, number, unchanged))
 }
 
@@ -101,13 +100,7 @@ fn fetch(t: Tally, name: &str, s: State, lent: Lent, number: u64) -> Tally {
 fn write(t: Tally, name: &str, s: State, lent: Lent, number: u64) -> Tally {
     let r = tables();
     let shadow = r.shadow;
-    let answer = crate::calls::write(
-        s,
-        guard::lend(&shadow, lent.shadow),
-        guard::lend_vector(&[0; 513], lent.exclusion),
-        0,
-        1,
-    );
+    let answer = crate::calls::write(s, &shadow[..lent.shadow], &[0; 513][..lent.exclusion], 0, 1);
     t.case("write", name, told(answer, number, true))
 }
 
@@ -116,11 +109,11 @@ fn enter(t: Tally, name: &str, s: State, lent: Lent, number: u64) -> Tally {
     let r = tables();
     let given = r.shadow;
     let mut shadow = r.shadow;
-    let called = crate::calls::enter(s, guard::lend_shadow(&mut shadow, lent.shadow), 0);
+    let called = crate::calls::enter(s, &mut shadow[..lent.shadow], 0);
     let answer = called.answer;
     let state = called.state;
-    let entries = same::entries(&shadow, &given);
-    let unchanged = same::states(state, s) && entries;
+    let entries = shadow == given;
+    let unchanged = state == s && entries;
     t.case("enter", name, told(answer, number, unchanged))
 }
 
@@ -129,17 +122,17 @@ fn leave(t: Tally, name: &str, s: State, lent: Lent, number: u64) -> Tally {
     let r = tables();
     let given = r.shadow;
     let mut shadow = r.shadow;
-    let called = crate::calls::leave(s, guard::lend_shadow(&mut shadow, lent.shadow), 0);
+    let called = crate::calls::leave(s, &mut shadow[..lent.shadow], 0);
     let answer = called.answer;
     let state = called.state;
-    let entries = same::entries(&shadow, &given);
-    let unchanged = same::states(state, s) && entries;
+    let entries = shadow == given;
+    let unchanged = state == s && entries;
     t.case("leave", name, told(answer, number, unchanged))
 }
 
 // Writes the first byte of frame 0.
 fn device_write(t: Tally, name: &str, s: State, lent: Lent, number: u64) -> Tally {
-    let exclusion = guard::lend_vector(&[0; 513], lent.exclusion);
+    let exclusion = &[0; 513][..lent.exclusion];
     let answer = crate::calls::device_write(s, exclusion, 0, 1);
     t.case("device_write", name, told(answer, number, true))
 }

@@ -10,7 +10,6 @@ use crate::calls::Mode::User;
 use crate::calls::State;
 use crate::calls::WORDS;
 use crate::guard;
-use crate::same;
 use crate::tally::Tally;
 
 #[derive(Clone, Copy)]
@@ -56,15 +55,15 @@ fn start_on(
         let answer = crate::calls::start(
             record,
             &mut run,
-            guard::lend_shadow(&mut shadow, lent[0]),
-            guard::lend_map(&mut map, lent[1]),
-            guard::lend_new_vector(&mut exclusion, lent[2]),
+            &mut shadow[..lent[0]],
+            &mut map[..lent[1]],
+            &mut exclusion[..lent[2]],
         );
-        let entries = same::entries(&shadow, &left.shadow);
-        let numbers = same::numbers(&map, &left.map);
+        let entries = shadow == left.shadow;
+        let numbers = map == left.map;
         let bytes = exclusion == left.exclusion;
         let tables = entries && numbers && bytes;
-        same::answers(answer, wanted) && run == state_left.map_or(run_before, words) && tables
+        answer == wanted && run == state_left.map_or(run_before, words) && tables
     });
     t.case("start", name, right)
 }
@@ -152,16 +151,12 @@ fn largest(t: Tally) -> Tally {
     map_left[2047] = 4095;
     let mut exclusion_left = [0u8; 512];
     exclusion_left[511] = 0x80;
-    let entries = same::entries(&shadow, &shadow_left);
-    let numbers = same::numbers(&map, &map_left);
+    let entries = shadow == shadow_left;
+    let numbers = map == map_left;
     let bytes = exclusion == exclusion_left;
     let left = guard::state(2048, 4096, 1, [2047, 0, 0, 0], Kernel(2047));
     let tables = entries && numbers && bytes;
-    t.case(
-        "start",
-        "the largest sizes",
-        same::answers(answer, Done(1, 1)) && run == words(left) && tables,
-    )
+    t.case("start", "the largest sizes", answer == Done(1, 1) && run == words(left) && tables)
 }
 
 // Sixteen entry pages of seventeen.
@@ -181,8 +176,8 @@ fn sixteen(t: Tally) -> Tally {
         &mut map,
         &mut exclusion,
     );
-    let entries = same::entries(&shadow, &[0x401; 17]);
-    let numbers = same::numbers(&map, &[0; 17]);
+    let entries = shadow == [0x401; 17];
+    let numbers = map == [0; 17];
     let bytes = exclusion == [1];
     let left = State {
         pages: 17,
@@ -192,11 +187,7 @@ fn sixteen(t: Tally) -> Tally {
         mode: Kernel(0),
     };
     let tables = entries && numbers && bytes;
-    t.case(
-        "start",
-        "sixteen entry pages",
-        same::answers(answer, Done(17, 16)) && run == words(left) && tables,
-    )
+    t.case("start", "sixteen entry pages", answer == Done(17, 16) && run == words(left) && tables)
 }
 
 // A record refused with a number, where the tables are lent as V 4 and F 9 ask.

@@ -5,7 +5,6 @@ use crate::calls::Mode;
 use crate::calls::Mode::Kernel;
 use crate::calls::Mode::User;
 use crate::guard;
-use crate::same;
 use crate::tally::Tally;
 
 // Eight pages, nine frames, 2 and 8 of them excluded.
@@ -35,9 +34,9 @@ fn eight(
         &mut map,
         &[0x04, 0x01],
     );
-    let entries = same::entries(&shadow, &shadow_left);
-    let numbers = same::numbers(&map, &map_left);
-    t.case("sync_all", name, same::answers(answer, wanted) && entries && numbers)
+    let entries = shadow == shadow_left;
+    let numbers = map == map_left;
+    t.case("sync_all", name, answer == wanted && entries && numbers)
 }
 
 // Pages 0 to 7: absent, approved for 2, at F, an alias of 8, ordinary, ordinary as before, approved for 8 and absent, ordinary no-execute.
@@ -199,9 +198,9 @@ fn largest(t: Tally) -> Tally {
     exclusion[511] = 0x80;
     let s = guard::state(2048, 4096, 1, [0, 0, 0, 0], Kernel(2047));
     let answer = crate::calls::sync_all(s, &[0xfff003; 2048], &mut shadow, &mut map, &exclusion);
-    let entries = same::entries(&shadow, &[0xfff401; 2048]);
-    let numbers = same::numbers(&map, &[4095; 2048]);
-    let counts = same::answers(answer, Done(2048, 2048));
+    let entries = shadow == [0xfff401; 2048];
+    let numbers = map == [4095; 2048];
+    let counts = answer == Done(2048, 2048);
     t.case("sync_all", "2048 pages join", counts && entries && numbers)
 }
 
@@ -211,9 +210,9 @@ fn smallest(t: Tally) -> Tally {
     let mut map = [65535u16; 1];
     let s = guard::state(1, 1, 1, [0, 0, 0, 0], User(0));
     let answer = crate::calls::sync_all(s, &[0x7], &mut shadow, &mut map, &[0]);
-    let entries = same::entries(&shadow, &[0x7]);
-    let numbers = same::numbers(&map, &[65535]);
-    let counts = same::answers(answer, Done(1, 0));
+    let entries = shadow == [0x7];
+    let numbers = map == [65535];
+    let counts = answer == Done(1, 0);
     t.case("sync_all", "one page and one frame", counts && entries && numbers)
 }
 

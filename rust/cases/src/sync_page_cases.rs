@@ -6,7 +6,6 @@ use crate::calls::Mode;
 use crate::calls::Mode::Kernel;
 use crate::calls::Mode::User;
 use crate::guard;
-use crate::same;
 use crate::tally::Tally;
 
 fn number(x: u64) -> u16 {
@@ -28,9 +27,9 @@ fn page_0(t: Tally, name: &str, mode: Mode, given: [u64; 3], wanted: [u64; 4]) -
         &[0x04, 0x01],
         0,
     );
-    let entries = same::entries(&shadow, &[wanted[2], 0x2401, 0x7001, 0]);
-    let numbers = same::numbers(&map, &[number(wanted[3]), 2, 65535, 8]);
-    let counts = same::answers(answer, Done(wanted[0], wanted[1]));
+    let entries = shadow == [wanted[2], 0x2401, 0x7001, 0];
+    let numbers = map == [number(wanted[3]), 2, 65535, 8];
+    let counts = answer == Done(wanted[0], wanted[1]);
     t.case("sync_page", name, counts && entries && numbers)
 }
 
@@ -360,9 +359,9 @@ fn page_of(
         &[0x04, 0x01],
         page,
     );
-    let entries = same::entries(&shadow_now, &shadow);
-    let numbers = same::numbers(&map_now, &map);
-    t.case("sync_page", name, same::answers(answer, wanted) && entries && numbers)
+    let entries = shadow_now == shadow;
+    let numbers = map_now == map;
+    t.case("sync_page", name, answer == wanted && entries && numbers)
 }
 
 // The page named is the one synchronised; question 9: "page below V".

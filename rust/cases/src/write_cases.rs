@@ -7,7 +7,6 @@ use crate::calls::Mode;
 use crate::calls::Mode::Kernel;
 use crate::calls::Mode::User;
 use crate::guard;
-use crate::same;
 use crate::tally::Tally;
 
 // Given: the mode, and the shadow entries of pages 0 and 1. Frames 2 and 8 of nine are excluded.
@@ -23,7 +22,7 @@ fn write(
     let shadow = [first[0], first[1], 0x8000000000006003, 0x8401];
     let answer =
         crate::calls::write(guard::state_in(mode), &shadow, &[0x04, 0x01], address, length);
-    t.case("write", name, same::answers(answer, wanted))
+    t.case("write", name, answer == wanted)
 }
 
 fn allowed(t: Tally) -> Tally {
@@ -318,7 +317,7 @@ fn largest(t: Tally) -> Tally {
     exclusion[511] = 0x7f;
     let s = guard::state(2048, 4096, 1, [0, 0, 0, 0], Kernel(0));
     let answer = crate::calls::write(s, &shadow, &exclusion, 8388592, 16);
-    t.case("write", "the last 16 bytes of 2048 pages", same::answers(answer, Done(4095, 4095)))
+    t.case("write", "the last 16 bytes of 2048 pages", answer == Done(4095, 4095))
 }
 
 pub fn all(t: Tally) -> Tally {
