@@ -1,4 +1,5 @@
 //! A million calls agree, every cell that can be reached is reached, and a planted mistake is found.
+//! Both sides have the same refusals; rust/guard compares its own with docs/refusals.txt.
 //! The counts go to standard output, past the test program's own capture.
 
 use std::io::{self, Write};
@@ -44,4 +45,12 @@ fn too_few_calls_are_noticed() {
     let plan = Plan { seed: SEED, lists: 20, calls: Plan::CALLS, fault: Fault::None };
     let tally = run(&plan).unwrap_or_else(|difference| panic!("seed {SEED}, {difference}"));
     assert!(!tally.complaints().is_empty());
+}
+
+#[test]
+fn both_sides_have_the_same_refusals() {
+    let of_guard = guard::Refusal::ALL.map(|refusal| (refusal.number(), format!("{refusal:?}")));
+    let of_reference =
+        reference::Refusal::ALL.map(|refusal| (refusal.number(), format!("{refusal:?}")));
+    assert_eq!(of_reference, of_guard);
 }
