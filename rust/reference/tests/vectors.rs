@@ -1,5 +1,5 @@
-//! Runs the drill on every vector of tests/vectors/base and compares what it prints, byte by byte.
-//! A folder without vectors fails, and so does an input without its expected output, or the other way round.
+//! Runs the drill on every vector of tests/vectors/*/ and compares what it prints, byte by byte.
+//! No vector at all fails, and so does an input without its expected output, or the other way round.
 
 mod common;
 
@@ -9,27 +9,34 @@ use std::path::{Path, PathBuf};
 
 use reference::{drill_with_fault, Fault};
 
-fn folder() -> PathBuf {
-    Path::new(env!("CARGO_MANIFEST_DIR")).join("../../tests/vectors/base")
+fn vectors() -> PathBuf {
+    Path::new(env!("CARGO_MANIFEST_DIR")).join("../../tests/vectors")
 }
 
-/// The names of the files with this extension, without it.
-fn names(extension: &str) -> BTreeSet<String> {
-    let files = fs::read_dir(folder()).expect("the folder of vectors is there");
-    let paths = files.map(|file| file.expect("the folder can be read").path());
-    let named = paths.filter(|path| path.extension().is_some_and(|found| found == extension));
-    named.map(|path| path.file_stem().unwrap().to_string_lossy().into_owned()).collect()
+fn paths_in(folder: &Path) -> impl Iterator<Item = PathBuf> {
+    let files = fs::read_dir(folder).unwrap_or_else(|e| panic!("{}: {e}", folder.display()));
+    files.map(|file| file.expect("the folder can be read").path())
 }
 
-/// The vectors on which a guard with this mistake prints something else, and how many were compared.
-fn failures(fault: Fault) -> (Vec<String>, usize) {
-    let inputs = names("in");
-    assert!(!inputs.is_empty(), "no vector to compare in {}", folder().display());
-    assert_eq!(inputs, names("out"), "each .in has its .out");
-    let differs = |name: &&String| {
-        let input = fs::read(folder().join(format!("{name}.in"))).unwrap();
-        let expected = fs::read(folder().join(format!("{name}.out"))).unwrap();
-        assert!(!expected.is_empty(), "{name}.out is empty");
+/// The files with this extension in the folders of vectors.
+fn files(extension: &str) -> BTreeSet<PathBuf> {
+    paths_in(&vectors())
+        .filter(|path| path.is_dir())
+        .flat_map(|folder| paths_in(&folder))
+        .filter(|path| path.extension().is_some_and(|found| found == extension))
+        .collect()
+}
+
+/// The inputs on which a guard with this mistake prints something else, and how many were compared.
+fn failures(fault: Fault) -> (Vec<PathBuf>, usize) {
+    let inputs = files("in");
+    assert!(!inputs.is_empty(), "no vector to compare in {}", vectors().display());
+    let outputs: BTreeSet<_> = inputs.iter().map(|input| input.with_extension("out")).collect();
+    assert_eq!(outputs, files("out"), "each .in has its .out");
+    let differs = |path: &&PathBuf| {
+        let input = fs::read(path).unwrap();
+        let expected = fs::read(path.with_extension("out")).unwrap();
+        assert!(!expected.is_empty(), "the .out of {} is empty", path.display());
         let mut printed = Vec::new();
         drill_with_fault(fault, &input[..], &mut printed).unwrap();
         printed != expected
@@ -64,8 +71,8 @@ impl std::io::Read for OneByte<'_> {
 
 #[test]
 fn a_slow_input_gives_the_same() {
-    let input = fs::read(folder().join("worked-example.in")).unwrap();
-    let expected = fs::read(folder().join("worked-example.out")).unwrap();
+    let input = fs::read(vectors().join("base/worked-example.in")).unwrap();
+    let expected = fs::read(vectors().join("base/worked-example.out")).unwrap();
     let mut printed = Vec::new();
     reference::drill(OneByte(&input), &mut printed).unwrap();
     assert_eq!(printed, expected);
