@@ -12,7 +12,5 @@ mod sides;
 mod started;
 mod tally;
 
-pub use call::{Call, KINDS};
-pub use run::{run, Difference, Plan};
+pub use run::{run, Plan};
 pub use started::run_claim;
-pub use tally::{Tally, CELL_MINIMUM};

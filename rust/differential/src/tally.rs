@@ -7,7 +7,7 @@ use crate::call::KINDS;
 use crate::damage::Damage;
 
 /// The least count of a cell that can be reached.
-pub const CELL_MINIMUM: u64 = 1000;
+const CELL_MINIMUM: u64 = 1000;
 
 /// The largest number of a guard call; 14 and 15 are the drill's.
 const LAST_NUMBER: usize = 13;

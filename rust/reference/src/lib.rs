@@ -18,10 +18,7 @@ pub use access::{device_write, fetch, write};
 pub use drill::{drill, drill_with_fault};
 pub use entry::NO_FRAME;
 pub use fault::Fault;
-pub use page_guard::PageGuard;
 pub use start::start;
-pub use state::{
-    vector_len, Answer, Mode, Refusal, State, ENTRY_PAGES, MAX_FRAMES, MAX_PAGES, PAGE_BYTES,
-};
+pub use state::{vector_len, Answer, Mode, Refusal, State};
 pub use switch::{enter, leave};
 pub use sync::{synchronise_all, synchronise_one, without_approval};

@@ -42,7 +42,7 @@ impl Entry {
 
 /// The guard of one page: a mode, an entry and an approval, with the frames that its policy excludes.
 #[derive(Clone, PartialEq, Eq)]
-pub struct PageGuard {
+pub(crate) struct PageGuard {
     frames: u64,
     excluded: FrameSet,
     user: bool,

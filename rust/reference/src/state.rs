@@ -2,13 +2,13 @@
 //! Question 7 about the state is asked here; each call asks it about the tables that it is lent.
 
 /// The largest number of virtual pages.
-pub const MAX_PAGES: u16 = 2048;
+pub(crate) const MAX_PAGES: u16 = 2048;
 /// The largest number of physical frames.
-pub const MAX_FRAMES: u16 = 4096;
+pub(crate) const MAX_FRAMES: u16 = 4096;
 /// How many entry pages the state has room for.
-pub const ENTRY_PAGES: usize = 16;
+pub(crate) const ENTRY_PAGES: usize = 16;
 /// The bytes of a page and of a frame.
-pub const PAGE_BYTES: u64 = 4096;
+pub(crate) const PAGE_BYTES: u64 = 4096;
 /// The bytes of the longest exclusion vector.
 pub(crate) const MAX_VECTOR: usize = MAX_FRAMES as usize / 8;
 
