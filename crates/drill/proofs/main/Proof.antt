@@ -1,30 +1,29 @@
 -- `drill::main` meets its contract.
-use lib.ListN.{length-replicate}
 use borrow.Author.Needs.{needs}
 use Rattle.drill.proofs.PartLaws.{part-length}
 use Rattle.drill.proofs.main.Statement.{statement}
 use Rattle.drill.proofs.main.Tie as tie
 
 slice-aggregate-pages-lent : tie.Need-slice-aggregate-pages-lent
-slice-aggregate-pages-lent c = search (needs, part-length, length-replicate)
+slice-aggregate-pages-lent c = search (needs, part-length)
 
 slice-aggregate-bytes-lent : tie.Need-slice-aggregate-bytes-lent
-slice-aggregate-bytes-lent c = search (needs, part-length, length-replicate)
+slice-aggregate-bytes-lent c = search (needs, part-length)
 
 slice-aggregate-run : tie.Need-slice-aggregate-run
-slice-aggregate-run c = search (needs, part-length, length-replicate)
+slice-aggregate-run c = search (needs, part-length)
 
 slice-aggregate-run-2 : tie.Need-slice-aggregate-run-2
-slice-aggregate-run-2 c = search (needs, part-length, length-replicate)
+slice-aggregate-run-2 c = search (needs, part-length)
 
 slice-aggregate-run-3 : tie.Need-slice-aggregate-run-3
-slice-aggregate-run-3 c = search (needs, part-length, length-replicate)
+slice-aggregate-run-3 c = search (needs, part-length)
 
 slice-aggregate-run-4 : tie.Need-slice-aggregate-run-4
-slice-aggregate-run-4 c = search (needs, part-length, length-replicate)
+slice-aggregate-run-4 c = search (needs, part-length)
 
 slice-aggregate-run-5 : tie.Need-slice-aggregate-run-5
-slice-aggregate-run-5 c = search (needs, part-length, length-replicate)
+slice-aggregate-run-5 c = search (needs, part-length)
 
 pub main-spec : {M : Type 1} → statement M
 main-spec =
