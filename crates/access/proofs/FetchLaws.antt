@@ -15,7 +15,8 @@ use Rattle.model.specs.Keeps.{inUser, modeOf, inMode}
 use Rattle.model.specs.Bits.{present, noExecute, userBit, frameOf}
 use Rattle.model.specs.Questions.{firstNo, seen, stateInOrder, inOrder, fetchPermitted, fetchQuestions}
 use Rattle.model.specs.Calls.{replyOf, movedBy, fetchOf}
-use Rattle.model.proofs.QuestionLaws.{both-first, both-second, firstNo-yes, firstNo-no, asked, numbered, all-yes, settle-accepted}
+use Rattle.model.proofs.QuestionLaws.{both-second, firstNo-yes, firstNo-no, settle-accepted}
+use Rattle.model.proofs.AcceptedLaws.{fetch-page}
 use Rattle.model.proofs.CallLaws.{passed, passed-always, stopped, none-left, settle-refused-by, pages-few, shadow-long}
 use Rattle.access.specs.Lent.{lent}
 
@@ -32,9 +33,7 @@ fetch-by-user user entry r m e f p = p ∙ rw (← e, f) refl
 -- The page of an accepted fetch is below V.
 pub fetched-below : (user : Bool) (pages page number : ℕ) (shadow : List ℕ)
     → number ≡ firstNo (fetchQuestions (lent user pages 0 shadow []) page) → number ≡ 0 → page < pages
-unfolding fetchQuestions asked numbered both either
-fetched-below user pages page number shadow p z =
-    ltb-true page pages (both-first _ _ (all-yes 9 (fetchQuestions (lent user pages 0 shadow []) page) refl (sym p ∙ z)))
+fetched-below user pages page number shadow p z = fetch-page (lent user pages 0 shadow []) page (sym p ∙ z)
 
 pub fetched-in : (s : State) (user r7 : Bool) (page number : ℕ) (shadow : List ℕ)
     → r7 ≡ inOrder (stateInOrder s) (eqb (length shadow) (s .pages) ∷ []) → not r7 ≡ false

@@ -11,11 +11,12 @@ use borrow.Author.Tests.{not-true, not-false, lt-ltb, ltb-true, eqb-true}
 use native.Mathlib.Omega.{arith}
 use Rattle.model.specs.declared.State.{State}
 use Rattle.model.specs.declared.Answer.the-variants.{Done, Refused}
-use Rattle.model.specs.Edges.{both, either, within, everyFrom, lastByte, lastPage, touched}
+use Rattle.model.specs.Edges.{both, within, everyFrom, lastByte, lastPage, touched}
 use Rattle.model.specs.Keeps.{vectorBytes, excludedIn}
 use Rattle.model.specs.Questions.{firstNo, seen, stateInOrder, inOrder, free, everyTouched, deviceWriteQuestions}
 use Rattle.model.specs.Calls.{replyOf, deviceWriteOf}
-use Rattle.model.proofs.QuestionLaws.{both-first, both-second, within-low, firstNo-yes, firstNo-no, asked, numbered, all-yes, settle-accepted}
+use Rattle.model.proofs.QuestionLaws.{both-first, both-second, within-low, firstNo-yes, firstNo-no, settle-accepted}
+use Rattle.model.proofs.AcceptedLaws.{deviceWrite-some, deviceWrite-byte}
 use Rattle.model.proofs.CallLaws.{passed, passed-always, stopped, none-left, settle-refused-by, frames-few}
 use Rattle.model.proofs.TouchLaws.{last-page-below, first-up-to-last, every-same}
 use Rattle.access.specs.Lent.{lent}
@@ -106,15 +107,12 @@ module _ (s : State) (exclusion : List ℕ) (address length : ℕ) (r7 : Bool)
       few = frames-few s (both-second _ _ (sym p ∙ not-false r7 q))
 
       pub transferred-last : (1 ≤ length) × (lastPage address length < 65536)
-      unfolding deviceWriteQuestions asked numbered both either
+      unfolding lastPage
       transferred-last =
-          let yes8 : within 1 1048576 length ≡ true =
-          both-first _ _ (all-yes 8 (deviceWriteQuestions (lent true 0 (s .frames) [] exclusion) address length) refl (sym e ∙ z)) in
-          let yes9 : ltb (lastByte address length) (s .frames * 4096) ≡ true =
-          both-first _ _ (all-yes 9 (deviceWriteQuestions (lent true 0 (s .frames) [] exclusion) address length) refl (sym e ∙ z)) in
-          let b : lastPage address length < s .frames = ltb-true _ _ (sym (last-page-below address length (s .frames)) ∙ yes9) in
+          let passes : firstNo (deviceWriteQuestions (lent true 0 (s .frames) [] exclusion) address length) ≡ 0 = sym e ∙ z in
+          let b : lastByte address length < s .frames * 4096 = deviceWrite-byte (lent true 0 (s .frames) [] exclusion) address length passes in
           let f : s .frames ≤ 4096 = few in
-          (within-low 1 1048576 length yes8, omega arith)
+          (deviceWrite-some (lent true 0 (s .frames) [] exclusion) address length passes, omega arith)
 
       pub transfer-accepted : (last : ℕ) → last ≡ lastPage address length
           → replyOf (Done (address / 4096) last) ≡ deviceWriteOf s exclusion address length

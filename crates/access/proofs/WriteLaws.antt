@@ -12,12 +12,13 @@ use lib.Bits.{bitAnd}
 use native.Mathlib.Omega.{arith}
 use Rattle.model.specs.declared.State.{State}
 use Rattle.model.specs.declared.Answer.the-variants.{Done, Refused}
-use Rattle.model.specs.Edges.{both, either, within, lastPage}
+use Rattle.model.specs.Edges.{both, within, lastPage}
 use Rattle.model.specs.Keeps.{vectorBytes, excludedIn, inUser}
 use Rattle.model.specs.Bits.{present, frameOf}
 use Rattle.model.specs.Questions.{firstNo, seen, stateInOrder, inOrder, writePermitted, free, writeQuestions}
 use Rattle.model.specs.Calls.{replyOf, writeOf}
-use Rattle.model.proofs.QuestionLaws.{both-first, both-second, within-low, firstNo-yes, firstNo-no, asked, numbered, all-yes, settle-accepted}
+use Rattle.model.proofs.QuestionLaws.{both-first, both-second, within-low, firstNo-yes, firstNo-no, settle-accepted}
+use Rattle.model.proofs.AcceptedLaws.{write-some, write-page}
 use Rattle.model.proofs.CallLaws.{passed, passed-always, stopped, none-left, settle-refused-by, pages-few}
 use Rattle.model.proofs.TouchLaws.{first-up-to-last, touched-both}
 use Rattle.access.specs.Lent.{lent, freeIn, entryQuestions}
@@ -140,15 +141,10 @@ module _ (user : Bool) (pages frames address length : ℕ) (shadow exclusion : L
 module _ (user : Bool) (pages frames address length number : ℕ) (shadow exclusion : List ℕ)
     (e : number ≡ firstNo (writeQuestions (lent user pages frames shadow exclusion) address length)) (z : number ≡ 0) where
   written-long : 1 ≤ length
-  unfolding writeQuestions asked numbered both either
-  written-long =
-      within-low 1 16 length (both-first _ _ (all-yes 8 (writeQuestions (lent user pages frames shadow exclusion) address length) refl (sym e ∙ z)))
+  written-long = write-some (lent user pages frames shadow exclusion) address length (sym e ∙ z)
 
   written-below : lastPage address length < pages
-  unfolding writeQuestions asked numbered both either
-  written-below =
-      ltb-true (lastPage address length) pages
-      (both-first _ _ (all-yes 9 (writeQuestions (lent user pages frames shadow exclusion) address length) refl (sym e ∙ z)))
+  written-below = write-page (lent user pages frames shadow exclusion) address length (sym e ∙ z)
 
 -- Question 7 of a write: the tables have their lengths.
 pub write-tables : (s : State) (long bytes : ℕ) (r7 : Bool)

@@ -8,7 +8,7 @@ ghost use lib.ListN.{length};
 ghost use Rattle.model.specs.Edges.{bit, everyFrom};
 ghost use Rattle.model.specs.Keeps.{excludedIn, withExcluded};
 
-// The bit of a frame that has a byte in the vector, so that no length is tested.
+// The bit of a frame that has a byte in the vector, so that no length is tested: question 7 and the limit at F have settled that.
 pub fn excluded_within(exclusion: &[u8], frame: u64) -> bool
     requires { ⌜ frame / 8 < length (now exclusion) ⌝ }
     ensures { λ r. ⌜ r ≡ excludedIn (now (exclusion .entry)) frame ⌝ }
@@ -76,7 +76,7 @@ fn clear_bytes(exclusion: &[u8], from: usize, to: usize) -> bool
     all == 0
 }
 
-// No frame from first to last is excluded. The vector has a byte for the last.
+// No frame from first to last is excluded. The vector has a byte for the last: questions 7 and 9 have settled that.
 pub fn none_excluded(exclusion: &[u8], first: u64, last: u64) -> bool
     requires { ⌜ (first ≤ last) × (last / 8 < length (now exclusion)) ⌝ }
     ensures { λ r. ⌜ r ≡ everyFrom (λ f. not (excludedIn (now (exclusion .entry)) f)) first (suc (last - first)) ⌝ }

@@ -24,7 +24,7 @@ use Rattle.model.proofs.QuestionLaws.{within-high}
 use Rattle.model.proofs.ClaimPages.{Good, told-good}
 use Rattle.model.proofs.RunLaws.{run-shadow-length, run-map-length, run-shadow-at, run-map-at}
 use Rattle.model.proofs.SwitchLaws.{length-switched, switched-at}
-use Rattle.model.proofs.ClaimQuestions.{syncPage-page, syncAll-kernel, fetch-page, enter-page, leave-page}
+use Rattle.model.proofs.AcceptedLaws.{syncPage-page, syncAll-kernel, fetch-page, enter-page, leave-page}
 use Rattle.model.proofs.ClaimKept.{Sound, Kept, pageOf, acceptedOf}
 
 inUser-modeOf : (user : Bool) (page : ℕ) → inUser (modeOf user page) ≡ user

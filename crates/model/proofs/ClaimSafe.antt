@@ -16,7 +16,7 @@ use Rattle.model.specs.OnePage.{seenBy, settled}
 use Rattle.model.specs.Claim.{Carried, Clear, coveredBy, Safe}
 use Rattle.model.proofs.QuestionLaws.{both-first, both-second}
 use Rattle.model.proofs.ClaimPages.{good-code}
-use Rattle.model.proofs.ClaimQuestions.{fetch-there, fetch-executable, write-free, deviceWrite-free}
+use Rattle.model.proofs.AcceptedLaws.{fetch-there, fetch-executable, write-free, deviceWrite-free}
 use Rattle.model.proofs.ClaimKept.{Kept, pageOf, acceptedOf}
 
 module _ (policy : Policy) (carried : Carried) (g : Guard) (h : Kept policy carried g) where

@@ -7,11 +7,11 @@ mod Computed
 pub mod VectorLaws
 pub mod CallLaws
 pub mod TouchLaws
+pub mod AcceptedLaws
 pub mod RunLaws
 pub mod SwitchLaws
 pub mod ClaimPages
 pub mod ClaimKept
-pub mod ClaimQuestions
 pub mod ClaimCalls
 pub mod ClaimSafe
 pub mod ClaimStart

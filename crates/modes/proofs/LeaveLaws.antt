@@ -2,7 +2,7 @@
 use Prim.Native.Nat.{ℕ, _<_, _≤_, _%_}
 use mathlib.Core.Bool.{Bool, true, false, not}
 use mathlib.Core.List.{List, [], _∷_}
-use mathlib.Core.Path.{_≡_, refl, sym, _∙_}
+use mathlib.Core.Path.{_≡_, sym, _∙_}
 use lib.ListN.{length, getD}
 use lib.Dec.{ltb, eqb}
 use borrow.Author.Tests.{not-false, ltb-true}
@@ -10,12 +10,12 @@ use native.Mathlib.Omega.{arith}
 use Rattle.model.specs.declared.State.{State}
 use Rattle.model.specs.declared.Mode.the-variants.{User}
 use Rattle.model.specs.declared.Answer.the-variants.{Done, Refused}
-use Rattle.model.specs.Edges.{both, either}
 use Rattle.model.specs.Keeps.{inUser, inMode}
 use Rattle.model.specs.Sync.{switchedAll, changes}
 use Rattle.model.specs.Questions.{firstNo, seen, stateInOrder, inOrder, leaveQuestions}
 use Rattle.model.specs.Calls.{replyOf, switchedBy, switchTo, leaveOf}
-use Rattle.model.proofs.QuestionLaws.{both-first, both-second, asked, numbered, all-yes, settle-accepted}
+use Rattle.model.proofs.QuestionLaws.{both-second, settle-accepted}
+use Rattle.model.proofs.AcceptedLaws.{leave-page}
 use Rattle.model.proofs.CallLaws.{passed, stopped, settle-refused-by, pages-few, shadow-long}
 use Rattle.modes.specs.Switches.{switchPermitted, switchQuestions}
 
@@ -47,10 +47,7 @@ module _ (s : State) (shadow : List ℕ) (page : ℕ) (r7 : Bool) (e7 : r7 ≡ i
 
       -- The page of an accepted leave is below V, and so fits its 16 bits.
       left-below : number ≡ 0 → page < s .pages
-      unfolding switchQuestions asked numbered both either
-      left-below z =
-          ltb-true page (s .pages)
-          (sym e9 ∙ both-first _ _ (all-yes 9 (switchQuestions exists (not user) false (getD shadow page 0)) refl (sym e ∙ z)))
+      left-below z = leave-page (seen s shadow [] []) page (sym leave-number ∙ z)
 
       pub leave-accepted : number ≡ 0 → (after : List ℕ) (changed : ℕ) (t : State) → after ≡ switchedAll true shadow
           → changed ≡ changes shadow (switchedAll true shadow) → t ≡ inMode s (User (page % 65536))

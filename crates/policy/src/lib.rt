@@ -58,7 +58,8 @@ fn number<'a>(r: Reader<'a>) -> u16
     number_at(r.src, r.at)
 }
 
-// The number at a place, read by a reader that has come so far. The parameters are plain, and both bytes are there.
+// The number at a place, read by a reader that has come so far. The parameters are plain, and both bytes are there: questions 1 and 4 have
+// settled that.
 pub fn number_from(bytes: &[u8], at: usize) -> u16
     requires { ⌜ at + 1 < length (now bytes) ⌝ }
     ensures { λ n. ⌜ n ≡ numberAt (now (bytes .entry)) at ⌝ }

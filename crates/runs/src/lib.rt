@@ -89,7 +89,7 @@ fn entry_pages(run: &[u64]) -> [u16; 16]
     entry
 }
 
-// The state that a run holds. Its callers have asked for the length.
+// The state that a run holds. The run has its length, which `usable` has asked for.
 pub fn state_in(run: &[u64]) -> State
     requires { ⌜ length (now run) ≡ stateWords ⌝ }
     ensures { λ r. ⌜ r ≡ stateIn (now (run .entry)) ⌝ }
@@ -217,6 +217,7 @@ pub fn reply(numbers: &mut [u64], answer: Answer) -> u64
 }
 
 // What a call gave that may move: its answer to the numbers run, and the mode of an accepted one to the state run.
+// The state run has its length, which `usable` has asked for.
 pub fn put_called(run: &mut [u64], numbers: &mut [u64], called: Called) -> u64
     requires { ⌜ length (now run) ≡ stateWords ⌝ }
     ensures number { λ r. ⌜ r ≡ replyOf (called .answer) .number ⌝ }
@@ -234,6 +235,7 @@ pub fn put_called(run: &mut [u64], numbers: &mut [u64], called: Called) -> u64
 }
 
 // What a start gave: its answer to the numbers run, and the state of an accepted one to the state run.
+// The state run has its length, which `runs_fit` has asked for.
 pub fn put_started(run: &mut [u64], numbers: &mut [u64], called: Called) -> u64
     requires { ⌜ length (now run) ≡ stateWords ⌝ }
     ensures number { λ r. ⌜ r ≡ replyOf (called .answer) .number ⌝ }

@@ -17,13 +17,13 @@ ghost use Rattle.sync.specs.Steps.{rules, stepAt};
 const NONE: u16 = 65535;
 
 // A page's shadow entry and its number in the map.
-pub struct Place {
-    pub entry: u64,
-    pub approval: u16,
+struct Place {
+    entry: u64,
+    approval: u16,
 }
 
 // Steps 1 to 5 on a kernel entry and the page's number in the map. The vector has a bit for each frame below F, as question 7 has settled.
-pub fn step(user: bool, frames: u16, exclusion: &[u8], entry: u64, approval: u16) -> Place
+fn step(user: bool, frames: u16, exclusion: &[u8], entry: u64, approval: u16) -> Place
     requires { ⌜ length (now exclusion) ≡ vectorBytes frames ⌝ }
     ensures { λ r. ⌜ place (r .entry) (r .approval) ≡ Sync.step (rules user frames (now (exclusion .entry))) entry approval ⌝ }
 {
@@ -54,9 +54,9 @@ pub fn step(user: bool, frames: u16, exclusion: &[u8], entry: u64, approval: u16
 }
 
 // The shadow entries whose value changed, and the pages that joined the map.
-pub struct Counts {
-    pub changed: u64,
-    pub joined: u64,
+struct Counts {
+    changed: u64,
+    joined: u64,
 }
 
 // Stores a page's shadow entry where its value changed, and counts that. No more entries are counted than pages lie before this one.
@@ -86,7 +86,7 @@ fn put_approval(map: &mut [u16], i: usize, approval: u16, joined: u64) -> u64
 // The step of page i on its kernel entry, stored in both tables and counted. It asks that both tables have the page, which every
 // caller has settled, and that no more pages were counted than lie before it. The map's number is settled before an entry is written,
 // so that it is read once.
-pub fn sync_at(
+fn sync_at(
     user: bool,
     frames: u16,
     exclusion: &[u8],
@@ -106,7 +106,7 @@ pub fn sync_at(
 }
 
 // Every page of parts of one length, in rising order. The lengths are asked for since question 7 has settled them in every caller.
-pub fn sync_pages(
+fn sync_pages(
     user: bool,
     frames: u16,
     exclusion: &[u8],

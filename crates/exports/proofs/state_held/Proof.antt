@@ -10,7 +10,7 @@ use Rattle.model.specs.declared.Mode.the-variants.{Kernel, User}
 use Rattle.model.specs.Keeps.{inUser, running, modeOf, inMode}
 use Rattle.model.specs.Questions.{seen}
 use Rattle.model.specs.Calls.{settle, accepted, refused, Moved, Switched, switchTo, fetchOf, enterOf, leaveOf}
-use Rattle.model.proofs.ClaimQuestions.{fetch-page, enter-page, leave-page}
+use Rattle.model.proofs.AcceptedLaws.{fetch-page, enter-page, leave-page}
 use Rattle.runs.specs.Runs.{stateIn, field, lendable, runAfter}
 use Rattle.runs.proofs.WordLaws.{narrow-below, run-lent}
 use Rattle.runs.proofs.StateLaws.{mode-decoded, running-mode}

@@ -1,5 +1,6 @@
--- Demand 3: what the questions of an accepted call, each looked up by its number, say of what the call names. They hold of any view.
-use Prim.Native.Nat.{ℕ, _+_, _/_, _≤_, _<_}
+-- What the questions of an accepted call, each looked up by its number, say of what the call names. They hold of any view: of the guard's, of
+-- the one-page guards', and of what the functions below a call are lent.
+use Prim.Native.Nat.{ℕ, _+_, _*_, _/_, _≤_, _<_}
 use mathlib.Core.Bool.{Bool, true, false}
 use mathlib.Core.Path.{_≡_, refl}
 use lib.Dec.{ltb}
@@ -8,7 +9,7 @@ use borrow.Author.Tests.{ltb-true, eqb-true, not-true}
 use Rattle.model.specs.Edges.{pageBytes, both, either, lastByte, lastPage}
 use Rattle.model.specs.Bits.{present, noExecute, frameOf}
 use Rattle.model.specs.Questions.{View, firstNo, inOrder, syncPageQuestions, syncAllQuestions, fetchPermitted, fetchQuestions, free, everyTouched, writeQuestions, enterQuestions, leaveQuestions, deviceWriteQuestions}
-use Rattle.model.proofs.QuestionLaws.{asked, numbered, all-yes, both-first, both-second}
+use Rattle.model.proofs.QuestionLaws.{asked, numbered, all-yes, both-first, both-second, within-low}
 use Rattle.model.proofs.TouchLaws.{touched-at}
 
 -- A test of every page (or frame) that an access touches holds of that of each of its bytes.
@@ -40,6 +41,23 @@ module _ (v : View) where
   pub leave-page : (page : ℕ) → firstNo (leaveQuestions v page) ≡ 0 → page < v .pages
   unfolding leaveQuestions asked numbered both either
   leave-page page h = ltb-true page (v .pages) (both-first _ _ (all-yes 9 (leaveQuestions v page) refl h))
+
+  -- The length of a write or device write, and where its last byte lies.
+  pub write-some : (address length : ℕ) → firstNo (writeQuestions v address length) ≡ 0 → 1 ≤ length
+  unfolding writeQuestions asked numbered both either
+  write-some address length h = within-low 1 16 length (both-first _ _ (all-yes 8 (writeQuestions v address length) refl h))
+
+  pub write-page : (address length : ℕ) → firstNo (writeQuestions v address length) ≡ 0 → lastPage address length < v .pages
+  unfolding writeQuestions asked numbered both either
+  write-page address length h = ltb-true (lastPage address length) (v .pages) (both-first _ _ (all-yes 9 (writeQuestions v address length) refl h))
+
+  pub deviceWrite-some : (address length : ℕ) → firstNo (deviceWriteQuestions v address length) ≡ 0 → 1 ≤ length
+  unfolding deviceWriteQuestions asked numbered both either
+  deviceWrite-some address length h = within-low 1 1048576 length (both-first _ _ (all-yes 8 (deviceWriteQuestions v address length) refl h))
+
+  pub deviceWrite-byte : (address length : ℕ) → firstNo (deviceWriteQuestions v address length) ≡ 0 → lastByte address length < v .frames * pageBytes
+  unfolding deviceWriteQuestions asked numbered both either
+  deviceWrite-byte address length h = ltb-true (lastByte address length) (v .frames * pageBytes) (both-first _ _ (all-yes 9 (deviceWriteQuestions v address length) refl h))
 
   -- What a fetch finds there, and what a write or device write may cover.
   pub fetch-there : (page : ℕ) → firstNo (fetchQuestions v page) ≡ 0 → present (v .shadow page) ≡ true
