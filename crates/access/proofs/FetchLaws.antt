@@ -10,6 +10,7 @@ use native.Mathlib.Omega.{arith}
 use Rattle.model.specs.declared.State.{State}
 use Rattle.model.specs.declared.Mode.{Mode}
 use Rattle.model.specs.declared.Answer.the-variants.{Done, Refused}
+use Rattle.model.specs.declared.Called.{Called}
 use Rattle.model.specs.Edges.{both, either}
 use Rattle.model.specs.Keeps.{inUser, modeOf, inMode}
 use Rattle.model.specs.Bits.{present, noExecute, userBit, frameOf}
@@ -71,10 +72,10 @@ found-in long pages page r9 l e y =
     omega arith
 
 module _ (s : State) (shadow : List ℕ) (page : ℕ) where
-  pub fetch-unfit : (r7 : Bool) → r7 ≡ inOrder (stateInOrder s) (eqb (length shadow) (s .pages) ∷ []) → not r7 ≡ true
-      → movedBy (record { answer = Refused 7; state = s }) ≡ fetchOf s shadow page
+  pub fetch-unfit : (r : Called) (r7 : Bool) → r7 ≡ inOrder (stateInOrder s) (eqb (length shadow) (s .pages) ∷ []) → not r7 ≡ true
+      → r .answer ≡ Refused 7 → r .state ≡ s → movedBy r ≡ fetchOf s shadow page
   unfolding movedBy replyOf fetchOf fetchQuestions
-  fetch-unfit r7 p q = sym (settle-refused-by 7 _ _ (λ z. omega arith) (firstNo-no 7 _ (sym p ∙ not-true r7 q)))
+  fetch-unfit r r7 p q a t = rw (a, t) (sym (settle-refused-by 7 _ _ (λ z. omega arith) (firstNo-no 7 _ (sym p ∙ not-true r7 q))))
 
   -- The questions after 7 do not look at the lengths.
   fetch-rest : (r7 user : Bool) (number : ℕ) → r7 ≡ inOrder (stateInOrder s) (eqb (length shadow) (s .pages) ∷ []) → not r7 ≡ false
@@ -83,11 +84,11 @@ module _ (s : State) (shadow : List ℕ) (page : ℕ) where
   unfolding fetchQuestions inOrder both
   fetch-rest r7 user number p q u e = firstNo-yes 7 _ (sym p ∙ not-false r7 q) ∙ sym ((rw u at e) ∙ firstNo-yes 7 _ refl)
 
-  pub fetch-refused : (r7 user : Bool) (number : ℕ) → r7 ≡ inOrder (stateInOrder s) (eqb (length shadow) (s .pages) ∷ [])
+  pub fetch-refused : (r : Called) (r7 user : Bool) (number : ℕ) → r7 ≡ inOrder (stateInOrder s) (eqb (length shadow) (s .pages) ∷ [])
       → not r7 ≡ false → user ≡ inUser (s .mode) → number ≡ firstNo (fetchQuestions (lent user (s .pages) 0 shadow []) page)
-      → (number ≡ 0 → ⊥) → movedBy (record { answer = Refused number; state = s }) ≡ fetchOf s shadow page
+      → (number ≡ 0 → ⊥) → r .answer ≡ Refused number → r .state ≡ s → movedBy r ≡ fetchOf s shadow page
   unfolding movedBy replyOf fetchOf
-  fetch-refused r7 user number p q u e z = sym (settle-refused-by number _ _ z (fetch-rest r7 user number p q u e))
+  fetch-refused r r7 user number p q u e z a t = rw (a, t) (sym (settle-refused-by number _ _ z (fetch-rest r7 user number p q u e)))
 
   pub fetch-accepted : (after : State) (m : Mode) (r7 user : Bool) (number frame : ℕ)
       → r7 ≡ inOrder (stateInOrder s) (eqb (length shadow) (s .pages) ∷ []) → not r7 ≡ false → user ≡ inUser (s .mode)

@@ -56,18 +56,12 @@ pub fn fetch(s: State, shadow: &[u64], page: u64) -> Called
     ensures { λ r. ⌜ movedBy r ≡ fetchOf s (now (shadow .entry)) page ⌝ }
 {
     if !questions::shadow_in_order(s, shadow.len()) {
-        return Called {
-            answer: Answer::Refused(7),
-            state: s,
-        };
+        return questions::refused(s, 7);
     }
     let mode = s.mode;
     let number = fetch_refusal(questions::in_user(mode), s.pages, shadow, page);
     if number != 0 {
-        return Called {
-            answer: Answer::Refused(number),
-            state: s,
-        };
+        return questions::refused(s, number);
     }
     let frame = entry::frame_of(shadow[page as usize]);
     let running = questions::on_page(mode, (page % 65536) as u16);

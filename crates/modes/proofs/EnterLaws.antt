@@ -9,10 +9,10 @@ use borrow.Author.Tests.{ltb-true}
 use native.Mathlib.Omega.{arith}
 use Rattle.model.specs.declared.State.{State}
 use Rattle.model.specs.declared.Mode.the-variants.{Kernel}
-use Rattle.model.specs.declared.Answer.the-variants.{Done, Refused}
+use Rattle.model.specs.declared.Answer.the-variants.{Refused}
+use Rattle.model.specs.declared.Called.{Called}
 use Rattle.model.specs.Edges.{both}
-use Rattle.model.specs.Keeps.{inUser, inMode}
-use Rattle.model.specs.Sync.{switchedAll, changes}
+use Rattle.model.specs.Keeps.{inUser}
 use Rattle.model.specs.Questions.{firstNo, seen, stateInOrder, inOrder, enterQuestions}
 use Rattle.model.specs.Calls.{replyOf, switchedBy, switchTo, enterOf}
 use Rattle.model.proofs.QuestionLaws.{both-second, settle-accepted}
@@ -20,9 +20,9 @@ use Rattle.model.proofs.CallLaws.{passed, stopped, settle-refused-by, shadow-lo
 use Rattle.modes.specs.Switches.{switchPermitted, switchQuestions}
 
 module _ (s : State) (shadow : List ℕ) (index : ℕ) (r7 : Bool) (e7 : r7 ≡ inOrder (stateInOrder s) (eqb (length shadow) (s .pages) ∷ [])) where
-  pub enter-unfit : not r7 ≡ true → switchedBy (record { answer = Refused 7; state = s }) shadow ≡ enterOf s shadow index
+  pub enter-unfit : (r : Called) → not r7 ≡ true → r .answer ≡ Refused 7 → r .state ≡ s → switchedBy r shadow ≡ enterOf s shadow index
   unfolding switchedBy replyOf enterOf enterQuestions
-  enter-unfit n = sym (settle-refused-by 7 _ _ (λ z. omega arith) (sym (stopped 7 r7 _ _ e7 n)))
+  enter-unfit r n a t = rw (a, t) (sym (settle-refused-by 7 _ _ (λ z. omega arith) (sym (stopped 7 r7 _ _ e7 n))))
 
   module _ (y7 : not r7 ≡ false) (exists : Bool) (e9 : exists ≡ both (ltb index (s .entries)) (ltb (getD (s .entry) index 0) (s .pages)))
       (page : ℕ) (p : page ≡ getD (s .entry) index 0) where
@@ -38,12 +38,11 @@ module _ (s : State) (shadow : List ℕ) (index : ℕ) (r7 : Bool) (e7 : r7 ≡ 
       unfolding enterQuestions switchQuestions switchPermitted
       enter-number = passed 7 number r7 _ _ e7 y7 (rw (e9, u, p) at e)
 
-      pub enter-refused : (number ≡ 0 → ⊥) → switchedBy (record { answer = Refused number; state = s }) shadow ≡ enterOf s shadow index
+      pub enter-refused : (r : Called) → (number ≡ 0 → ⊥) → r .answer ≡ Refused number → r .state ≡ s → switchedBy r shadow ≡ enterOf s shadow index
       unfolding switchedBy replyOf enterOf
-      enter-refused z = sym (settle-refused-by number _ _ z (sym enter-number))
+      enter-refused r z a t = rw (a, t) (sym (settle-refused-by number _ _ z (sym enter-number)))
 
-      pub enter-accepted : number ≡ 0 → (after : List ℕ) (changed : ℕ) (t : State) → after ≡ switchedAll false shadow
-          → changed ≡ changes shadow (switchedAll false shadow) → t ≡ inMode s (Kernel page)
-          → switchedBy (record { answer = Done changed 0; state = t }) after ≡ enterOf s shadow index
-      unfolding switchedBy replyOf enterOf switchTo inUser
-      enter-accepted z after changed t a c m = rw (m, c, a, p) (sym (settle-accepted _ _ (sym enter-number ∙ z)))
+      pub enter-accepted : (r : Called) (after : List ℕ) → number ≡ 0 → switchedBy r after ≡ switchTo s shadow (Kernel page)
+          → switchedBy r after ≡ enterOf s shadow index
+      unfolding enterOf
+      enter-accepted r after z g = (rw p at g) ∙ sym (settle-accepted _ _ (sym enter-number ∙ z))

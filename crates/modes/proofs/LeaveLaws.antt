@@ -9,9 +9,9 @@ use borrow.Author.Tests.{not-false, ltb-true}
 use native.Mathlib.Omega.{arith}
 use Rattle.model.specs.declared.State.{State}
 use Rattle.model.specs.declared.Mode.the-variants.{User}
-use Rattle.model.specs.declared.Answer.the-variants.{Done, Refused}
-use Rattle.model.specs.Keeps.{inUser, inMode}
-use Rattle.model.specs.Sync.{switchedAll, changes}
+use Rattle.model.specs.declared.Answer.the-variants.{Refused}
+use Rattle.model.specs.declared.Called.{Called}
+use Rattle.model.specs.Keeps.{inUser}
 use Rattle.model.specs.Questions.{firstNo, seen, stateInOrder, inOrder, leaveQuestions}
 use Rattle.model.specs.Calls.{replyOf, switchedBy, switchTo, leaveOf}
 use Rattle.model.proofs.QuestionLaws.{both-second, settle-accepted}
@@ -20,9 +20,9 @@ use Rattle.model.proofs.CallLaws.{passed, stopped, settle-refused-by, pages-few
 use Rattle.modes.specs.Switches.{switchPermitted, switchQuestions}
 
 module _ (s : State) (shadow : List ℕ) (page : ℕ) (r7 : Bool) (e7 : r7 ≡ inOrder (stateInOrder s) (eqb (length shadow) (s .pages) ∷ [])) where
-  pub leave-unfit : not r7 ≡ true → switchedBy (record { answer = Refused 7; state = s }) shadow ≡ leaveOf s shadow page
+  pub leave-unfit : (r : Called) → not r7 ≡ true → r .answer ≡ Refused 7 → r .state ≡ s → switchedBy r shadow ≡ leaveOf s shadow page
   unfolding switchedBy replyOf leaveOf leaveQuestions
-  leave-unfit n = sym (settle-refused-by 7 _ _ (λ z. omega arith) (sym (stopped 7 r7 _ _ e7 n)))
+  leave-unfit r n a t = rw (a, t) (sym (settle-refused-by 7 _ _ (λ z. omega arith) (sym (stopped 7 r7 _ _ e7 n))))
 
   module _ (y7 : not r7 ≡ false) (exists : Bool) (e9 : exists ≡ ltb page (s .pages)) where
     pub page-in : exists ≡ true → page < length shadow
@@ -41,20 +41,19 @@ module _ (s : State) (shadow : List ℕ) (page : ℕ) (r7 : Bool) (e7 : r7 ≡ i
       unfolding leaveQuestions switchQuestions switchPermitted
       leave-number = passed 7 number r7 _ _ e7 y7 (rw (e9, u) at e)
 
-      pub leave-refused : (number ≡ 0 → ⊥) → switchedBy (record { answer = Refused number; state = s }) shadow ≡ leaveOf s shadow page
+      pub leave-refused : (r : Called) → (number ≡ 0 → ⊥) → r .answer ≡ Refused number → r .state ≡ s → switchedBy r shadow ≡ leaveOf s shadow page
       unfolding switchedBy replyOf leaveOf
-      leave-refused z = sym (settle-refused-by number _ _ z (sym leave-number))
+      leave-refused r z a t = rw (a, t) (sym (settle-refused-by number _ _ z (sym leave-number)))
 
       -- The page of an accepted leave is below V, and so fits its 16 bits.
       left-below : number ≡ 0 → page < s .pages
       left-below z = leave-page (seen s shadow [] []) page (sym leave-number ∙ z)
 
-      pub leave-accepted : number ≡ 0 → (after : List ℕ) (changed : ℕ) (t : State) → after ≡ switchedAll true shadow
-          → changed ≡ changes shadow (switchedAll true shadow) → t ≡ inMode s (User (page % 65536))
-          → switchedBy (record { answer = Done changed 0; state = t }) after ≡ leaveOf s shadow page
-      unfolding switchedBy replyOf leaveOf switchTo inUser
-      leave-accepted z after changed t a c m =
+      pub leave-accepted : (r : Called) (after : List ℕ) → number ≡ 0 → switchedBy r after ≡ switchTo s shadow (User (page % 65536))
+          → switchedBy r after ≡ leaveOf s shadow page
+      unfolding leaveOf
+      leave-accepted r after z g =
           let b : page < s .pages = left-below z in
           let f : s .pages ≤ 2048 = few in
           let low : page % 65536 ≡ page = omega arith in
-          rw (m, c, a, low) (sym (settle-accepted _ _ (sym leave-number ∙ z)))
+          (rw low at g) ∙ sym (settle-accepted _ _ (sym leave-number ∙ z))

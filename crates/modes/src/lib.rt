@@ -8,7 +8,7 @@ ghost use lib.ListN.{length, getD};
 ghost use Rattle.model.specs.Sync;
 ghost use Rattle.model.specs.Sync.{switchedAll};
 ghost use Rattle.model.specs.Questions.{firstNo, leavePermitted};
-ghost use Rattle.model.specs.Calls.{switchedBy, enterOf, leaveOf};
+ghost use Rattle.model.specs.Calls.{switchedBy, switchTo, enterOf, leaveOf};
 ghost use Rattle.modes.specs.Switches.{switchPermitted, switchQuestions};
 use model::Answer;
 use model::Called;
@@ -30,6 +30,18 @@ fn switch_table(user: bool, shadow: &mut [u64]) -> u64
         i += 1;
     }
     changed
+}
+
+// "Both switch the mode, run that page, and give the count of changed shadow entries and 0."
+fn switch_to(s: State, shadow: &mut [u64], mode: Mode) -> Called
+    ensures { λ r. ⌜ switchedBy r (now (shadow .exit)) ≡ switchTo s (now (shadow .entry)) mode ⌝ }
+{
+    let changed = switch_table(questions::in_user(mode), shadow);
+    let state = questions::in_mode(s, mode);
+    Called {
+        answer: Answer::Done(changed, 0),
+        state,
+    }
 }
 
 // Question 12 of leaving to a page.
@@ -76,10 +88,7 @@ pub fn enter(s: State, shadow: &mut [u64], index: u64) -> Called
     ensures { λ r. ⌜ switchedBy r (now (shadow .exit)) ≡ enterOf s (now (shadow .entry)) index ⌝ }
 {
     if !questions::shadow_in_order(s, shadow.len()) {
-        return Called {
-            answer: Answer::Refused(7),
-            state: s,
-        };
+        return questions::refused(s, 7);
     }
     let mode = s.mode;
     let user = questions::in_user(mode);
@@ -87,42 +96,23 @@ pub fn enter(s: State, shadow: &mut [u64], index: u64) -> Called
     let page = questions::entry_page(s, index);
     let number = refusal(exists, user, true, shadow, page as u64);
     if number != 0 {
-        return Called {
-            answer: Answer::Refused(number),
-            state: s,
-        };
+        return questions::refused(s, number);
     }
-    let changed = switch_table(false, shadow);
-    let state = questions::in_mode(s, Mode::Kernel(page));
-    Called {
-        answer: Answer::Done(changed, 0),
-        state,
-    }
+    switch_to(s, shadow, Mode::Kernel(page))
 }
 
 pub fn leave(s: State, shadow: &mut [u64], page: u64) -> Called
     ensures { λ r. ⌜ switchedBy r (now (shadow .exit)) ≡ leaveOf s (now (shadow .entry)) page ⌝ }
 {
     if !questions::shadow_in_order(s, shadow.len()) {
-        return Called {
-            answer: Answer::Refused(7),
-            state: s,
-        };
+        return questions::refused(s, 7);
     }
     let mode = s.mode;
     let user = questions::in_user(mode);
     let exists = questions::page_exists(page, s.pages);
     let number = refusal(exists, !user, false, shadow, page);
     if number != 0 {
-        return Called {
-            answer: Answer::Refused(number),
-            state: s,
-        };
+        return questions::refused(s, number);
     }
-    let changed = switch_table(true, shadow);
-    let state = questions::in_mode(s, Mode::User((page % 65536) as u16));
-    Called {
-        answer: Answer::Done(changed, 0),
-        state,
-    }
+    switch_to(s, shadow, Mode::User((page % 65536) as u16))
 }

@@ -1,4 +1,4 @@
-// The tests behind questions 7, 8 and 9, each a function that a call or a crate above can ask, and the mode of a state.
+// The tests behind questions 7, 8 and 9, each a function that a call or a crate above can ask; the mode of a state, and a refused answer with it.
 // Sums of address and length are exact: no test computes one.
 
 ghost use mathlib.Core.Path.{_≡_};
@@ -7,11 +7,14 @@ ghost use mathlib.Core.Bool.{true};
 ghost use Prim.Native.Nat.{_*_};
 ghost use lib.Dec.{ltb, eqb};
 ghost use lib.ListN.{getD};
+ghost use Rattle.model.specs.declared.Answer.the-variants.{Refused};
 ghost use Rattle.model.specs.Edges;
 ghost use Rattle.model.specs.Keeps;
 ghost use Rattle.model.specs.Edges.{within, pagesInRange, framesInRange, lastByte, lastPage};
 ghost use Rattle.model.specs.Keeps.{vectorBytes, inUser, modeOf, inMode};
 ghost use Rattle.model.specs.Questions.{stateInOrder, inOrder};
+use model::Answer;
+use model::Called;
 use model::Mode;
 use model::State;
 
@@ -57,6 +60,16 @@ pub fn in_mode(s: State, m: Mode) -> State
         entries: s.entries,
         entry,
         mode: m,
+    }
+}
+
+// What a call that may move answers where a question refuses it: the number, and the state as it was.
+pub fn refused(s: State, number: u64) -> Called
+    ensures { λ r. ⌜ (r .answer ≡ Refused number) × (r .state ≡ s) ⌝ }
+{
+    Called {
+        answer: Answer::Refused(number),
+        state: s,
     }
 }
 

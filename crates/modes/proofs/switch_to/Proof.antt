@@ -1,0 +1,28 @@
+-- `modes::switch_to` meets its contract.
+use Prim.Native.Nat.{ℕ}
+use mathlib.Core.Bool.{Bool}
+use mathlib.Core.List.{List}
+use mathlib.Core.Path.{_≡_, refl}
+use borrow.Author.Needs.{needs}
+use Rattle.model.specs.declared.Answer.the-variants.{Done}
+use Rattle.model.specs.declared.Mode.{Mode}
+use Rattle.model.specs.declared.State.{State}
+use Rattle.model.specs.Keeps.{inUser, inMode}
+use Rattle.model.specs.Sync.{switchedAll, changes}
+use Rattle.model.specs.Calls.{replyOf, switchedBy, switchTo}
+use Rattle.modes.proofs.switch_to.Statement.{statement}
+use Rattle.modes.proofs.switch_to.Tie as tie
+
+switches : (s t : State) (shadow after : List ℕ) (mode : Mode) (user : Bool) (changed : ℕ) → user ≡ inUser mode → after ≡ switchedAll user shadow
+    → changed ≡ changes shadow (switchedAll user shadow) → t ≡ inMode s mode
+    → switchedBy (record { answer = Done changed 0; state = t }) after ≡ switchTo s shadow mode
+unfolding switchedBy replyOf switchTo
+switches s t shadow after mode user changed u a c m = rw (m, c, a, u) refl
+
+returns : tie.Need-returns
+returns c = search (needs, switches)
+
+pub switch-to-spec : {M : Type 1} → statement M
+switch-to-spec =
+    tie.close
+    (tie.spec (λ c κs. search needs) (λ c κs. search needs) (λ c κs. search needs) (λ c. search needs) returns)
