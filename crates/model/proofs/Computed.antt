@@ -7,8 +7,8 @@ use Rattle.model.specs.Sync.{stepOf, step, differs, before, runOver, swi
 use Rattle.model.specs.Questions.{firstNo, stateInOrder, sizesInRange, countsInRange, rising, allBelow, inOrder, startQuestions, syncAllQuestions, syncPageQuestions, fetchPermitted, fetchQuestions, writePermitted, free, everyTouched, writeQuestions, enterQuestions, leavePermitted, leaveQuestions, deviceWriteQuestions}
 use Rattle.model.specs.Calls.{replyOf, settle, startOf, pageSynced, syncPageOf, allSynced, syncAllOf, fetchOf, writeOf, switchTo, enterOf, leaveOf, deviceWriteOf}
 use Rattle.model.specs.Lists.{withSynced, withMoved, withSwitched, withReply, answer}
-use Rattle.model.specs.Drill.{policyExtent, drillStart, begun, kindOf, indexOf, lengthOf, valueOf, withGuard, edited, callOf, performed, digits, decimal, line, startLine, turnOf, turn, hexDigit, hexDigits, entryLines, countFrom, share, shareLine, closing, callLines, drillOutput}
+use Rattle.model.specs.Drill.{policyExtent, drillStart, begun, kindOf, indexOf, lengthOf, valueOf, withGuard, edited, callOf, performed, digits, decimal, line, startLine, turnOf, turn, hexDigit, hexDigits, entryLines, countFrom, share, shareLine, closing, callLimit, callLines, drillOutput}
 
 unfoldable pub computed : Unit {0}
-unfolding both either within pagesInRange framesInRange everyFrom tableFrom table member bit lastByte lastPage touched vectorBytes excludedIn flag byteOf vectorOf inUser running modeOf inMode numberAt numbersAt policyOf frameFor approvalFor named firstEntry entryPages startState startGuard zeroState present writable userBit noExecute frameOf kernelNoExecute approvedMark fieldsOf takenApart approvedNoExecute approved ordinaryNoExecute ordinary noExecuteIn switched stepOf step differs before runOver switchedAll changes firstNo stateInOrder sizesInRange countsInRange rising allBelow inOrder startQuestions syncAllQuestions syncPageQuestions fetchPermitted fetchQuestions writePermitted free everyTouched writeQuestions enterQuestions leavePermitted leaveQuestions deviceWriteQuestions replyOf settle startOf pageSynced syncPageOf allSynced syncAllOf fetchOf writeOf switchTo enterOf leaveOf deviceWriteOf withSynced withMoved withSwitched withReply answer policyExtent drillStart begun kindOf indexOf lengthOf valueOf withGuard edited callOf performed digits decimal line startLine turnOf turn hexDigit hexDigits entryLines countFrom share shareLine closing callLines drillOutput
+unfolding both either within pagesInRange framesInRange everyFrom tableFrom table member bit lastByte lastPage touched vectorBytes excludedIn flag byteOf vectorOf inUser running modeOf inMode numberAt numbersAt policyOf frameFor approvalFor named firstEntry entryPages startState startGuard zeroState present writable userBit noExecute frameOf kernelNoExecute approvedMark fieldsOf takenApart approvedNoExecute approved ordinaryNoExecute ordinary noExecuteIn switched stepOf step differs before runOver switchedAll changes firstNo stateInOrder sizesInRange countsInRange rising allBelow inOrder startQuestions syncAllQuestions syncPageQuestions fetchPermitted fetchQuestions writePermitted free everyTouched writeQuestions enterQuestions leavePermitted leaveQuestions deviceWriteQuestions replyOf settle startOf pageSynced syncPageOf allSynced syncAllOf fetchOf writeOf switchTo enterOf leaveOf deviceWriteOf withSynced withMoved withSwitched withReply answer policyExtent drillStart begun kindOf indexOf lengthOf valueOf withGuard edited callOf performed digits decimal line startLine turnOf turn hexDigit hexDigits entryLines countFrom share shareLine closing callLimit callLines drillOutput
 computed = tt

@@ -4,6 +4,8 @@ pub mod BitLaws
 pub mod TableLaws
 pub mod PolicyLaws
 mod Computed
+mod CaseLaws
+mod LimitLaws
 pub mod VectorLaws
 pub mod CallLaws
 pub mod TouchLaws

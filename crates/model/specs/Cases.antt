@@ -55,11 +55,15 @@ shadowStarted = 0 ∷ 0x2401 ∷ 0 ∷ 0 ∷ []
 unfoldable pub mapStarted : List ℕ
 mapStarted = 65535 ∷ 2 ∷ 65535 ∷ 65535 ∷ []
 
-pub record Case : Type 0 where
-  pub given : Outcome
-  pub fixed : Outcome
+-- A row: what the definitions give, and what the document fixes.
+pub record Row (A : Type 0) : Type 0 where
+  pub given : A
+  pub fixed : A
 
-unfoldable pub row : Outcome → Outcome → Case
+abbrev pub Case : Type 0
+Case = Row Outcome
+
+unfoldable pub row : {A : Type 0} → A → A → Row A
 row given fixed = record { given = given; fixed = fixed }
 
 unfoldable pub cases : List Case
@@ -111,7 +115,7 @@ cases =
     (record { reply = accepted 1 0; guard = holding (Kernel 1) (0 ∷ 0 ∷ 0 ∷ 0 ∷ []) mapStarted })
     ∷ []
 
--- Every row's outcome is the one that is fixed.
-abbrev pub Hold : List Case → Type 0
+-- Every row gives what is fixed.
+abbrev pub Hold : {A : Type 0} → List (Row A) → Type 0
 Hold [] = Unit {0}
 Hold (c ∷ cs) = (c .given ≡ c .fixed) × Hold cs

@@ -109,8 +109,9 @@ turnOf kind r =
 -- at most 16. Where nothing remains, the calls end with no line.
 unfoldable pub turn : Drill → List ℕ → Turn
 turn d [] = record { drill = d; line = []; goes = false }
-turn d (kind ∷ rest) =
-    let bytes : List ℕ = kind ∷ rest in
+turn d (first ∷ rest) =
+    let bytes : List ℕ = first ∷ rest in
+    let kind : ℕ = kindOf bytes in
     settle (firstNo (question 14 (eqb (length bytes) 16) ∷ question 15 (ltb kind 8) ∷ []))
     (turnOf kind (performed d kind (indexOf bytes) (lengthOf bytes) (valueOf bytes)))
     (λ n. record { drill = d; line = line 88 (refused n) (d .guard .state .mode); goes = false })
@@ -143,7 +144,11 @@ shareLine frames exclusion = (115 ∷ 104 ∷ 97 ∷ 114 ∷ 101 ∷ 32 ∷ deci
 unfoldable pub closing : Guard → List ℕ
 closing g = entryLines (g .shadow) ++ shareLine (g .state .frames) (g .exclusion)
 
--- "then at most 1,024 calls": the lines of at most so many calls, and the closing lines.
+-- "then at most 1,024 calls"
+unfoldable pub callLimit : ℕ
+callLimit = 1024
+
+-- The lines of at most so many calls, and the closing lines.
 unfoldable pub callLines : ℕ → Drill → List ℕ → List ℕ
 callLines zero d rest = closing (d .guard)
 callLines (suc calls) d rest =
@@ -155,5 +160,5 @@ callLines (suc calls) d rest =
 unfoldable pub drillOutput : List ℕ → List ℕ
 drillOutput input =
     let start : Outcome = drillStart (take (policyExtent input) input) in
-    let calls : List ℕ = callLines 1024 (begun (start .guard)) (drop (policyExtent input) input) in
+    let calls : List ℕ = callLines callLimit (begun (start .guard)) (drop (policyExtent input) input) in
     startLine start ++ settle (start .reply .number) calls (λ n. [])

@@ -7,7 +7,6 @@ use Rattle.model.specs.declared.State.{State}
 use Rattle.model.specs.declared.Mode.{Mode}
 use Rattle.model.specs.declared.Mode.the-variants.{Kernel, User}
 use Rattle.model.specs.Keeps.{Guard}
-use Rattle.model.specs.Policy.{zeroState}
 use Rattle.model.specs.Calls.{Reply, Outcome, accepted, refused, startOf}
 use Rattle.model.specs.Lists.{Call, syncPage, syncAll, fetch, write, enter, leave, deviceWrite, answer}
 use Rattle.model.specs.Cases.{Case, row}
@@ -16,16 +15,31 @@ use Rattle.model.specs.Cases.{Case, row}
 unfoldable pub twoEntries : List ℕ
 twoEntries = 6 ∷ 0 ∷ 8 ∷ 0 ∷ 3 ∷ 0 ∷ 2 ∷ 0 ∷ 1 ∷ 0 ∷ 2 ∷ 0 ∷ 4 ∷ 0 ∷ 5 ∷ 0 ∷ 3 ∷ 0 ∷ 5 ∷ 0 ∷ []
 
+-- V 3, F 9, n 3, e 1, pages 0, 1 and 2, frames 8, 0 and 8.
+unfoldable pub everyPage : List ℕ
+everyPage = 3 ∷ 0 ∷ 9 ∷ 0 ∷ 3 ∷ 0 ∷ 1 ∷ 0 ∷ 0 ∷ 0 ∷ 1 ∷ 0 ∷ 2 ∷ 0 ∷ 8 ∷ 0 ∷ 0 ∷ 0 ∷ 8 ∷ 0 ∷ []
+
 -- A start on tables of these lengths that hold ones.
 unfoldable pub startOn : List ℕ → ℕ → ℕ → ℕ → Outcome
 startOn bytes shadow map exclusion = startOf bytes (replicate shadow 1) (replicate map 1) (replicate exclusion 1)
+
+-- "answers a state of zeros in user mode on page 0", number by number.
+unfoldable pub zeros : State
+zeros =
+    record {
+      pages = 0;
+      frames = 0;
+      entries = 0;
+      entry = 0 ∷ 0 ∷ 0 ∷ 0 ∷ 0 ∷ 0 ∷ 0 ∷ 0 ∷ 0 ∷ 0 ∷ 0 ∷ 0 ∷ 0 ∷ 0 ∷ 0 ∷ 0 ∷ [];
+      mode = User 0;
+    }
 
 -- A refused start leaves those tables, and answers the state of zeros.
 unfoldable pub startRefused : ℕ → ℕ → ℕ → ℕ → Outcome
 startRefused number shadow map exclusion =
     record {
       reply = refused number;
-      guard = record { state = zeroState; shadow = replicate shadow 1; map = replicate map 1; exclusion = replicate exclusion 1 };
+      guard = record { state = zeros; shadow = replicate shadow 1; map = replicate map 1; exclusion = replicate exclusion 1 };
     }
 
 unfoldable pub sixPages : Mode → State
@@ -57,6 +71,21 @@ stays g call reply = row (answer g call) (record { reply = reply; guard = g })
 unfoldable pub inState : State → Guard
 inState s = record { state = s; shadow = shadow6; map = started6 .map; exclusion = 0x28 ∷ [] }
 
+-- A guard of so many pages, none present.
+unfoldable pub manyPages : ℕ → Guard
+manyPages pages =
+    record {
+      state = record { pages = pages; frames = 8; entries = 1; entry = replicate 16 0; mode = Kernel 0 };
+      shadow = replicate pages 0;
+      map = [];
+      exclusion = [];
+    }
+
+-- A guard of that policy in a mode, whose tables hold zeros and have these lengths.
+unfoldable pub lent : Mode → ℕ → ℕ → ℕ → Guard
+lent mode shadow map exclusion =
+    record { state = sixPages mode; shadow = replicate shadow 0; map = replicate map 0; exclusion = replicate exclusion 0 }
+
 -- A user page of frame 6 and a kernel page of frame 7, as they stand in each mode.
 unfoldable pub leaving : List ℕ
 leaving = set (set shadow6 5 0x8000000000006007) 3 0x8000000000007003
@@ -69,6 +98,18 @@ unfoldable pub startCases : List Case
 startCases =
     -- "two parallel arrays"; "frames, which may repeat"; "The first e pages are the entry pages"
     row (startOn twoEntries 6 6 1) (record { reply = accepted 3 2; guard = started6 })
+    -- Page 0 first, every page listed up to V - 1, frame F - 1, and a vector of two bytes.
+    ∷ row (startOn everyPage 3 3 2)
+    (record {
+      reply = accepted 3 1;
+      guard =
+          record {
+            state = record { pages = 3; frames = 9; entries = 1; entry = replicate 16 0; mode = Kernel 0 };
+            shadow = 0x8401 ∷ 0x401 ∷ 0x8401 ∷ [];
+            map = 8 ∷ 0 ∷ 8 ∷ [];
+            exclusion = 1 ∷ 1 ∷ [];
+          };
+    })
     -- 1 to 7, each with all before it yes
     ∷ row (startOn (6 ∷ 0 ∷ 8 ∷ 0 ∷ 3 ∷ 0 ∷ 2 ∷ []) 6 6 1) (startRefused 1 6 6 1)
     ∷ row (startOn (set twoEntries 1 8) 6 6 1) (startRefused 2 6 6 1)
@@ -80,8 +121,22 @@ startCases =
     ∷ row (startOn (set (set twoEntries 12 6) 14 8) 6 6 1) (startRefused 5 6 6 1)
     ∷ row (startOn (set twoEntries 14 8) 6 6 1) (startRefused 6 6 6 1)
     ∷ row (startOn twoEntries 5 6 1) (startRefused 7 5 6 1)
+    ∷ row (startOn twoEntries 7 6 1) (startRefused 7 7 6 1)
+    ∷ row (startOn twoEntries 6 5 1) (startRefused 7 6 5 1)
     ∷ row (startOn twoEntries 6 7 1) (startRefused 7 6 7 1)
+    ∷ row (startOn twoEntries 6 6 0) (startRefused 7 6 6 0)
     ∷ row (startOn twoEntries 6 6 2) (startRefused 7 6 6 2)
+    -- The ends of the ranges: V 0 and 2,049, F 4,097; V 2,048 and F 4,096 go on to 3, with n 0
+    ∷ row (startOn (set twoEntries 0 0) 6 6 1) (startRefused 2 6 6 1)
+    ∷ row (startOn (1 ∷ 8 ∷ 8 ∷ 0 ∷ 0 ∷ 0 ∷ 0 ∷ 0 ∷ []) 6 6 1) (startRefused 2 6 6 1)
+    ∷ row (startOn (6 ∷ 0 ∷ 1 ∷ 16 ∷ 0 ∷ 0 ∷ 0 ∷ 0 ∷ []) 6 6 1) (startRefused 2 6 6 1)
+    ∷ row (startOn (0 ∷ 8 ∷ 0 ∷ 16 ∷ 0 ∷ 0 ∷ 0 ∷ 0 ∷ []) 6 6 1) (startRefused 3 6 6 1)
+    -- n V and e n go on to 4, e 0 does not; e 16 of 17 goes on to 4, e 17 does not
+    ∷ row (startOn (set twoEntries 4 6) 6 6 1) (startRefused 4 6 6 1)
+    ∷ row (startOn (set (set twoEntries 4 2) 6 2) 6 6 1) (startRefused 4 6 6 1)
+    ∷ row (startOn (set twoEntries 6 0) 6 6 1) (startRefused 3 6 6 1)
+    ∷ row (startOn (17 ∷ 0 ∷ 8 ∷ 0 ∷ 17 ∷ 0 ∷ 16 ∷ 0 ∷ []) 6 6 1) (startRefused 4 6 6 1)
+    ∷ row (startOn (17 ∷ 0 ∷ 8 ∷ 0 ∷ 17 ∷ 0 ∷ 17 ∷ 0 ∷ []) 6 6 1) (startRefused 3 6 6 1)
     ∷ []
 
 unfoldable pub syncCases : List Case
@@ -107,6 +162,42 @@ syncCases =
     ∷ stays (inState (record { pages = 6; frames = 8; entries = 17; entry = replicate 16 0; mode = Kernel 1 })) (fetch 1) (refused 7)
     ∷ stays (inState (record { pages = 6; frames = 8; entries = 2; entry = replicate 16 0; mode = Kernel 6 })) (fetch 1) (refused 7)
     ∷ stays (inState (record { pages = 5; frames = 8; entries = 2; entry = replicate 16 0; mode = Kernel 1 })) (fetch 1) (refused 7)
+    ∷ stays (inState (record { pages = 6; frames = 0; entries = 2; entry = replicate 16 0; mode = Kernel 1 })) (fetch 1) (refused 7)
+    ∷ stays (manyPages 2049) (fetch 0) (refused 7)
+    ∷ stays (manyPages 2048) (fetch 0) (refused 11)
+    -- e 1 and 16, the running page V - 1 and F 4,096 are in order; e is not compared with V, and what an entry page holds is not asked
+    ∷ stays (inState (record { pages = 6; frames = 4096; entries = 16; entry = replicate 16 9; mode = User 5 })) (fetch 0) (refused 11)
+    ∷ stays (inState (record { pages = 6; frames = 1; entries = 1; entry = replicate 16 9; mode = Kernel 5 })) (fetch 0) (refused 11)
+    ∷ []
+
+-- Question 7 of each call: the state, whose running page is V, and each table that the call is lent, alone. The others may have any length.
+unfoldable pub orderCases : List Case
+orderCases =
+    stays (with6 (Kernel 6) shadow6) (syncPage (replicate 6 0) 0) (refused 7)
+    ∷ stays (with6 (Kernel 6) shadow6) (syncAll (replicate 6 0)) (refused 7)
+    ∷ stays (with6 (Kernel 6) shadow6) (write 0 1) (refused 7)
+    ∷ stays (with6 (User 6) left6) (enter 0) (refused 7)
+    ∷ stays (with6 (Kernel 6) leaving) (leave 5) (refused 7)
+    ∷ stays (with6 (Kernel 6) shadow6) (deviceWrite 0 1) (refused 7)
+    ∷ stays (lent (Kernel 1) 6 6 1) (syncPage (replicate 5 0) 0) (refused 7)
+    ∷ stays (lent (Kernel 1) 7 6 1) (syncPage (replicate 6 0) 0) (refused 7)
+    ∷ stays (lent (Kernel 1) 6 7 1) (syncPage (replicate 6 0) 0) (refused 7)
+    ∷ stays (lent (Kernel 1) 6 6 2) (syncPage (replicate 6 0) 0) (refused 7)
+    ∷ stays (lent (Kernel 1) 6 6 1) (syncAll (replicate 7 0)) (refused 7)
+    ∷ stays (lent (Kernel 1) 5 6 1) (syncAll (replicate 6 0)) (refused 7)
+    ∷ stays (lent (Kernel 1) 6 5 1) (syncAll (replicate 6 0)) (refused 7)
+    ∷ stays (lent (Kernel 1) 6 6 0) (syncAll (replicate 6 0)) (refused 7)
+    ∷ stays (lent (Kernel 1) 7 0 0) (fetch 0) (refused 7)
+    ∷ stays (lent (Kernel 1) 6 0 0) (fetch 0) (refused 11)
+    ∷ stays (lent (Kernel 1) 5 6 1) (write 0 1) (refused 7)
+    ∷ stays (lent (Kernel 1) 6 6 0) (write 0 1) (refused 7)
+    ∷ stays (lent (Kernel 1) 6 0 1) (write 0 1) (refused 11)
+    ∷ stays (lent (User 1) 7 0 0) (enter 0) (refused 7)
+    ∷ stays (lent (User 1) 6 0 0) (enter 0) (refused 11)
+    ∷ stays (lent (Kernel 1) 7 0 0) (leave 0) (refused 7)
+    ∷ stays (lent (Kernel 1) 6 0 0) (leave 0) (refused 11)
+    ∷ stays (lent (Kernel 1) 0 0 2) (deviceWrite 0 1) (refused 7)
+    ∷ stays (lent (Kernel 1) 0 0 1) (deviceWrite 0 1) (accepted 0 0)
     ∷ []
 
 unfoldable pub accessCases : List Case
@@ -153,6 +244,8 @@ switchCases =
     ∷ row (answer (with6 (User 5) left6) (enter 1)) (record { reply = accepted 4 0; guard = with6 (Kernel 2) leaving })
     ∷ stays (with6 (User 5) left6) (enter 2) (refused 9)
     ∷ stays started6 (enter 2) (refused 9)
+    -- "entry index below e with its page below V"
+    ∷ stays (inState (record { pages = 6; frames = 8; entries = 1; entry = 6 ∷ replicate 15 0; mode = User 1 })) (enter 0) (refused 9)
     ∷ stays started6 (enter 0) (refused 10)
     ∷ stays (with6 (User 5) (set left6 2 0x3400)) (enter 1) (refused 11)
     ∷ stays (with6 (User 5) (set left6 2 0x8000000000003001)) (enter 1) (refused 12)

@@ -10,6 +10,8 @@ pub mod Lists
 pub mod OnePage
 pub mod Claim
 pub mod Drill
-pub mod Worked
 pub mod Cases
 pub mod Further
+pub mod Orders
+pub mod Worked
+pub mod DrillCases

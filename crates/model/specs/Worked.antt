@@ -1,7 +1,20 @@
 -- Document 01, "The drill program", the worked example: its input and every byte of its output.
 use Prim.Native.Nat.{ℕ}
+use Prim.Native.Char.{code}
+use Prim.Native.String.{String}
+use Prim.Native.String as Text
 use mathlib.Core.List.{List, [], _∷_, _++_}
 use Rattle.model.specs.Cases.{policyBytes}
+
+-- The bytes of a text that is written in ASCII.
+unfoldable pub bytesOf : String → List ℕ
+bytesOf Text.[] = []
+bytesOf (Text._∷_ c text) = code c ∷ bytesOf text
+
+-- The bytes of whole lines: 10 ends a line.
+unfoldable pub linesOf : List String → List ℕ
+linesOf [] = []
+linesOf (text ∷ texts) = bytesOf text ++ (10 ∷ linesOf texts)
 
 -- "Policy V 4, F 4, n 1, e 1, page 1, frame 2. Calls: edit 0 to 0x2003; synchronise 0; write 1 byte at 0; edit 3 to 0x3007; synchronise 3;
 -- leave to 3; device write 1 byte at 8192."
@@ -25,29 +38,18 @@ workedInput =
 
 unfoldable pub workedOutput : List ℕ
 workedOutput =
-    -- S 0 1 1 K 1
-    (83 ∷ 32 ∷ 48 ∷ 32 ∷ 49 ∷ 32 ∷ 49 ∷ 32 ∷ 75 ∷ 32 ∷ 49 ∷ 10 ∷ [])
-    -- 0 0 0 0 K 1
-    ++ (48 ∷ 32 ∷ 48 ∷ 32 ∷ 48 ∷ 32 ∷ 48 ∷ 32 ∷ 75 ∷ 32 ∷ 49 ∷ 10 ∷ [])
-    -- 1 0 1 1 K 1
-    ++ (49 ∷ 32 ∷ 48 ∷ 32 ∷ 49 ∷ 32 ∷ 49 ∷ 32 ∷ 75 ∷ 32 ∷ 49 ∷ 10 ∷ [])
-    -- 4 12 0 0 K 1
-    ++ (52 ∷ 32 ∷ 49 ∷ 50 ∷ 32 ∷ 48 ∷ 32 ∷ 48 ∷ 32 ∷ 75 ∷ 32 ∷ 49 ∷ 10 ∷ [])
-    -- 0 0 0 0 K 1
-    ++ (48 ∷ 32 ∷ 48 ∷ 32 ∷ 48 ∷ 32 ∷ 48 ∷ 32 ∷ 75 ∷ 32 ∷ 49 ∷ 10 ∷ [])
-    -- 1 0 1 0 K 1
-    ++ (49 ∷ 32 ∷ 48 ∷ 32 ∷ 49 ∷ 32 ∷ 48 ∷ 32 ∷ 75 ∷ 32 ∷ 49 ∷ 10 ∷ [])
-    -- 6 0 3 0 U 3
-    ++ (54 ∷ 32 ∷ 48 ∷ 32 ∷ 51 ∷ 32 ∷ 48 ∷ 32 ∷ 85 ∷ 32 ∷ 51 ∷ 10 ∷ [])
-    -- 7 13 0 0 U 3
-    ++ (55 ∷ 32 ∷ 49 ∷ 51 ∷ 32 ∷ 48 ∷ 32 ∷ 48 ∷ 32 ∷ 85 ∷ 32 ∷ 51 ∷ 10 ∷ [])
-    -- 8000000000002401
-    ++ (56 ∷ 48 ∷ 48 ∷ 48 ∷ 48 ∷ 48 ∷ 48 ∷ 48 ∷ 48 ∷ 48 ∷ 48 ∷ 48 ∷ 50 ∷ 52 ∷ 48 ∷ 49 ∷ 10 ∷ [])
-    -- 8000000000002401
-    ++ (56 ∷ 48 ∷ 48 ∷ 48 ∷ 48 ∷ 48 ∷ 48 ∷ 48 ∷ 48 ∷ 48 ∷ 48 ∷ 48 ∷ 50 ∷ 52 ∷ 48 ∷ 49 ∷ 10 ∷ [])
-    -- 0000000000000000
-    ++ (48 ∷ 48 ∷ 48 ∷ 48 ∷ 48 ∷ 48 ∷ 48 ∷ 48 ∷ 48 ∷ 48 ∷ 48 ∷ 48 ∷ 48 ∷ 48 ∷ 48 ∷ 48 ∷ 10 ∷ [])
-    -- 0000000000003007
-    ++ (48 ∷ 48 ∷ 48 ∷ 48 ∷ 48 ∷ 48 ∷ 48 ∷ 48 ∷ 48 ∷ 48 ∷ 48 ∷ 48 ∷ 51 ∷ 48 ∷ 48 ∷ 55 ∷ 10 ∷ [])
-    -- share 25
-    ++ (115 ∷ 104 ∷ 97 ∷ 114 ∷ 101 ∷ 32 ∷ 50 ∷ 53 ∷ 10 ∷ [])
+    linesOf
+    ("S 0 1 1 K 1"
+    ∷ "0 0 0 0 K 1"
+    ∷ "1 0 1 1 K 1"
+    ∷ "4 12 0 0 K 1"
+    ∷ "0 0 0 0 K 1"
+    ∷ "1 0 1 0 K 1"
+    ∷ "6 0 3 0 U 3"
+    ∷ "7 13 0 0 U 3"
+    ∷ "8000000000002401"
+    ∷ "8000000000002401"
+    ∷ "0000000000000000"
+    ∷ "0000000000003007"
+    ∷ "share 25"
+    ∷ [])

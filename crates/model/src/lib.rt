@@ -6,7 +6,9 @@ ghost use mathlib.Core.List.{_++_};
 ghost use Rattle.model.specs.Cases.{cases, Hold};
 ghost use Rattle.model.specs.Claim.{Claim};
 ghost use Rattle.model.specs.Drill.{drillOutput};
-ghost use Rattle.model.specs.Further.{startCases, syncCases, accessCases, switchCases};
+ghost use Rattle.model.specs.DrillCases.{drillCases, Limit};
+ghost use Rattle.model.specs.Further.{startCases, syncCases, orderCases, accessCases, switchCases};
+ghost use Rattle.model.specs.Orders.{startOrder, callOrder};
 ghost use Rattle.model.specs.Worked.{workedInput, workedOutput};
 
 // Document 01, "What the guard keeps": the mode, kernel or user, together with the page now running.
@@ -62,12 +64,27 @@ pub fn twelve_cases()
 
 // Cases beside the twelve: the calls and refusals that those do not make.
 pub fn further_cases()
-    ensures { λ _. ⌜ Hold (startCases ++ syncCases ++ accessCases ++ switchCases) ⌝ }
+    ensures { λ _. ⌜ Hold (startCases ++ syncCases ++ orderCases ++ accessCases ++ switchCases) ⌝ }
+{}
+
+// The order of each call's questions, by inputs that fail several of them.
+pub fn order_of_questions()
+    ensures { λ _. ⌜ Hold (startOrder ++ callOrder) ⌝ }
 {}
 
 // Document 01, the worked example: every byte of its output follows from the drill's definitions.
 pub fn worked_example()
     ensures { λ _. ⌜ drillOutput workedInput ≡ workedOutput ⌝ }
+{}
+
+// The drill beside the worked example: its output on small inputs, a call's fields, its numbers.
+pub fn drill_cases()
+    ensures { λ _. ⌜ Hold drillCases ⌝ }
+{}
+
+// The drill makes 1,024 calls and no more.
+pub fn limit_of_calls()
+    ensures { λ _. ⌜ Limit ⌝ }
 {}
 
 // Demand 3: one claim about every list of calls after an accepted start.

@@ -2,12 +2,13 @@
 use mathlib.Core.Path.{refl}
 use Rattle.model.specs.Cases.{policyBytes, theStart, started, startedUser, only, startedWritable, stateIn, holding, shadowStarted, mapStarted, row, cases}
 use Rattle.model.proofs.Computed.{computed}
+use Rattle.model.proofs.CaseLaws.{hold}
 use Rattle.model.proofs.twelve_cases.Statement.{statement}
 use Rattle.model.proofs.twelve_cases.Tie as tie
 
 returns : tie.Need-returns
 unfolding computed policyBytes theStart started startedUser only startedWritable stateIn holding shadowStarted mapStarted row cases
-returns c = (refl, (refl, (refl, (refl, (refl, (refl, (refl, (refl, (refl, (refl, (refl, (refl, (refl, (refl, (refl, (refl, (refl, tt)))))))))))))))))
+returns c = hold cases refl
 
 pub twelve-cases-spec : {M : Type 1} → statement M
 twelve-cases-spec = tie.close (tie.spec returns)

@@ -1,0 +1,16 @@
+-- The drill's cases: each row computes to what is fixed.
+use mathlib.Core.Path.{refl}
+use Rattle.model.specs.Cases.{row, policyBytes}
+use Rattle.model.specs.Worked.{bytesOf, linesOf}
+use Rattle.model.specs.DrillCases.{littleEndian, callBytes, threePages, ninePages, everyKind, sixteen, extentOf, drillCases}
+use Rattle.model.proofs.Computed.{computed}
+use Rattle.model.proofs.CaseLaws.{hold}
+use Rattle.model.proofs.drill_cases.Statement.{statement}
+use Rattle.model.proofs.drill_cases.Tie as tie
+
+returns : tie.Need-returns
+unfolding computed row policyBytes bytesOf linesOf littleEndian callBytes threePages ninePages everyKind sixteen extentOf drillCases
+returns c = hold drillCases refl
+
+pub drill-cases-spec : {M : Type 1} → statement M
+drill-cases-spec = tie.close (tie.spec returns)

@@ -1,0 +1,118 @@
+-- Document 01, "The drill program": small inputs with every byte that the drill writes, on policies whose V is not their F; a call's fields and
+-- the drill's numbers by themselves; and the limit of calls.
+use Prim.Native.Nat.{ℕ, zero, suc, _+_, _/_, _%_}
+use mathlib.Core.List.{List, [], _∷_, _++_}
+use mathlib.Core.Path.{_≡_}
+use lib.ListN.{replicate}
+use Rattle.model.specs.Cases.{Row, row, policyBytes}
+use Rattle.model.specs.Drill.{policyExtent, kindOf, indexOf, lengthOf, valueOf, decimal, entryLines, shareLine, drillOutput}
+use Rattle.model.specs.Worked.{bytesOf, linesOf}
+
+-- So many bytes of a number, the lowest first.
+unfoldable pub littleEndian : ℕ → ℕ → List ℕ
+littleEndian zero n = []
+littleEndian (suc bytes) n = n % 256 ∷ littleEndian bytes (n / 256)
+
+-- The 16 bytes of a call of this kind, index, length and value. Byte 1, which is ignored, is 255.
+unfoldable pub callBytes : ℕ → ℕ → ℕ → ℕ → List ℕ
+callBytes kind index length value = (kind ∷ 255 ∷ littleEndian 2 index) ++ littleEndian 4 length ++ littleEndian 8 value
+
+-- V 3, F 9, n 1, e 1, page 1, frame 8.
+unfoldable pub threePages : List ℕ
+threePages = 3 ∷ 0 ∷ 9 ∷ 0 ∷ 1 ∷ 0 ∷ 1 ∷ 0 ∷ 1 ∷ 0 ∷ 8 ∷ 0 ∷ []
+
+-- V 9, F 3, n 1, e 1, page 8, frame 2.
+unfoldable pub ninePages : List ℕ
+ninePages = 9 ∷ 0 ∷ 3 ∷ 0 ∷ 1 ∷ 0 ∷ 1 ∷ 0 ∷ 8 ∷ 0 ∷ 2 ∷ 0 ∷ []
+
+-- Every kind once, an edit past the last page, and one byte of an unknown kind as the last call.
+unfoldable pub everyKind : List ℕ
+everyKind =
+    threePages
+    ++ callBytes 0 0 0 0x4007
+    ++ callBytes 2 0 0 0
+    ++ callBytes 0 3 0 0x4007
+    ++ callBytes 3 0 0 0
+    ++ callBytes 4 0 2 1
+    ++ callBytes 6 0 0 0
+    ++ callBytes 5 0 0 0
+    ++ callBytes 7 0 4096 28672
+    ++ callBytes 1 1 0 0
+    ++ (9 ∷ [])
+
+-- A call of the bytes 16 to 31, and the policy's extent where n is this.
+unfoldable pub sixteen : List ℕ
+sixteen = 16 ∷ 17 ∷ 18 ∷ 19 ∷ 20 ∷ 21 ∷ 22 ∷ 23 ∷ 24 ∷ 25 ∷ 26 ∷ 27 ∷ 28 ∷ 29 ∷ 30 ∷ 31 ∷ []
+
+unfoldable pub extentOf : ℕ → ℕ
+extentOf count = policyExtent (replicate 4 0 ++ littleEndian 2 count ++ replicate 2 0)
+
+unfoldable pub drillCases : List (Row (List ℕ))
+drillCases =
+    row (drillOutput everyKind)
+    (linesOf
+    ("S 0 1 1 K 1"
+    ∷ "0 0 0 0 K 1"
+    ∷ "2 0 2 0 K 1"
+    ∷ "0 9 0 0 K 1"
+    ∷ "3 12 0 0 K 1"
+    ∷ "4 0 4 4 K 1"
+    ∷ "6 0 1 0 U 0"
+    ∷ "5 11 0 0 U 0"
+    ∷ "7 0 7 7 U 0"
+    ∷ "1 0 0 0 U 0"
+    ∷ "X 14 0 0 U 0"
+    ∷ "0000000000004007"
+    ∷ "0000000000000000"
+    ∷ "0000000000000000"
+    ∷ "share 11"
+    ∷ []))
+    -- More pages than frames; an unknown kind ends the calls, and the call after it is not made.
+    ∷ row (drillOutput (ninePages ++ callBytes 0 8 0 0x1003 ++ callBytes 2 0 0 0 ++ callBytes 8 0 0 0 ++ callBytes 3 8 0 0))
+    (linesOf
+    ("S 0 1 1 K 8"
+    ∷ "0 0 0 0 K 8"
+    ∷ "2 0 0 0 K 8"
+    ∷ "X 15 0 0 K 8"
+    ∷ replicate 8 "0000000000000000"
+    ++ ("0000000000002401" ∷ "share 33" ∷ [])))
+    -- 15 of a call's 16 bytes, and no call at all
+    ∷ row (drillOutput (policyBytes ++ replicate 15 0))
+    (linesOf
+    ("S 0 1 1 K 1"
+    ∷ "X 14 0 0 K 1"
+    ∷ "0000000000000000"
+    ∷ "0000000000002401"
+    ∷ "0000000000000000"
+    ∷ "0000000000000000"
+    ∷ "share 25"
+    ∷ []))
+    ∷ row (drillOutput (1 ∷ 0 ∷ 1 ∷ 0 ∷ 1 ∷ 0 ∷ 1 ∷ 0 ∷ 0 ∷ 0 ∷ 0 ∷ 0 ∷ [])) (linesOf ("S 0 1 1 K 0" ∷ "0000000000000401" ∷ "share 100" ∷ []))
+    -- "A refused start prints its line alone": V 0, and calls follow; a record cut short; no byte at all
+    ∷ row (drillOutput ((0 ∷ 0 ∷ 9 ∷ 0 ∷ 1 ∷ 0 ∷ 1 ∷ 0 ∷ 1 ∷ 0 ∷ 8 ∷ 0 ∷ []) ++ callBytes 3 1 0 0)) (linesOf ("S 2 0 0 U 0" ∷ []))
+    ∷ row (drillOutput (3 ∷ 0 ∷ 9 ∷ 0 ∷ 1 ∷ 0 ∷ 1 ∷ 0 ∷ 1 ∷ 0 ∷ 8 ∷ [])) (linesOf ("S 4 0 0 U 0" ∷ []))
+    ∷ row (drillOutput []) (linesOf ("S 1 0 0 U 0" ∷ []))
+    -- "byte 0 kind, byte 1 ignored, 2 to 3 index, 4 to 7 length, 8 to 15 value", of the bytes 16 to 31
+    ∷ row (kindOf sixteen ∷ indexOf sixteen ∷ lengthOf sixteen ∷ valueOf sixteen ∷ [])
+    (0x10 ∷ 0x1312 ∷ 0x17161514 ∷ 0x1f1e1d1c1b1a1918 ∷ [])
+    -- "8 bytes, and 4 × n more if n is 1 to 2,048": n 0, 1, 2,048 and 2,049
+    ∷ row (extentOf 0 ∷ extentOf 1 ∷ extentOf 2048 ∷ extentOf 2049 ∷ []) (8 ∷ 12 ∷ 8200 ∷ 8 ∷ [])
+    -- Decimal numbers, hexadecimal digits, and the share, rounded down: 2 of 3 frames
+    ∷ row (decimal 0 ++ decimal 10 ++ decimal 18446744073709551615) (bytesOf "01018446744073709551615")
+    ∷ row (entryLines (0xfedcba9876543210 ∷ 0xf ∷ [])) (linesOf ("fedcba9876543210" ∷ "000000000000000f" ∷ []))
+    ∷ row (shareLine 3 (5 ∷ [])) (linesOf ("share 66" ∷ []))
+    ∷ []
+
+-- A list so many times over.
+unfoldable pub times : ℕ → List ℕ → List ℕ
+times zero xs = []
+times (suc n) xs = xs ++ times n xs
+
+-- "then at most 1,024 calls": on the worked example's policy 1,024 refused edits have a line each, and whatever follows them is not read.
+abbrev pub Limit : Type 0
+Limit =
+    (rest : List ℕ) →
+    drillOutput (policyBytes ++ (times 1024 (callBytes 0 4 0 0) ++ rest))
+    ≡ linesOf ("S 0 1 1 K 1" ∷ [])
+    ++ (times 1024 (linesOf ("0 9 0 0 K 1" ∷ []))
+    ++ linesOf ("0000000000000000" ∷ "0000000000002401" ∷ "0000000000000000" ∷ "0000000000000000" ∷ "share 25" ∷ []))
