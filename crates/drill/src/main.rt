@@ -44,7 +44,7 @@ fn take_turn(
     turned
 }
 
-// At most 1,024 calls.
+// As many calls as there are, and no more than the limit.
 fn take_turns(
     first: State,
     kernel: &mut [u64],
@@ -53,15 +53,12 @@ fn take_turns(
     exclusion: &[u8],
 ) {
     let mut s = first;
-    let mut left: u16 = 1024;
-    while 0 < left {
+    let mut left = turns::call_limit();
+    while turns::goes_on(left) {
         let turned = take_turn(s, kernel, shadow, map, exclusion);
-        if !turned.goes {
-            return;
-        }
         let next = turned.state;
         s = next;
-        left -= 1;
+        left = turns::left_after(left, turned.goes);
     }
 }
 

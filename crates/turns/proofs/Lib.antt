@@ -1,3 +1,3 @@
--- Laws that the proofs of several functions cite.
-mod TurnLaws
+-- Laws that the proofs of several functions cite, those of the drill's program among them.
+pub mod TurnLaws
 mod CallLaws

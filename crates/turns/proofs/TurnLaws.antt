@@ -1,5 +1,5 @@
 -- Laws of the drill's definitions over plain numbers and lists: the policy's extent, the tables lent, a call's fields, an edit, a turn.
-use Prim.Native.Nat.{ℕ, _+_, _*_, _^_, _≤_, _<_}
+use Prim.Native.Nat.{ℕ, _+_, _-_, _*_, _^_, _≤_, _<_}
 use mathlib.Core.Bool.{Bool, true, false, not}
 use mathlib.Core.List.{List, [], _∷_}
 use mathlib.Core.Path.{_≡_, refl, sym, _∙_}
@@ -7,7 +7,7 @@ use lib.Dec.{ltb, eqb}
 use lib.ListN.{length, getD, set}
 use lib.Seq.{set-out}
 use native.Mathlib.Omega.{arith}
-use borrow.Author.Tests.{not-true, not-false, eq-eqb, ne-eqb, lt-ltb, le-ltb}
+use borrow.Author.Tests.{not-true, not-false, eq-eqb, ne-eqb, lt-ltb, le-ltb, ltb-true}
 use Rattle.model.specs.declared.State.{State}
 use Rattle.model.specs.declared.Answer.{Answer}
 use Rattle.model.specs.declared.Answer.the-variants.{Done, Refused}
@@ -20,10 +20,10 @@ use Rattle.model.specs.Policy.{policyOf, numberAt}
 use Rattle.model.specs.Questions.{firstNo}
 use Rattle.model.specs.Calls.{Outcome, refused, replyOf, outcomeBy, settle}
 use Rattle.model.specs.Lists.{answer}
-use Rattle.model.specs.Drill.{policyExtent, indexOf, lengthOf, valueOf, edited, callOf, withGuard, performed, line, startLine, turnOf, turn}
+use Rattle.model.specs.Drill.{policyExtent, kindOf, indexOf, lengthOf, valueOf, edited, callOf, withGuard, performed, line, startLine, turnOf, turn}
 use Rattle.model.proofs.QuestionLaws.{within-high}
 use Rattle.turns.specs.declared.Turned.{Turned}
-use Rattle.turns.specs.Turns.{guardOf, drillOf, editedBy, performedBy, turnedBy, openingOf, openedBy, pagesLent, bytesLent}
+use Rattle.turns.specs.Turns.{guardOf, drillOf, editedBy, performedBy, turnedBy, openingOf, openedBy, pagesLent, bytesLent, goesOn, leftAfter}
 
 -- The policy's extent, with n in its range and outside.
 pub extent-more : {count : ℕ} {t : Bool} (input : List ℕ) → count ≡ numberAt input 4 → t ≡ within 1 2048 count → t ≡ true → 8 + 4 * count ≡ policyExtent input
@@ -74,6 +74,26 @@ pub opening-is : (r : Called) (l : Line) (b : Bool) (o : Outcome) (shadow map ex
     → openedBy (record { state = r .state; line = l; goes = b }) shadow map exclusion ≡ openingOf o
 unfolding openedBy openingOf outcomeBy startLine
 opening-is r l b o shadow map exclusion e f g = rw (← e, f, g)
+
+-- The calls left after one: none where none was left, one less, and none where it ended the calls.
+pub left-none : (left : ℕ) (goes : Bool) → left ≡ 0 → left ≡ leftAfter left goes
+unfolding leftAfter
+left-none left false p = p
+left-none left true p = omega arith
+
+pub left-one-less : (left : ℕ) (goes : Bool) → goes ≡ true → left - 1 ≡ leftAfter left goes
+unfolding leftAfter
+left-one-less left goes e = rw e
+
+pub left-ended : (left : ℕ) (goes : Bool) → goes ≡ false → 0 ≡ leftAfter left goes
+unfolding leftAfter
+left-ended left goes e = rw e
+
+-- A loop that goes on has fewer calls left after the next.
+pub left-falls : (left after : ℕ) (goes on : Bool) → on ≡ goesOn left → on ≡ true → after ≡ leftAfter left goes → after < left
+unfolding goesOn leftAfter
+left-falls left after true on e p h = let q : 0 < left = ltb-true 0 left (sym e ∙ p) in omega arith
+left-falls left after false on e p h = let q : 0 < left = ltb-true 0 left (sym e ∙ p) in omega arith
 
 -- A call's fields by their 16-bit numbers.
 pub length-is : {low high r : ℕ} (call : List ℕ) → low ≡ numberAt call 4 → high ≡ numberAt call 6 → r ≡ low + 2 ^ 16 * high → r ≡ lengthOf call
@@ -126,14 +146,14 @@ module _ (s : State) (kernel shadow map exclusion : List ℕ) where
   pub turn-cut : (call : List ℕ) (r : Turned) → (length call ≡ 0 → ⊥) → (length call ≡ 16 → ⊥) → r .state ≡ s
       → text (r .line) ≡ line 88 (refused 14) (s .mode) → r .goes ≡ false
       → turnedBy r kernel shadow map exclusion ≡ turn (drillOf (guardOf s shadow map exclusion) kernel) call
-  unfolding turn turnedBy firstNo settle
+  unfolding turn turnedBy kindOf firstNo settle
   turn-cut [] r p q e f g = absurd (p refl)
   turn-cut (kind ∷ rest) r p q e f g = rw (e, f, g, ne-eqb (length (kind ∷ rest)) 16 q)
 
   pub turn-unknown : (call : List ℕ) (r : Turned) → (length call ≡ 0 → ⊥) → length call ≡ 16 → 7 < getD call 0 0 → r .state ≡ s
       → text (r .line) ≡ line 88 (refused 15) (s .mode) → r .goes ≡ false
       → turnedBy r kernel shadow map exclusion ≡ turn (drillOf (guardOf s shadow map exclusion) kernel) call
-  unfolding turn turnedBy firstNo settle
+  unfolding turn turnedBy kindOf firstNo settle
   turn-unknown [] r p q h e f g = absurd (p refl)
   turn-unknown (kind ∷ rest) r p q h e f g = rw (e, f, g, eq-eqb (length (kind ∷ rest)) 16 q, le-ltb kind 8 h)
 
@@ -143,7 +163,7 @@ module _ (s : State) (kernel shadow map exclusion : List ℕ) where
       → text l ≡ line (48 + getD call 0 0) (replyOf (r .answer)) (r .state .mode)
       → turnedBy (record { state = r .state; line = l; goes = true }) kernel′ shadow′ map′ exclusion
       ≡ turn (drillOf (guardOf s shadow map exclusion) kernel) call
-  unfolding turn turnedBy turnOf performedBy firstNo settle
+  unfolding turn turnedBy kindOf turnOf performedBy firstNo settle
   turn-made [] r l kernel′ shadow′ map′ index size value p q h a b c d f = absurd (p refl)
   turn-made (kind ∷ rest) r l kernel′ shadow′ map′ index size value p q h a b c d f =
       rw (eq-eqb (length (kind ∷ rest)) 16 q, lt-ltb kind 8 (let k : kind < 8 = omega arith in k), ← a, ← b, ← c, ← d, f)

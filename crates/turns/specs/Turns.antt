@@ -1,10 +1,10 @@
 -- The drill made of a state and the tables, and what the functions of the drill leave, as records of the model.
-use Prim.Native.Nat.{ℕ}
+use Prim.Native.Nat.{ℕ, _-_}
 use mathlib.Core.Bool.{Bool, true, cond}
-use mathlib.Core.List.{List}
+use mathlib.Core.List.{List, _++_}
 use mathlib.Core.Path.{_≡_}
-use lib.Dec.{eqb}
-use lib.ListN.{replicate}
+use lib.Dec.{ltb, eqb}
+use lib.ListN.{take, drop, replicate}
 use Rattle.model.specs.declared.State.{State}
 use Rattle.model.specs.declared.Answer.{Answer}
 use Rattle.model.specs.declared.Called.{Called}
@@ -12,7 +12,7 @@ use Rattle.model.specs.Edges.{pagesInRange, framesInRange}
 use Rattle.model.specs.Keeps.{Guard, vectorBytes}
 use Rattle.model.specs.Policy.{policyOf}
 use Rattle.model.specs.Calls.{Outcome, replyOf, startOf}
-use Rattle.model.specs.Drill.{Drill, Drilled, Turn, drillStart, startLine}
+use Rattle.model.specs.Drill.{Drill, Drilled, Turn, drillStart, startLine, turn, closing, callLines}
 use Rattle.lines.specs.Text.{text}
 use Rattle.turns.specs.declared.Turned.{Turned}
 
@@ -66,3 +66,19 @@ OpensAsDefined =
     (openingOf (lentStart record′) .line ≡ openingOf (drillStart record′) .line)
     × (openingOf (lentStart record′) .goes ≡ openingOf (drillStart record′) .goes)
     × (openingOf (lentStart record′) .goes ≡ true → openingOf (lentStart record′) .guard ≡ openingOf (drillStart record′) .guard)
+
+-- Whether a call is made where so many are left, and how many are left after it: none where it ended the calls.
+unfoldable pub goesOn : ℕ → Bool
+goesOn left = ltb 0 left
+
+unfoldable pub leftAfter : ℕ → Bool → ℕ
+leftAfter left goes = cond goes (left - 1) 0
+
+-- A loop that asks these makes the lines of the model: while it goes on, the line of a turn and what the calls left after it make; then the
+-- closing lines.
+unfoldable pub LoopsAsDefined : Type 0
+LoopsAsDefined =
+    (left : ℕ) (d : Drill) (rest : List ℕ) →
+    let t : Turn = turn d (take 16 rest) in
+    callLines left d rest
+    ≡ cond (goesOn left) (t .line ++ callLines (leftAfter left (t .goes)) (t .drill) (drop 16 rest)) (closing (d .guard))

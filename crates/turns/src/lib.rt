@@ -9,9 +9,9 @@ ghost use Rattle.model.specs.Keeps.{Guard};
 ghost use Rattle.model.specs.Calls.{refused, replyOf, outcomeBy, startOf};
 ghost use Rattle.model.specs.Lists.{answer};
 ghost use Rattle.model.specs.Drill;
-ghost use Rattle.model.specs.Drill.{policyExtent, indexOf, lengthOf, valueOf, edited, callOf, performed, line};
+ghost use Rattle.model.specs.Drill.{callLimit, policyExtent, indexOf, lengthOf, valueOf, edited, callOf, performed, line};
 ghost use Rattle.lines.specs.Text.{text};
-ghost use Rattle.turns.specs.Turns.{guardOf, drillOf, editedBy, performedBy, turnedBy, openingOf, openedBy, pagesLent, bytesLent, OpensAsDefined};
+ghost use Rattle.turns.specs.Turns.{guardOf, drillOf, editedBy, performedBy, turnedBy, openingOf, openedBy, pagesLent, bytesLent, OpensAsDefined, goesOn, leftAfter, LoopsAsDefined};
 use lines::Line;
 use model::Answer;
 use model::Called;
@@ -87,6 +87,37 @@ pub fn open(bytes: &[u8], shadow: &mut [u64], map: &mut [u16], exclusion: &mut [
 // What is lent makes no difference to the start of the drill as it is defined, on tables of the record's own sizes.
 pub fn opens_as_defined()
     ensures { λ _. ⌜ OpensAsDefined ⌝ }
+{}
+
+// The loop of calls: how many may be made, whether one more is, and how many are left after it.
+
+pub fn call_limit() -> u16
+    ensures { λ r. ⌜ r ≡ callLimit ⌝ }
+{
+    1024
+}
+
+pub fn goes_on(left: u16) -> bool
+    ensures { λ r. ⌜ r ≡ goesOn left ⌝ }
+{
+    0 < left
+}
+
+pub fn left_after(left: u16, goes: bool) -> u16
+    ensures { λ r. ⌜ r ≡ leftAfter left goes ⌝ }
+{
+    if left == 0 {
+        return left;
+    }
+    if goes {
+        return left - 1;
+    }
+    0
+}
+
+// These decisions make the drill's lines of calls as they are defined.
+pub fn loops_as_defined()
+    ensures { λ _. ⌜ LoopsAsDefined ⌝ }
 {}
 
 // The fields of a call.
