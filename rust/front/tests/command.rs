@@ -40,15 +40,15 @@ fn message(arguments: &[&str], input: &[u8]) -> String {
 #[test]
 fn encode_prints_bytes() {
     let script = common::read("examples/worked.script");
-    let vector = std::fs::read(common::path("tests/vectors/base/worked-example.in")).unwrap();
+    let vector = std::fs::read(common::vectors().join("worked-example.in")).unwrap();
     assert_eq!(printed(&["encode"], script.as_bytes()), vector);
 }
 
 #[test]
 fn explain_prints_words() {
-    let lines = common::read("tests/vectors/base/worked-example.out");
+    let lines = std::fs::read(common::vectors().join("worked-example.out")).unwrap();
     let words = common::read("examples/worked.explained");
-    assert_eq!(printed(&["explain"], lines.as_bytes()), words.as_bytes());
+    assert_eq!(printed(&["explain"], &lines), words.as_bytes());
 }
 
 #[test]
@@ -81,7 +81,7 @@ fn wrong_use_gives_the_usage() {
 fn run_hands_the_bytes_to_the_drill_and_explains_its_lines() {
     // This drill prints its output only where its input is the worked example's.
     let drill = "cmp -s - \"$1.in\" && cat \"$1.out\"";
-    let vector = common::path("tests/vectors/base/worked-example");
+    let vector = common::vectors().join("worked-example");
     let script = common::read("examples/worked.script");
     let arguments = ["run", "sh", "-c", drill, "drill", vector.to_str().unwrap()];
     let words = common::read("examples/worked.explained");

@@ -21,7 +21,7 @@ const WORKED: [u8; 124] = [
 #[test]
 fn worked_example() {
     assert_eq!(encode(&common::read("examples/worked.script")).unwrap(), WORKED);
-    let vector = std::fs::read(common::path("tests/vectors/base/worked-example.in")).unwrap();
+    let vector = std::fs::read(common::vectors().join("worked-example.in")).unwrap();
     assert_eq!(vector, WORKED);
 }
 

@@ -1,4 +1,4 @@
-//! Runs the drill on every vector of tests/vectors/*/ and compares what it prints, byte by byte.
+//! Runs the drill on every vector of tests/vectors and compares what it prints, byte by byte.
 //! No vector at all fails, and so does an input without its expected output, or the other way round.
 
 mod common;
@@ -13,16 +13,12 @@ fn vectors() -> PathBuf {
     Path::new(env!("CARGO_MANIFEST_DIR")).join("../../tests/vectors")
 }
 
-fn paths_in(folder: &Path) -> impl Iterator<Item = PathBuf> {
-    let files = fs::read_dir(folder).unwrap_or_else(|e| panic!("{}: {e}", folder.display()));
-    files.map(|file| file.expect("the folder can be read").path())
-}
-
-/// The files with this extension in the folders of vectors.
+/// The vectors' files with this extension.
 fn files(extension: &str) -> BTreeSet<PathBuf> {
-    paths_in(&vectors())
-        .filter(|path| path.is_dir())
-        .flat_map(|folder| paths_in(&folder))
+    let folder = vectors();
+    let files = fs::read_dir(&folder).unwrap_or_else(|e| panic!("{}: {e}", folder.display()));
+    files
+        .map(|file| file.expect("the folder can be read").path())
         .filter(|path| path.extension().is_some_and(|found| found == extension))
         .collect()
 }
@@ -71,8 +67,8 @@ impl std::io::Read for OneByte<'_> {
 
 #[test]
 fn a_slow_input_gives_the_same() {
-    let input = fs::read(vectors().join("base/worked-example.in")).unwrap();
-    let expected = fs::read(vectors().join("base/worked-example.out")).unwrap();
+    let input = fs::read(vectors().join("worked-example.in")).unwrap();
+    let expected = fs::read(vectors().join("worked-example.out")).unwrap();
     let mut printed = Vec::new();
     reference::drill(OneByte(&input), &mut printed).unwrap();
     assert_eq!(printed, expected);
