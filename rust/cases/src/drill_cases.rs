@@ -1,10 +1,10 @@
 //! The drill: numbers 14 and 15, edit, what it takes of its input, and the limit of 1,024 calls.
-//! Every byte that it writes is compared.
+//! Every byte that it writes is compared, and it has to end with exit status 0.
 
 use crate::tally::Tally;
 use std::io::Write;
 use std::path::Path;
-use std::process::{Command, Stdio};
+use std::process::{Command, Output, Stdio};
 
 /// "Policy V 4, F 4, n 1, e 1, page 1, frame 2."
 const POLICY: [u8; 12] = [4, 0, 4, 0, 1, 0, 1, 0, 1, 0, 2, 0];
@@ -21,8 +21,8 @@ fn call(kind: u8, index: u16, value: u64) -> Vec<u8> {
     bytes
 }
 
-/// What the built drill writes for an input. It may stop reading before the input ends.
-fn written(input: &[u8]) -> Vec<u8> {
+/// What the built drill writes for an input, and how it ends. It may stop reading before the input ends.
+fn ran(input: &[u8]) -> Output {
     let drill = Path::new(env!("CARGO_MANIFEST_DIR")).join("../../target/bin/drill");
     let mut child = Command::new(drill)
         .stdin(Stdio::piped())
@@ -30,11 +30,15 @@ fn written(input: &[u8]) -> Vec<u8> {
         .spawn()
         .expect("the drill is built: rt check drill");
     let _ = child.stdin.take().expect("a pipe").write_all(input);
-    child.wait_with_output().expect("the drill ends").stdout
+    child.wait_with_output().expect("the drill ends")
 }
 
 fn drill(t: Tally, name: &str, input: &[u8], wanted: &str) -> Tally {
-    t.case("drill", name, written(input) == wanted.as_bytes())
+    let Output { status, stdout, .. } = ran(input);
+    if !status.success() {
+        println!("the drill ended with {status}");
+    }
+    t.case("drill", name, status.success() && stdout == wanted.as_bytes())
 }
 
 /// The policy, then these bytes; the start's line, these lines and the closing lines of an untouched guard.
