@@ -30,7 +30,7 @@ pub fn run_list(plan: &Plan, seed: u64, tally: &mut Tally) -> Result<(), String>
         damage.apply(&mut list.random, &mut damaged);
         let call = Call::Listed(list.next_call());
         let number = compare(plan.fault, &mut damaged, &call)?;
-        tally.count_damaged(call.kind(), number, damage);
+        tally.count_damaged(call.kind(), number, damage)?;
         if damage == Damage::Contents {
             lent = damaged;
         }
@@ -50,8 +50,7 @@ fn start_call(fault: Fault, random: &mut Random, tally: &mut Tally) -> Result<()
     damage.apply(random, &mut lent);
     let call = Call::Start { policy: &policy };
     let number = compare(fault, &mut lent, &call)?;
-    tally.count_damaged(call.kind(), number, damage);
-    Ok(())
+    tally.count_damaged(call.kind(), number, damage)
 }
 
 /// Damages a sound record in one place or in several, so that more than one question would refuse it.

@@ -14,3 +14,4 @@ mod tally;
 
 pub use run::{run, Plan};
 pub use started::run_claim;
+pub use tally::Tally;

@@ -16,7 +16,7 @@ pub fn run_list(plan: &Plan, seed: u64, tally: &mut Tally) -> Result<(), String>
     let mut lent = list.garbage();
     let start = Call::Start { policy: &list.policy };
     let number = compare(plan.fault, &mut lent, &start)?;
-    tally.count_started(start.kind(), number);
+    tally.count_started(start.kind(), number)?;
     let mut guard =
         Guard::start(&list.policy).map_err(|refusal| format!("the start is {refusal}"))?;
     let mut claim = Claim::told_start(&list.policy);
@@ -25,7 +25,7 @@ pub fn run_list(plan: &Plan, seed: u64, tally: &mut Tally) -> Result<(), String>
         let call = Call::Listed(listed);
         let before = lent.clone();
         let number = compare(plan.fault, &mut lent, &call)?;
-        tally.count_started(call.kind(), number);
+        tally.count_started(call.kind(), number)?;
         compare_guard(&mut guard, &listed, number, &lent)?;
         check_claim(&mut claim, &listed, number, &before, &lent)?;
     }

@@ -3,35 +3,24 @@
 
 use std::io::{self, Write};
 
+use guard::Refusal;
+
 use crate::call::KINDS;
 use crate::damage::Damage;
 
 /// The least count of a cell that can be reached.
 const CELL_MINIMUM: u64 = 1000;
 
-/// The largest number of a guard call; 14 and 15 are the drill's.
-const LAST_NUMBER: usize = 13;
+/// The numbers that a call can answer: 0 for accepted, and every refusal. docs/refusals.txt has them, with which rust/guard compares.
+const NUMBERS: usize = Refusal::ALL.len() + 1;
 
-/// The numbers of each call in a list from an accepted start; 0 stands for accepted.
-/// The state and the guard tables pass question 7 at every call of such a list, so 7 is only about the kernel table that a
-/// synchronisation is brought. A write never gives 13: an entry with the frame of the policy is an approved one and has no bit
-/// 1, and an ordinary one has a frame below F. An enter never gives 12: an entry page is listed, so its entry is approved
-/// where it is present.
-const STARTED: [&[usize]; 8] = [
-    &[0],
-    &[0, 7, 9],
-    &[0, 7],
-    &[0, 9, 11, 12],
-    &[0, 8, 9, 11, 12],
-    &[0, 9, 10, 11],
-    &[0, 9, 10, 11, 12],
-    &[0, 8, 9, 13],
-];
+/// The refusals of the drill, which no call gives.
+const OF_THE_DRILL: [usize; 2] = [14, 15];
 
-/// The numbers of each call on damaged runs and tables: all that document 01's questions let concern it.
+/// The numbers of each call, 0 for accepted: all that document 01's questions let concern it. On damaged runs and tables each of them comes.
 /// Only the start reads a record (1 to 6); 8 is for calls with a length, 9 for those that name something, 10 for mode
 /// switches, 11 and 12 for calls that touch a shadow entry, 13 for writes.
-const DAMAGED: [&[usize]; 8] = [
+const OF_THE_CALL: [&[usize]; KINDS.len()] = [
     &[0, 1, 2, 3, 4, 5, 6, 7],
     &[0, 7, 9],
     &[0, 7],
@@ -42,7 +31,36 @@ const DAMAGED: [&[usize]; 8] = [
     &[0, 7, 8, 9, 13],
 ];
 
-type Numbers = [[u64; LAST_NUMBER + 1]; KINDS.len()];
+/// Of these, the numbers that do not come in a list from an accepted start.
+/// Its start is accepted. The state and the guard tables pass question 7 at every call of such a list, so 7 is only about the kernel
+/// table that a synchronisation is brought. A write never gives 13: an entry with the frame of the policy is an approved one and has
+/// no bit 1, and an ordinary one has a frame below F. An enter never gives 12: an entry page is listed, so its entry is approved
+/// where it is present.
+const NOT_STARTED: [&[usize]; KINDS.len()] =
+    [&[1, 2, 3, 4, 5, 6, 7], &[], &[], &[7], &[7, 13], &[7, 12], &[7], &[7]];
+
+type Numbers = [[u64; NUMBERS]; KINDS.len()];
+
+/// The two halves of a run.
+#[derive(Clone, Copy, Debug, PartialEq, Eq)]
+enum Half {
+    Started,
+    Damaged,
+}
+
+impl Half {
+    fn words(self) -> &'static str {
+        match self {
+            Half::Started => "from a start",
+            Half::Damaged => "damaged",
+        }
+    }
+
+    fn reaches(self, kind: usize, number: usize) -> bool {
+        OF_THE_CALL[kind].contains(&number)
+            && (self == Half::Damaged || !NOT_STARTED[kind].contains(&number))
+    }
+}
 
 /// The counts of a run.
 #[derive(Clone, Debug, Default)]
@@ -54,13 +72,19 @@ pub struct Tally {
 }
 
 impl Tally {
-    pub(crate) fn count_started(&mut self, kind: usize, number: u64) {
-        count(&mut self.started, kind, number);
+    /// Counts a call of a list from a start, by its place in the calls; a number that is no refusal is an error.
+    pub fn count_started(&mut self, kind: usize, number: u64) -> Result<(), String> {
+        count(&mut self.started, kind, number)
     }
 
-    pub(crate) fn count_damaged(&mut self, kind: usize, number: u64, damage: Damage) {
-        count(&mut self.damaged, kind, number);
+    pub(crate) fn count_damaged(
+        &mut self,
+        kind: usize,
+        number: u64,
+        damage: Damage,
+    ) -> Result<(), String> {
         self.damage[damage as usize][kind] += 1;
+        count(&mut self.damaged, kind, number)
     }
 
     pub fn calls(&self) -> u64 {
@@ -70,21 +94,12 @@ impl Tally {
 
     /// What is wrong with the counts, one line each.
     pub fn complaints(&self) -> Vec<String> {
-        let mut complaints = Vec::new();
-        for (half, counts, reachable) in
-            [("started", &self.started, STARTED), ("damaged", &self.damaged, DAMAGED)]
-        {
-            for kind in 0..KINDS.len() {
-                for (number, &count) in counts[kind].iter().enumerate() {
-                    let is_reachable = reachable[kind].contains(&number);
-                    let cell = || format!("{half}, {}, {number}: {count} calls", KINDS[kind]);
-                    if is_reachable && count < CELL_MINIMUM {
-                        complaints
-                            .push(format!("{}, at least {CELL_MINIMUM} are asked for", cell()));
-                    } else if !is_reachable && count > 0 {
-                        complaints.push(format!("{}, which cannot be", cell()));
-                    }
-                }
+        let mut complaints = self.complaints_of(Half::Started);
+        complaints.extend(self.complaints_of(Half::Damaged));
+        for number in 0..NUMBERS {
+            let of_a_call = OF_THE_CALL.iter().any(|numbers| numbers.contains(&number));
+            if of_a_call == OF_THE_DRILL.contains(&number) {
+                complaints.push(format!("{number} is to be of a call, or else of the drill"));
             }
         }
         for damage in Damage::ALL {
@@ -97,11 +112,54 @@ impl Tally {
         complaints
     }
 
+    fn counts(&self, half: Half) -> &Numbers {
+        match half {
+            Half::Started => &self.started,
+            Half::Damaged => &self.damaged,
+        }
+    }
+
+    fn complaints_of(&self, half: Half) -> Vec<String> {
+        let mut complaints = Vec::new();
+        for (kind, counts) in self.counts(half).iter().enumerate() {
+            for (number, &count) in counts.iter().enumerate() {
+                let wrong = if !half.reaches(kind, number) {
+                    (count > 0).then(|| "which cannot be".into())
+                } else {
+                    (count < CELL_MINIMUM).then(|| format!("at least {CELL_MINIMUM} are asked for"))
+                };
+                complaints.extend(wrong.map(|wrong: String| {
+                    format!("{}, {}, {number}: {count} calls, {wrong}", half.words(), KINDS[kind])
+                }));
+            }
+        }
+        complaints
+    }
+
     /// Prints the three tables; a cell that cannot be reached is a dash.
     pub fn print(&self, out: &mut impl Write) -> io::Result<()> {
-        print_numbers(out, "from a start", &self.started, &STARTED)?;
-        print_numbers(out, "damaged", &self.damaged, &DAMAGED)?;
+        self.print_numbers(out, Half::Started)?;
+        self.print_numbers(out, Half::Damaged)?;
         self.print_damage(out)
+    }
+
+    fn print_numbers(&self, out: &mut impl Write, half: Half) -> io::Result<()> {
+        write!(out, "{:16}{:>9}", half.words(), "accepted")?;
+        (1..NUMBERS).try_for_each(|number| write!(out, "{number:>8}"))?;
+        writeln!(out)?;
+        for (kind, counts) in self.counts(half).iter().enumerate() {
+            write!(out, "{:16}", KINDS[kind])?;
+            for (number, &count) in counts.iter().enumerate() {
+                let width = if number == 0 { 9 } else { 8 };
+                if half.reaches(kind, number) || count > 0 {
+                    write!(out, "{count:>width$}")?;
+                } else {
+                    write!(out, "{:>width$}", "-")?;
+                }
+            }
+            writeln!(out)?;
+        }
+        Ok(())
     }
 
     fn print_damage(&self, out: &mut impl Write) -> io::Result<()> {
@@ -117,33 +175,14 @@ impl Tally {
     }
 }
 
-/// A number above 13 is counted nowhere: the comparison has already failed.
-fn count(counts: &mut Numbers, kind: usize, number: u64) {
-    if let Some(cell) = counts[kind].get_mut(number as usize) {
-        *cell += 1;
-    }
-}
-
-fn print_numbers(
-    out: &mut impl Write,
-    half: &str,
-    counts: &Numbers,
-    reachable: &[&[usize]; 8],
-) -> io::Result<()> {
-    write!(out, "{half:16}{:>9}", "accepted")?;
-    (1..=LAST_NUMBER).try_for_each(|number| write!(out, "{number:>8}"))?;
-    writeln!(out)?;
-    for kind in 0..KINDS.len() {
-        write!(out, "{:16}", KINDS[kind])?;
-        for (number, count) in counts[kind].iter().enumerate() {
-            let width = if number == 0 { 9 } else { 8 };
-            if reachable[kind].contains(&number) || *count > 0 {
-                write!(out, "{count:>width$}")?;
-            } else {
-                write!(out, "{:>width$}", "-")?;
-            }
+/// Both sides may agree on a number that no table of refusals has: it is not counted, so it is an error.
+fn count(counts: &mut Numbers, kind: usize, number: u64) -> Result<(), String> {
+    let cell = usize::try_from(number).ok().and_then(|number| counts[kind].get_mut(number));
+    match cell {
+        Some(cell) => {
+            *cell += 1;
+            Ok(())
         }
-        writeln!(out)?;
+        None => Err(format!("{} answers {number}, which is no refusal", KINDS[kind])),
     }
-    Ok(())
 }

@@ -4,7 +4,7 @@
 
 use std::io::{self, Write};
 
-use differential::{run, run_claim, Plan};
+use differential::{run, run_claim, Plan, Tally};
 use reference::Fault;
 
 const SEED: u64 = 1;
@@ -45,6 +45,29 @@ fn too_few_calls_are_noticed() {
     let plan = Plan { seed: SEED, lists: 20, calls: Plan::CALLS, fault: Fault::None };
     let tally = run(&plan).unwrap_or_else(|difference| panic!("seed {SEED}, {difference}"));
     assert!(!tally.complaints().is_empty());
+}
+
+/// A number that both sides agree on and that is no refusal is named, and not passed over.
+#[test]
+fn a_number_that_is_no_refusal_is_an_error() {
+    let last = guard::Refusal::ALL.map(|refusal| u64::from(refusal.number())).into_iter().max();
+    let mut tally = Tally::default();
+    for number in 0..=last.unwrap() {
+        assert_eq!(tally.count_started(1, number), Ok(()));
+    }
+    for number in [last.unwrap() + 1, 256, 1 << 32, u64::MAX] {
+        let error = tally.count_started(1, number).unwrap_err();
+        assert!(error.contains(&number.to_string()), "{error}");
+    }
+}
+
+/// A refusal that a call cannot give is counted, and complained of.
+#[test]
+fn a_number_that_cannot_be_is_a_complaint() {
+    let mut tally = Tally::default();
+    tally.count_started(1, 14).unwrap();
+    let complaint = "from a start, synchronise one, 14: 1 calls, which cannot be".to_string();
+    assert!(tally.complaints().contains(&complaint));
 }
 
 #[test]
