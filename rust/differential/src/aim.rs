@@ -1,7 +1,7 @@
 //! Where a list aims: policies, kernel tables and arguments near the edges of what exists and of what is excluded.
 //! An aimed list goes for aliases, ends of pages and neighbours of excluded frames; another is mostly random.
 
-use inputs::{random_kernel_entry, random_record, Random};
+use inputs::{random_record, KernelEntry, Random};
 use reference::claim::Call;
 
 /// The sizes of a list's policy and some of its excluded frames.
@@ -45,12 +45,11 @@ impl Aim {
     }
 
     fn entry(&self, random: &mut Random) -> u64 {
-        let entry = random_kernel_entry(random, self.f);
+        let entry = KernelEntry::random(random, self.f);
         if !self.is_aimed || random.one_in(2) {
-            return entry;
+            return entry.bits();
         }
-        let frame = self.near_excluded(random);
-        entry & !(((1 << 40) - 1) << 12) | frame << 12
+        KernelEntry { frame: self.near_excluded(random), ..entry }.bits()
     }
 
     /// An excluded frame, or one beside it.

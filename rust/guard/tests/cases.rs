@@ -3,7 +3,7 @@
 
 use guard::archive::{self, MODE_USER, STATE_MODE};
 use guard::{Frames, Guard, Mode, Refusal, Synchronised, NO_FRAME};
-use inputs::{random_kernel_entry, record, Random};
+use inputs::{record, KernelEntry, Random};
 
 const NONE_CHANGED: Synchronised = Synchronised { changed: 0, joined: 0 };
 const ONE_CHANGED: Synchronised = Synchronised { changed: 1, joined: 0 };
@@ -168,7 +168,8 @@ fn every_call_is_safe_on_every_input() {
     let mut accepted_calls = 0;
     for _ in 0..20_000 {
         let length = if random.one_in(4) { random.below(9) } else { 4 };
-        let kernel: Vec<_> = (0..length).map(|_| random_kernel_entry(&mut random, 4)).collect();
+        let kernel: Vec<_> =
+            (0..length).map(|_| KernelEntry::random(&mut random, 4).bits()).collect();
         let (wide, near) = (random.word(), random.below(6));
         let number = if random.one_in(2) { wide } else { near };
         let before = guard.clone();
