@@ -10,44 +10,33 @@ use crate::calls::State;
 use crate::guard;
 use crate::tally::Tally;
 
+// A state and its shadow table.
+type Held = (State, [u64; 4]);
+
 // Enters by an index on a guard with these states and shadow tables, given and wanted.
 fn enter_on(
     t: Tally,
     name: &str,
-    given: State,
+    (given, mut table): Held,
     index: u64,
-    shadow: [u64; 4],
     wanted: Answer,
-    left: State,
-    shadow_left: [u64; 4],
+    left: Held,
 ) -> Tally {
-    let mut table = shadow;
     let called = crate::calls::enter(given, &mut table, index);
-    let answer = called.answer;
-    let state = called.state;
-    let entries = table == shadow_left;
-    let moved = state == left;
-    t.case("enter", name, answer == wanted && moved && entries)
+    t.case("enter", name, called.answer == wanted && (called.state, table) == left)
 }
 
 // An accepted enter of entry page 1 from user mode on page 0: the count of changed entries and the table that is left.
 fn entered(t: Tally, name: &str, shadow: [u64; 4], changed: u64, shadow_left: [u64; 4]) -> Tally {
-    enter_on(
-        t,
-        name,
-        guard::state_in(User(0)),
-        0,
-        shadow,
-        Done(changed, 0),
-        guard::state_in(Kernel(1)),
-        shadow_left,
-    )
+    let given = (guard::state_in(User(0)), shadow);
+    let left = (guard::state_in(Kernel(1)), shadow_left);
+    enter_on(t, name, given, 0, Done(changed, 0), left)
 }
 
 // A refused one: state and table stay.
 fn refused(t: Tally, name: &str, mode: Mode, index: u64, shadow: [u64; 4], number: u64) -> Tally {
-    let s = guard::state_in(mode);
-    enter_on(t, name, s, index, shadow, Refused(number), s, shadow)
+    let stays = (guard::state_in(mode), shadow);
+    enter_on(t, name, stays, index, Refused(number), stays)
 }
 
 // "it sets bit 63 of each present shadow entry by these rules, approved mark and bits 2 and 9 as found, other bits kept"
@@ -105,12 +94,10 @@ fn question_9(t: Tally) -> Tally {
     let t = enter_on(
         t,
         "the last entry index",
-        guard::state_in(User(0)),
+        (guard::state_in(User(0)), user),
         1,
-        user,
         Done(3, 0),
-        guard::state_in(Kernel(3)),
-        [0x8000000000003007, 0x2401, 0, 0x8401],
+        (guard::state_in(Kernel(3)), [0x8000000000003007, 0x2401, 0, 0x8401]),
     );
     let t = refused(t, "index 2 of 2", User(0), 2, user, 9);
     let t = refused(t, "index 16", User(0), 16, user, 9);
@@ -118,9 +105,9 @@ fn question_9(t: Tally) -> Tally {
     let t = refused(t, "index 65536", User(0), 65536, user, 9);
     let t = refused(t, "the highest index", User(0), 18446744073709551615, user, 9);
     let t = refused(t, "index 2 of 2 in kernel mode", Kernel(1), 2, user, 9);
-    let damaged = guard::state(4, 9, 2, [4, 65535, 0, 0], User(0));
-    let t = enter_on(t, "an entry page at V", damaged, 0, user, Refused(9), damaged, user);
-    enter_on(t, "an entry page far above V", damaged, 1, user, Refused(9), damaged, user)
+    let damaged = (guard::state(4, 9, 2, [4, 65535, 0, 0], User(0)), user);
+    let t = enter_on(t, "an entry page at V", damaged, 0, Refused(9), damaged);
+    enter_on(t, "an entry page far above V", damaged, 1, Refused(9), damaged)
 }
 
 // The last of sixteen entry pages; an index from e on is refused though its page is approved.
@@ -133,14 +120,12 @@ fn sixteen(t: Tally) -> Tally {
     let t = enter_on(
         t,
         "the last of sixteen indices",
-        given,
+        (given, user),
         15,
-        user,
         Done(1, 0),
-        left,
-        [0, 0, 0, 0x8401],
+        (left, [0, 0, 0, 0x8401]),
     );
-    enter_on(t, "index 15 of 15", fewer, 15, user, Refused(9), fewer, user)
+    enter_on(t, "index 15 of 15", (fewer, user), 15, Refused(9), (fewer, user))
 }
 
 // "10. Does the mode suit: user to enter", before 11. "11. [..] enter and leave touch the page they go to", before 12.

@@ -9,33 +9,31 @@ use crate::calls::Mode::User;
 use crate::guard;
 use crate::tally::Tally;
 
+// A mode and the shadow table that stands with it.
+type Held = (Mode, [u64; 4]);
+
+// Leaves to a page on a guard with these modes and shadow tables, given and wanted.
 fn leave(
     t: Tally,
     name: &str,
-    given: Mode,
+    (given, mut table): Held,
     page: u64,
-    shadow: [u64; 4],
     wanted: Answer,
-    left: Mode,
-    shadow_left: [u64; 4],
+    (left, table_left): Held,
 ) -> Tally {
-    let mut table = shadow;
     let called = crate::calls::leave(guard::state_in(given), &mut table, page);
-    let answer = called.answer;
-    let state = called.state;
-    let entries = table == shadow_left;
-    let moved = state == guard::state_in(left);
-    t.case("leave", name, answer == wanted && moved && entries)
+    let moved = called.state == guard::state_in(left);
+    t.case("leave", name, called.answer == wanted && moved && table == table_left)
 }
 
 // An accepted leave to page 0: the count of changed entries and the table that is left.
 fn left(t: Tally, name: &str, shadow: [u64; 4], changed: u64, shadow_left: [u64; 4]) -> Tally {
-    leave(t, name, Kernel(1), 0, shadow, Done(changed, 0), User(0), shadow_left)
+    leave(t, name, (Kernel(1), shadow), 0, Done(changed, 0), (User(0), shadow_left))
 }
 
 // A refused one: state and table stay.
 fn refused(t: Tally, name: &str, mode: Mode, page: u64, shadow: [u64; 4], number: u64) -> Tally {
-    leave(t, name, mode, page, shadow, Refused(number), mode, shadow)
+    leave(t, name, (mode, shadow), page, Refused(number), (mode, shadow))
 }
 
 // "it sets bit 63 of each present shadow entry by these rules, approved mark and bits 2 and 9 as found, other bits kept"
@@ -93,12 +91,10 @@ fn question_9(t: Tally) -> Tally {
     let t = leave(
         t,
         "to the last page",
-        Kernel(1),
+        (Kernel(1), kernel),
         3,
-        kernel,
         Done(3, 0),
-        User(3),
-        [0x3007, 0x8000000000002401, 0, 0x5007],
+        (User(3), [0x3007, 0x8000000000002401, 0, 0x5007]),
     );
     let t = refused(t, "page 4 of 4", Kernel(1), 4, kernel, 9);
     // No number is narrowed: 65536 is not page 0.
