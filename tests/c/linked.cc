@@ -1,0 +1,41 @@
+// The header and the archive from C++: the start and one synchronised page of document 01's policy (C1 and C2), by their C names.
+#include <cstdio>
+
+#include "guard.h"
+
+namespace {
+
+int passed;
+int failed;
+
+void check(const char *name, bool right)
+{
+    std::printf("%s %s\n", right ? "ok" : "WRONG", name);
+    (right ? passed : failed)++;
+}
+
+} // namespace
+
+int main()
+{
+    const uint8_t policy[] = {4, 0, 4, 0, 1, 0, 1, 0, 1, 0, 2, 0};
+    const uint64_t kernel[4] = {0x2003, 0, 0, 0};
+    uint64_t state[GUARD_STATE_WORDS] = {};
+    uint64_t shadow[4] = {9, 9, 9, 9};
+    uint16_t map[4] = {9, 9, 9, 9};
+    uint8_t exclusion[1] = {255};
+    uint64_t numbers[GUARD_NUMBERS] = {77, 88};
+
+    uint64_t number = guard_start(policy, sizeof policy, state, GUARD_STATE_WORDS, shadow, 4, map, 4, exclusion, 1, numbers,
+                                  GUARD_NUMBERS);
+    check("C++: start is accepted", number == GUARD_ACCEPTED && numbers[0] == 1 && numbers[1] == 1);
+    check("C++: start leaves the tables of C1", shadow[0] == 0 && shadow[1] == 0x2401 && map[1] == 2 && exclusion[0] == 0x04 &&
+                                                    state[GUARD_STATE_RUNNING] == 1);
+    number = guard_sync_page(state, GUARD_STATE_WORDS, kernel, 4, shadow, 4, map, 4, exclusion, 1, 0, numbers, GUARD_NUMBERS);
+    check("C++: page 0 joins as in C2",
+          number == GUARD_ACCEPTED && numbers[0] == 1 && numbers[1] == 1 && shadow[0] == 0x2401 && map[0] == 2);
+    number = guard_sync_page(state, GUARD_STATE_WORDS, kernel, 4, shadow, 4, map, 4, exclusion, 1, 4, numbers, GUARD_NUMBERS);
+    check("C++: page 4 gives 9", number == GUARD_DOES_NOT_EXIST && numbers[0] == 0 && numbers[1] == 0);
+    std::printf("%d passed, %d failed\n", passed, failed);
+    return failed == 0 ? 0 : 1;
+}
