@@ -1,15 +1,15 @@
 //! The lines that the drill prints, in words: the start, each call, the shadow entries and the share.
-//! One line of words for each line of the drill, in the same order.
+//! One line of words for each line of the drill, in the same order; with the script at hand, an answer begins with the line that it answers.
 
 use crate::refusals::refusal;
-use crate::LineError;
+use crate::{DrillInput, LineError};
 
-/// Explains the drill's output.
-pub fn explain(lines: &str) -> Result<String, LineError> {
+/// Explains the drill's output, and names the lines of the script that made it where that is given.
+pub fn explain(lines: &str, script: Option<&DrillInput>) -> Result<String, LineError> {
     let mut words = String::new();
-    let mut page = 0;
+    let mut explainer = Explainer { script, answers: 0, entries: 0 };
     for (at, line) in lines.lines().enumerate() {
-        let explained = explain_line(line, &mut page);
+        let explained = explainer.line(line);
         words.push_str(&explained.map_err(|message| LineError::new(at + 1, message))?);
         words.push('\n');
     }
@@ -19,28 +19,70 @@ pub fn explain(lines: &str) -> Result<String, LineError> {
     Ok(words)
 }
 
-/// `page` is the page of the next shadow entry.
-fn explain_line(line: &str, page: &mut u64) -> Result<String, String> {
-    let fields: Vec<_> = line.split_whitespace().collect();
-    match fields[..] {
-        [kind, number, first, second, mode, running] => {
-            let (number, first, second) = (decimal(number)?, decimal(first)?, decimal(second)?);
-            let place = format!("{} mode, page {}", mode_word(mode)?, decimal(running)?);
-            let outcome = explain_call(kind, number, (first, second))?;
-            let is_refused_start = kind == "S" && number != 0;
-            let ending = if is_refused_start { "; no guard was started" } else { "" };
-            Ok(format!("{outcome}; {place}{ending}"))
+struct Explainer<'a> {
+    script: Option<&'a DrillInput>,
+    /// How many lines of the start and of calls there were.
+    answers: usize,
+    /// How many shadow entries there were, which is the page of the next one.
+    entries: u64,
+}
+
+impl Explainer<'_> {
+    fn line(&mut self, line: &str) -> Result<String, String> {
+        let fields: Vec<_> = line.split_whitespace().collect();
+        match fields[..] {
+            [kind, number, first, second, mode, running] => {
+                let (number, first, second) = (decimal(number)?, decimal(first)?, decimal(second)?);
+                let place = format!("{} mode, page {}", mode_word(mode)?, decimal(running)?);
+                let outcome = explain_call(kind, number, (first, second))?;
+                let (line, cause) = self.script_line(kind, number)?;
+                self.answers += 1;
+                let is_refused_start = kind == "S" && number != 0;
+                let ending = if is_refused_start { "; no guard was started" } else { "" };
+                Ok(format!("{line}{outcome}{cause}; {place}{ending}"))
+            }
+            ["share", share] => {
+                Ok(format!("share: {} percent of the frames are excluded", decimal(share)?))
+            }
+            [entry] => {
+                let explained = explain_entry(self.entries, hexadecimal(entry)?);
+                self.entries += 1;
+                Ok(explained)
+            }
+            _ => Err(no_line(line)),
         }
-        ["share", share] => {
-            Ok(format!("share: {} percent of the frames are excluded", decimal(share)?))
-        }
-        [entry] => {
-            let explained = explain_entry(*page, hexadecimal(entry)?);
-            *page += 1;
-            Ok(explained)
-        }
-        _ => Err(format!("'{line}' is no line of the drill")),
     }
+
+    /// The line of the script that an answer belongs to, as its beginning, and what made a start refused.
+    fn script_line(&self, kind: &str, number: u64) -> Result<(String, String), String> {
+        let Some(script) = self.script else {
+            return Ok(Default::default());
+        };
+        let Some(at) = self.answers.checked_sub(1) else {
+            if kind != "S" {
+                return Err("the start's line comes first".into());
+            }
+            let cause = script.cause(number);
+            let line = cause.as_ref().map_or(script.first_line, |cause| cause.line);
+            let words = cause.map_or(String::new(), |cause| format!(" ({})", cause.message));
+            return Ok((beginning(line), words));
+        };
+        match script.call(at) {
+            None => Err("the script has no call for this line".into()),
+            Some((line, code)) if kind == "X" || kind == code.to_string() => {
+                Ok((beginning(line), String::new()))
+            }
+            Some((line, _)) => Err(format!("this does not answer line {line} of the script")),
+        }
+    }
+}
+
+fn beginning(line: usize) -> String {
+    format!("line {line}: ")
+}
+
+fn no_line(line: &str) -> String {
+    format!("'{}' is no line of the drill", line)
 }
 
 fn explain_call(kind: &str, number: u64, numbers: (u64, u64)) -> Result<String, String> {
@@ -55,7 +97,7 @@ fn explain_call(kind: &str, number: u64, numbers: (u64, u64)) -> Result<String, 
         "5" => "enter",
         "6" => "leave",
         "7" => "device write",
-        _ => return Err(format!("'{kind}' is no kind of call")),
+        _ => return Err(format!("'{}' is no kind of call", kind)),
     };
     if number == 0 {
         return match kind {
@@ -125,18 +167,18 @@ fn mode_word(mode: &str) -> Result<&'static str, String> {
     match mode {
         "K" => Ok("kernel"),
         "U" => Ok("user"),
-        _ => Err(format!("the mode is K or U, not '{mode}'")),
+        _ => Err(format!("the mode is K or U, not '{}'", mode)),
     }
 }
 
 fn decimal(word: &str) -> Result<u64, String> {
     let is_decimal = word.bytes().all(|digit| digit.is_ascii_digit());
     let number = word.parse().ok().filter(|_| is_decimal);
-    number.ok_or(format!("a decimal number is expected, not '{word}'"))
+    number.ok_or_else(|| format!("a decimal number is expected, not '{}'", word))
 }
 
 fn hexadecimal(word: &str) -> Result<u64, String> {
     let is_entry = word.len() == 16 && word.bytes().all(|digit| digit.is_ascii_hexdigit());
     let number = u64::from_str_radix(word, 16).ok().filter(|_| is_entry);
-    number.ok_or(format!("'{word}' is no line of the drill"))
+    number.ok_or_else(|| no_line(word))
 }

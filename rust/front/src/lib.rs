@@ -2,7 +2,9 @@
 //! The words of the refusal numbers come from docs/refusals.txt alone.
 #![forbid(unsafe_code)]
 
+mod cause;
 mod explain;
+mod input;
 mod refusals;
 mod run;
 mod script;
@@ -10,6 +12,7 @@ mod script;
 use std::fmt;
 
 pub use explain::explain;
+pub use input::DrillInput;
 pub use refusals::{refusals, refusals_page, RefusalWords};
 pub use run::{run, Explained, RunError};
 pub use script::encode;

@@ -2,14 +2,17 @@
 //! Bad input gives a message on standard error, nothing on standard output and exit status 1; wrong use gives 2.
 
 use std::error::Error;
+use std::ffi::{OsStr, OsString};
+use std::fs;
 use std::io::{self, Read, Write};
 use std::process::{Command, ExitCode};
 
-use front::{encode, explain, refusals_page, run, text};
+use front::{encode, explain, refusals_page, run, text, DrillInput};
 
 const USAGE: &str = "\
 usage: guard-front encode < SCRIPT > BYTES    a script becomes the drill's input
-       guard-front explain < LINES            the drill's output becomes words
+       guard-front explain [SCRIPT] < LINES   the drill's output becomes words; with the
+                                              script, they name its lines
        guard-front run DRILL [ARGUMENT..] < SCRIPT
                                               encodes, runs the drill program, explains
        guard-front refusals                   prints docs/REFUSALS.md
@@ -26,18 +29,18 @@ A script has one item a line; # begins a comment; numbers are decimal, or hexade
 ";
 
 fn main() -> ExitCode {
-    let arguments: Vec<_> = std::env::args().skip(1).collect();
-    let words: Vec<_> = arguments.iter().map(String::as_str).collect();
-    let done = match words[..] {
-        ["encode"] => input().and_then(|script| print(&encode(&script).map_err(in_words)?)),
-        ["explain"] => {
-            input().and_then(|lines| print(explain(&lines).map_err(in_words)?.as_bytes()))
-        }
-        ["run", drill, ref rest @ ..] => {
-            input().and_then(|script| run_and_print(Command::new(drill).args(rest), &script))
-        }
-        ["refusals"] => print(refusals_page().as_bytes()),
-        ["help" | "--help" | "-h"] => print(USAGE.as_bytes()),
+    let arguments: Vec<_> = std::env::args_os().skip(1).collect();
+    let (command, rest) = match arguments.split_first() {
+        Some((command, rest)) => (command.to_str(), rest),
+        None => (None, &[][..]),
+    };
+    let done = match (command, rest) {
+        (Some("encode"), []) => encode_input(),
+        (Some("explain"), []) => explain_input(None),
+        (Some("explain"), [script]) => explain_input(Some(script)),
+        (Some("run"), [drill, arguments @ ..]) => run_and_print(drill, arguments),
+        (Some("refusals"), []) => print(refusals_page().as_bytes()),
+        (Some("help" | "--help" | "-h"), []) => print(USAGE.as_bytes()),
         _ => {
             eprint!("{USAGE}");
             return ExitCode::from(2);
@@ -52,8 +55,38 @@ fn main() -> ExitCode {
     }
 }
 
+fn encode_input() -> Result<(), String> {
+    let script = encode(&input()?).map_err(in_words)?;
+    print(&script.bytes)
+}
+
+fn explain_input(script: Option<&OsString>) -> Result<(), String> {
+    let script = script.map(|path| read_script(path)).transpose()?;
+    let words = explain(&input()?, script.as_ref()).map_err(in_words)?;
+    print(words.as_bytes())
+}
+
+fn run_and_print(drill: &OsStr, arguments: &[OsString]) -> Result<(), String> {
+    let explained = run(Command::new(drill).args(arguments), &input()?).map_err(in_words)?;
+    print(explained.words.as_bytes())?;
+    if explained.status.success() {
+        Ok(())
+    } else {
+        Err(format!("the drill ended with {}", explained.status))
+    }
+}
+
 fn in_words(error: impl Error) -> String {
     error.to_string()
+}
+
+/// A script from a file; what is wrong with it is told with the file's name.
+fn read_script(path: &OsStr) -> Result<DrillInput, String> {
+    let name = path.to_string_lossy();
+    let name = name.escape_debug();
+    let bytes = fs::read(path).map_err(|error| format!("{name} cannot be read: {error}"))?;
+    let script = text(bytes).and_then(|script| encode(&script));
+    script.map_err(|error| format!("{name}, {error}"))
 }
 
 /// The whole of standard input.
@@ -62,16 +95,6 @@ fn input() -> Result<String, String> {
     let read = io::stdin().read_to_end(&mut bytes);
     read.map_err(|error| format!("standard input cannot be read: {error}"))?;
     text(bytes).map_err(in_words)
-}
-
-fn run_and_print(drill: &mut Command, script: &str) -> Result<(), String> {
-    let explained = run(drill, script).map_err(in_words)?;
-    print(explained.words.as_bytes())?;
-    if explained.status.success() {
-        Ok(())
-    } else {
-        Err(format!("the drill ended with {}", explained.status))
-    }
 }
 
 fn print(bytes: &[u8]) -> Result<(), String> {

@@ -48,7 +48,8 @@ pub fn run(drill: &mut Command, script: &str) -> Result<Explained, RunError> {
     let mut child = piped.spawn().map_err(RunError::Start)?;
     let mut to_drill = child.stdin.take().expect("the drill's input is a pipe");
     let mut from_drill = child.stdout.take().expect("the drill's output is a pipe");
-    let writer = thread::spawn(move || to_drill.write_all(&input));
+    let bytes = input.bytes.clone();
+    let writer = thread::spawn(move || to_drill.write_all(&bytes));
     let mut output = Vec::new();
     let read = from_drill.read_to_end(&mut output);
     let written = writer.join().expect("writing to a pipe does not panic");
@@ -58,7 +59,7 @@ pub fn run(drill: &mut Command, script: &str) -> Result<Explained, RunError> {
         Err(error) if error.kind() != ErrorKind::BrokenPipe => return Err(RunError::Stream(error)),
         _ => {}
     }
-    let words = text(output).and_then(|lines| explain(&lines));
+    let words = text(output).and_then(|lines| explain(&lines, Some(&input)));
     let words = words.map_err(|error| RunError::Output(error, status))?;
     Ok(Explained { words, status })
 }

@@ -1,6 +1,7 @@
 //! A readable script of a policy and calls becomes the bytes that the drill reads.
 //! Only what the binary form asks is checked, that each number fits its field, so refused calls can be written too.
 
+use crate::input::{DrillInput, MOST_ENTRIES};
 use crate::LineError;
 
 /// The field of the binary form that a number goes to.
@@ -32,7 +33,7 @@ const ITEMS: &str = "policy, approve, edit, synchronise, fetch, write, enter, le
 device-write, call or bytes";
 
 /// Encodes a script as drill input.
-pub fn encode(script: &str) -> Result<Vec<u8>, LineError> {
+pub fn encode(script: &str) -> Result<DrillInput, LineError> {
     let mut encoder = Encoder::default();
     for (at, line) in script.lines().enumerate() {
         let item = line.split('#').next().unwrap_or_default();
@@ -60,7 +61,7 @@ impl Words<'_> {
     fn name(&mut self, name: &str) -> Result<(), LineError> {
         match self.rest.next() {
             Some(found) if found == name => Ok(()),
-            Some(found) => self.error(format!("'{name}' is expected, not '{found}'")),
+            Some(found) => self.error(format!("'{name}' is expected, not '{}'", found)),
             None => self.error(format!("'{name}' is missing")),
         }
     }
@@ -96,36 +97,47 @@ impl Words<'_> {
         };
         if digits.is_empty() || !digits.chars().all(|digit| digit.is_digit(radix)) {
             return self.error(format!(
-                "the {name} is a number, decimal or hexadecimal with 0x, not '{word}'"
+                "the {name} is a number, decimal or hexadecimal with 0x, not '{}'",
+                word
             ));
         }
         match u64::from_str_radix(digits, radix) {
             Ok(number) if number <= largest => Ok(number),
-            _ => self.error(format!("the {name} {word} does not fit its field, at most {largest}")),
+            _ => {
+                self.error(format!("the {name} {} does not fit its field, at most {largest}", word))
+            }
         }
     }
 
     fn end(&mut self) -> Result<(), LineError> {
         match self.rest.next() {
             None => Ok(()),
-            Some(word) => self.error(format!("'{word}' is too much on this line")),
+            Some(word) => self.error(format!("'{}' is too much on this line", word)),
         }
     }
 }
 
 /// A policy that is being listed.
 struct Policy {
+    line: usize,
     pages: u16,
     frames: u16,
     /// Given only to write a record whose counts do not fit its arrays.
     listed: Option<u16>,
     entries: Option<u16>,
-    entry_pages: Vec<(u16, u16)>,
-    other_pages: Vec<(u16, u16)>,
+    approvals: Vec<Approval>,
+}
+
+struct Approval {
+    line: usize,
+    page: u16,
+    frame: u16,
+    is_entry: bool,
 }
 
 impl Policy {
     fn read(words: &mut Words) -> Result<Policy, LineError> {
+        let line = words.line;
         let pages = words.named16("pages", PAGES)?;
         let frames = words.named16("frames", FRAMES)?;
         let mut count = |name: &str, field| {
@@ -134,31 +146,56 @@ impl Policy {
         };
         let listed = count("listed", LISTED)?;
         let entries = count("entries", ENTRIES)?;
-        Ok(Policy { pages, frames, listed, entries, entry_pages: vec![], other_pages: vec![] })
+        Ok(Policy { line, pages, frames, listed, entries, approvals: vec![] })
     }
 
     fn approve(&mut self, words: &mut Words) -> Result<(), LineError> {
-        let approval = (words.named16("page", PAGE)?, words.named16("frame", FRAME)?);
-        if self.entry_pages.len() + self.other_pages.len() == usize::from(u16::MAX) {
+        let page = words.named16("page", PAGE)?;
+        let frame = words.named16("frame", FRAME)?;
+        if self.approvals.len() == usize::from(u16::MAX) {
             return words.error("a policy lists at most 65535 pages".into());
         }
-        if words.has_name("entry") {
-            self.entry_pages.push(approval);
-        } else {
-            self.other_pages.push(approval);
-        }
+        let is_entry = words.has_name("entry");
+        self.approvals.push(Approval { line: words.line, page, frame, is_entry });
         Ok(())
     }
 
+    fn marked(&self, is_entry: bool) -> impl Iterator<Item = &Approval> {
+        self.approvals.iter().filter(move |approval| approval.is_entry == is_entry)
+    }
+
+    /// n, with the line of the first page too many where the pages were counted.
+    fn listed(&self) -> (u16, usize) {
+        let too_many = || self.approvals.get(usize::from(self.pages));
+        match self.listed {
+            Some(count) => (count, self.line),
+            None => (self.approvals.len() as u16, too_many().map_or(self.line, |page| page.line)),
+        }
+    }
+
+    /// e, with the line of the lowest page where none is marked, or of the first mark too many.
+    fn entries(&self) -> (u16, usize) {
+        let count = self.marked(true).count();
+        let wrong = match count {
+            0 => self.approvals.iter().min_by_key(|approval| approval.page),
+            _ => self.marked(true).nth(usize::from(MOST_ENTRIES)),
+        };
+        match self.entries {
+            Some(count) => (count, self.line),
+            None => (count as u16, wrong.map_or(self.line, |approval| approval.line)),
+        }
+    }
+
     /// Sizes, pages, frames; entry pages come first.
-    fn record(&self) -> Vec<u8> {
-        let approvals = || self.entry_pages.iter().chain(&self.other_pages);
-        let listed = self.listed.unwrap_or(approvals().count() as u16);
-        let entries = self.entries.unwrap_or(self.entry_pages.len() as u16);
-        let sizes = [self.pages, self.frames, listed, entries];
-        let pages = approvals().map(|&(page, _)| page);
-        let frames = approvals().map(|&(_, frame)| frame);
-        sizes.into_iter().chain(pages).chain(frames).flat_map(u16::to_le_bytes).collect()
+    fn record(&self, input: &mut DrillInput) {
+        let sizes =
+            [(self.pages, self.line), (self.frames, self.line), self.listed(), self.entries()];
+        let approvals = || self.marked(true).chain(self.marked(false));
+        let pages = approvals().map(|approval| (approval.page, approval.line));
+        let frames = approvals().map(|approval| (approval.frame, approval.line));
+        for (number, line) in sizes.into_iter().chain(pages).chain(frames) {
+            input.push(&number.to_le_bytes(), line);
+        }
     }
 }
 
@@ -176,8 +213,8 @@ fn call(kind: u8, index: u16, length: u64, value: u64) -> [u8; 16] {
 struct Encoder {
     /// The policy, until the first call closes it.
     policy: Option<Policy>,
-    bytes: Vec<u8>,
-    has_begun: bool,
+    /// The bytes, from the first item on.
+    input: Option<DrillInput>,
 }
 
 impl Encoder {
@@ -189,51 +226,55 @@ impl Encoder {
                 None => words.error("'approve' comes after the policy and before the calls".into()),
             },
             "bytes" => {
-                self.close_policy();
-                self.raw_bytes(words)
+                let bytes = read_bytes(words)?;
+                self.input.get_or_insert_with(|| DrillInput::new(words.line));
+                self.push(&bytes, words)
             }
             _ => {
                 let bytes = read_call(name, words)?;
-                if !self.has_begun {
-                    return words.error("a script begins with its policy".into());
-                }
-                self.close_policy();
-                self.bytes.extend(bytes);
-                Ok(())
+                self.push(&bytes, words)
             }
         }
     }
 
+    fn push(&mut self, bytes: &[u8], words: &Words) -> Result<(), LineError> {
+        self.close_policy();
+        let Some(input) = &mut self.input else {
+            return words.error("a script begins with its policy".into());
+        };
+        input.push(bytes, words.line);
+        Ok(())
+    }
+
     fn begin(&mut self, words: &mut Words) -> Result<(), LineError> {
-        if self.has_begun {
+        if self.input.is_some() {
             return words.error("a script has one policy, at its beginning".into());
         }
-        self.has_begun = true;
+        self.input = Some(DrillInput::new(words.line));
         self.policy = Some(Policy::read(words)?);
         Ok(())
     }
 
     fn close_policy(&mut self) {
-        if let Some(policy) = self.policy.take() {
-            self.bytes.extend(policy.record());
+        if let (Some(policy), Some(input)) = (self.policy.take(), &mut self.input) {
+            policy.record(input);
         }
     }
 
-    fn raw_bytes(&mut self, words: &mut Words) -> Result<(), LineError> {
-        self.has_begun = true;
-        while words.rest.clone().next().is_some() {
-            self.bytes.push(words.number(BYTE)? as u8);
-        }
-        Ok(())
-    }
-
-    fn finish(mut self, last_line: usize) -> Result<Vec<u8>, LineError> {
-        if !self.has_begun {
-            return Err(LineError::new(last_line, "the script has no policy"));
-        }
+    fn finish(mut self, last_line: usize) -> Result<DrillInput, LineError> {
         self.close_policy();
-        Ok(self.bytes)
+        let input =
+            self.input.ok_or_else(|| LineError::new(last_line, "the script has no policy"))?;
+        Ok(input)
     }
+}
+
+fn read_bytes(words: &mut Words) -> Result<Vec<u8>, LineError> {
+    let mut bytes = vec![];
+    while words.rest.clone().next().is_some() {
+        bytes.push(words.number(BYTE)? as u8);
+    }
+    Ok(bytes)
 }
 
 fn read_call(name: &str, words: &mut Words) -> Result<[u8; 16], LineError> {
@@ -255,7 +296,7 @@ fn read_call(name: &str, words: &mut Words) -> Result<[u8; 16], LineError> {
             let length = words.named("length", LENGTH)?;
             call(kind, index, length, words.named("value", VALUE)?)
         }
-        _ => return words.error(format!("'{name}' is no item; an item is {ITEMS}")),
+        _ => return words.error(format!("'{}' is no item; an item is {ITEMS}", name)),
     })
 }
 

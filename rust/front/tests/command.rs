@@ -3,23 +3,28 @@
 
 mod common;
 
+use std::ffi::OsStr;
 use std::io::Write;
-use std::process::{Command, Output, Stdio};
+use std::process::{Child, Command, Output, Stdio};
 
 const POLICY: &str = "policy pages 4 frames 4\napprove page 1 frame 2 entry\n";
 
-/// Runs the program with arguments and input.
-fn guard_front(arguments: &[&str], input: &[u8]) -> Output {
-    let mut child = Command::new(env!("CARGO_BIN_EXE_guard-front"))
-        .args(arguments)
-        .stdin(Stdio::piped())
-        .stdout(Stdio::piped())
-        .stderr(Stdio::piped())
-        .spawn()
-        .unwrap();
+/// The program, started, with pipes for its input, output and messages.
+fn started(arguments: &[impl AsRef<OsStr>]) -> Child {
+    let mut command = Command::new(env!("CARGO_BIN_EXE_guard-front"));
+    let piped = command.stdin(Stdio::piped()).stdout(Stdio::piped()).stderr(Stdio::piped());
+    piped.args(arguments).spawn().unwrap()
+}
+
+/// Gives the program its input, and waits for its end.
+fn finished(mut child: Child, input: &[u8]) -> Output {
     // A program that ends before it reads closes the pipe.
     let _ = child.stdin.take().unwrap().write_all(input);
     child.wait_with_output().unwrap()
+}
+
+fn guard_front(arguments: &[impl AsRef<OsStr>], input: &[u8]) -> Output {
+    finished(started(arguments), input)
 }
 
 fn printed(arguments: &[&str], input: &[u8]) -> Vec<u8> {
@@ -29,12 +34,21 @@ fn printed(arguments: &[&str], input: &[u8]) -> Vec<u8> {
     output.stdout
 }
 
+fn words(arguments: &[&str], input: &[u8]) -> String {
+    String::from_utf8(printed(arguments, input)).unwrap()
+}
+
 /// The message on standard error, where the status is 1 and nothing is printed.
 fn message(arguments: &[&str], input: &[u8]) -> String {
     let output = guard_front(arguments, input);
     assert_eq!(output.status.code(), Some(1), "{arguments:?}");
     assert!(output.stdout.is_empty(), "{arguments:?}");
     String::from_utf8(output.stderr).unwrap()
+}
+
+/// A path below the repository's root, as an argument.
+fn path(below_root: &str) -> String {
+    common::path(below_root).to_str().unwrap().to_string()
 }
 
 #[test]
@@ -46,30 +60,57 @@ fn encode_prints_bytes() {
 
 #[test]
 fn explain_prints_words() {
-    let lines = std::fs::read(common::vectors().join("worked-example.out")).unwrap();
-    let words = common::read("examples/worked.explained");
-    assert_eq!(printed(&["explain"], &lines), words.as_bytes());
+    let lines = common::read("tests/vectors/base/worked-example.out");
+    let with_lines = common::read("examples/worked.explained");
+    let arguments = ["explain", &path("examples/worked.script")];
+    assert_eq!(words(&arguments, lines.as_bytes()), with_lines);
+    // Without the script no line can be named.
+    let without = with_lines.lines().map(|line| match line.strip_prefix("line ") {
+        Some(answer) => format!("{}\n", answer.split_once(": ").unwrap().1),
+        None => format!("{line}\n"),
+    });
+    assert_eq!(words(&["explain"], lines.as_bytes()), without.collect::<String>());
+}
+
+#[test]
+fn explain_tells_of_a_script_that_does_not_fit() {
+    let lines = common::read("tests/vectors/base/worked-example.out");
+    let hotel = message(&["explain", &path("examples/hotel.script")], lines.as_bytes());
+    assert_eq!(hotel, "line 3: this does not answer line 11 of the script\n");
+    let faulty = path("README.md");
+    let bad = message(&["explain", &faulty], lines.as_bytes());
+    assert!(bad.starts_with(&format!("{faulty}, line ")), "{bad}");
+    let missing = message(&["explain", "no-such-script"], lines.as_bytes());
+    assert!(missing.starts_with("no-such-script cannot be read: "), "{missing}");
 }
 
 #[test]
 fn refusals_prints_the_page() {
-    assert_eq!(printed(&["refusals"], b""), common::read("docs/REFUSALS.md").as_bytes());
+    assert_eq!(words(&["refusals"], b""), common::read("docs/REFUSALS.md"));
 }
 
 #[test]
 fn bad_input_gives_a_line_and_nothing_else() {
     let bad_script = format!("{POLICY}fetch page x\n");
-    let bad_page = "the page is a number, decimal or hexadecimal with 0x, not 'x'";
+    let bad_page = "line 3: the page is a number, decimal or hexadecimal with 0x, not 'x'\n";
     for arguments in [&["encode"][..], &["run", "cat"]] {
-        assert_eq!(message(arguments, bad_script.as_bytes()), format!("line 3: {bad_page}\n"));
+        assert_eq!(message(arguments, bad_script.as_bytes()), bad_page);
+        assert_eq!(message(arguments, b"# 1\n# \xff\n"), "line 2: the text is not UTF-8\n");
     }
-    assert_eq!(message(&["encode"], b"# 1\n# \xff\n"), "line 2: the text is not UTF-8\n");
     assert_eq!(message(&["explain"], b"S 0 1 1 K 1\nT\n"), "line 2: 'T' is no line of the drill\n");
 }
 
 #[test]
 fn wrong_use_gives_the_usage() {
-    for arguments in [&[][..], &["decode"], &["run"], &["encode", "file"]] {
+    let uses = [
+        &[][..],
+        &["decode"],
+        &["run"],
+        &["encode", "file"],
+        &["explain", "file", "file"],
+        &["refusals", "file"],
+    ];
+    for arguments in uses {
         let output = guard_front(arguments, b"");
         assert_eq!(output.status.code(), Some(2), "{arguments:?}");
         assert!(output.stdout.is_empty() && output.stderr.starts_with(b"usage: guard-front"));
@@ -81,31 +122,36 @@ fn wrong_use_gives_the_usage() {
 fn run_hands_the_bytes_to_the_drill_and_explains_its_lines() {
     // This drill prints its output only where its input is the worked example's.
     let drill = "cmp -s - \"$1.in\" && cat \"$1.out\"";
-    let vector = common::vectors().join("worked-example");
+    let vector = path("tests/vectors/base/worked-example");
     let script = common::read("examples/worked.script");
-    let arguments = ["run", "sh", "-c", drill, "drill", vector.to_str().unwrap()];
-    let words = common::read("examples/worked.explained");
-    assert_eq!(printed(&arguments, script.as_bytes()), words.as_bytes());
+    let arguments = ["run", "sh", "-c", drill, "drill", &vector];
+    assert_eq!(words(&arguments, script.as_bytes()), common::read("examples/worked.explained"));
 }
 
+/// The longest list that can be written does not fit a pipe.
 #[test]
 fn run_copes_with_a_drill_that_stops_reading() {
-    let script = POLICY.to_string() + &"synchronise all\n".repeat(20_000);
-    let arguments = ["run", "sh", "-c", "echo S 0 1 1 K 1"];
-    let words = "start accepted: 1 page listed, 1 entry page; kernel mode, page 1\n";
-    assert_eq!(printed(&arguments, script.as_bytes()), words.as_bytes());
+    let list = "approve page 0 frame 0 entry\n".repeat(65535);
+    let script = format!("policy pages 1 frames 1\n{list}");
+    let explained = words(&["run", "sh", "-c", "echo S 3 0 0 U 0"], script.as_bytes());
+    let expected = "line 3: start refused: 3, n or e is out of range \
+                    (65535 pages are listed, and the policy has 1); user mode, page 0; no guard was started\n";
+    assert_eq!(explained, expected);
 }
 
 #[test]
 fn run_tells_of_a_drill_that_fails() {
-    let missing = message(&["run", "./no-such-drill"], POLICY.as_bytes());
-    assert!(missing.starts_with("the drill cannot be run: "), "{missing}");
     let silent = message(&["run", "sh", "-c", "cat > /dev/null; exit 3"], POLICY.as_bytes());
     assert!(silent.starts_with("the drill's output, line 1: "), "{silent}");
     assert!(silent.contains("exit status: 3"), "{silent}");
-    let arguments = ["run", "sh", "-c", "cat > /dev/null; echo S 4 0 0 U 0; exit 3"];
-    let output = guard_front(&arguments, POLICY.as_bytes());
-    assert_eq!(output.status.code(), Some(1));
-    assert!(output.stdout.starts_with(b"start refused: 4, "), "what was printed is explained");
-    assert_eq!(output.stderr, b"the drill ended with exit status: 3\n");
+    for (end, told) in [("exit 3", "exit status: 3"), ("kill -9 $$", "signal: 9 (SIGKILL)")] {
+        let drill = format!("cat > /dev/null; echo S 0 1 1 K 1; {end}");
+        let output = guard_front(&["run", "sh", "-c", &drill], POLICY.as_bytes());
+        assert_eq!(output.status.code(), Some(1));
+        assert!(output.stdout.starts_with(b"line 1: start accepted: "), "what came is explained");
+        assert_eq!(
+            String::from_utf8(output.stderr).unwrap(),
+            format!("the drill ended with {told}\n")
+        );
+    }
 }

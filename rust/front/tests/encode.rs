@@ -5,6 +5,14 @@ mod common;
 
 use front::encode;
 
+fn bytes(script: &str) -> Vec<u8> {
+    encode(script).unwrap().bytes
+}
+
+fn message(script: &str) -> String {
+    encode(script).unwrap_err().to_string()
+}
+
 /// The worked example of document 01, byte by byte.
 const WORKED: [u8; 124] = [
     4, 0, 4, 0, 1, 0, 1, 0, // V 4, F 4, n 1, e 1
@@ -20,14 +28,14 @@ const WORKED: [u8; 124] = [
 
 #[test]
 fn worked_example() {
-    assert_eq!(encode(&common::read("examples/worked.script")).unwrap(), WORKED);
-    let vector = std::fs::read(common::vectors().join("worked-example.in")).unwrap();
+    assert_eq!(bytes(&common::read("examples/worked.script")), WORKED);
+    let vector = std::fs::read(common::path("tests/vectors/base/worked-example.in")).unwrap();
     assert_eq!(vector, WORKED);
 }
 
 /// The bytes of one item after a policy without approvals.
 fn item(line: &str) -> Vec<u8> {
-    let bytes = encode(&format!("policy pages 0x102 frames 772\n{line}\n")).unwrap();
+    let bytes = bytes(&format!("policy pages 0x102 frames 772\n{line}\n"));
     assert_eq!(bytes[..8], [2, 1, 4, 3, 0, 0, 0, 0]);
     bytes[8..].to_vec()
 }
@@ -64,7 +72,7 @@ fn entry_pages_come_first_in_listed_order() {
                   approve page 3 frame 7\n\
                   approve page 0 frame 8 entry\n";
     let numbers = [9, 9, 4, 2, 2, 0, 1, 3, 6, 8, 5, 7];
-    assert_eq!(encode(script).unwrap(), numbers.map(u16::to_le_bytes).concat());
+    assert_eq!(bytes(script), numbers.map(u16::to_le_bytes).concat());
 }
 
 #[test]
@@ -72,12 +80,12 @@ fn comments_blanks_and_line_ends() {
     let plain = "policy pages 4 frames 4\napprove page 1 frame 2 entry\nsynchronise all\n";
     let spread = "# a comment\r\n\r\n  policy\tpages 4   frames 0x4 # sizes\r\n#\r\n\
                   approve page 1 frame 2 entry#no blank\r\n   \r\nsynchronise all";
-    assert_eq!(encode(spread).unwrap(), encode(plain).unwrap());
+    assert_eq!(bytes(spread), bytes(plain));
 }
 
 /// The number in the drill's first line.
 fn start_number(script: &str) -> String {
-    let printed = common::reference_drill(&encode(script).unwrap());
+    let printed = common::reference_drill(&bytes(script));
     printed.split(' ').nth(1).unwrap().to_string()
 }
 
@@ -108,7 +116,7 @@ fn calls_that_end_the_drill_can_be_written() {
     for (rest, line) in
         [("bytes 1 0 0", "X 14 0 0 K 0"), ("call kind 8 index 0 length 0 value 0", "X 15 0 0 K 0")]
     {
-        let printed = common::reference_drill(&encode(&format!("{started}{rest}")).unwrap());
+        let printed = common::reference_drill(&bytes(&format!("{started}{rest}")));
         assert_eq!(printed.lines().nth(1), Some(line));
     }
 }
@@ -147,7 +155,7 @@ fn bad_scripts() {
         ),
     ];
     for (script, message) in scripts {
-        assert_eq!(encode(script).unwrap_err().to_string(), message);
+        assert_eq!(self::message(script), message);
     }
 }
 
@@ -176,20 +184,18 @@ fn bad_items() {
     ];
     for (item, message) in items {
         let script = format!("# first\npolicy pages 4 frames 4\n\n{item}\nfetch page nowhere\n");
-        assert_eq!(encode(&script).unwrap_err().to_string(), format!("line 4: {message}"));
+        assert_eq!(self::message(&script), format!("line 4: {message}"));
     }
 }
 
 #[test]
 fn an_approval_after_a_call_comes_too_late() {
     let script = "policy pages 4 frames 4\nsynchronise all\napprove page 1 frame 2";
-    let message = "line 3: 'approve' comes after the policy and before the calls";
-    assert_eq!(encode(script).unwrap_err().to_string(), message);
+    assert_eq!(message(script), "line 3: 'approve' comes after the policy and before the calls");
 }
 
 #[test]
 fn no_more_approvals_than_the_count_holds() {
     let script = format!("policy pages 4 frames 4{}", "\napprove page 1 frame 2".repeat(65536));
-    let message = "line 65537: a policy lists at most 65535 pages";
-    assert_eq!(encode(&script).unwrap_err().to_string(), message);
+    assert_eq!(message(&script), "line 65537: a policy lists at most 65535 pages");
 }

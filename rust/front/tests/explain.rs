@@ -3,11 +3,11 @@
 
 mod common;
 
-use front::{explain, refusals};
+use front::{encode, explain, refusals};
 
 /// The words of one line.
 fn words(line: &str) -> String {
-    let explained = explain(line).unwrap();
+    let explained = explain(line, None).unwrap();
     explained.strip_suffix('\n').expect("each line ends").to_string()
 }
 
@@ -84,7 +84,7 @@ fn shadow_entries_and_share() {
                     page 6: absent, writable, user, frame 1\n\
                     page 7: present, frame 1, other bits 0x4000000000000808\n\
                     share: 25 percent of the frames are excluded\n";
-    assert_eq!(explain(lines).unwrap(), expected);
+    assert_eq!(explain(lines, None).unwrap(), expected);
 }
 
 #[test]
@@ -106,6 +106,65 @@ fn lines_that_are_none() {
         ("share", "line 1: 'share' is no line of the drill"),
     ];
     for (line, message) in lines {
-        assert_eq!(explain(line).unwrap_err().to_string(), message);
+        assert_eq!(explain(line, None).unwrap_err().to_string(), message);
+    }
+}
+
+const SCRIPT: &str = "\
+policy pages 4 frames 4 # a comment
+approve page 1 frame 2 entry
+
+fetch page 1
+# another
+bytes 4 0 0 0 1 0 0 0 0 0 0 0 0 0 0 0 2 0 0 0 0 0 0 0 0 0 0 0 0 0 0 0
+call kind 9 index 0 length 0 value 0
+leave page 3
+";
+
+#[test]
+fn answers_name_the_lines_of_the_script() {
+    let script = encode(SCRIPT).unwrap();
+    let lines = "S 0 1 1 K 1\n3 0 2 2 K 1\n4 11 0 0 K 1\n2 0 1 0 K 1\nX 15 0 0 K 1\n\
+                 0000000000000000\nshare 25\n";
+    let expected = "\
+line 1: start accepted: 1 page listed, 1 entry page; kernel mode, page 1
+line 4: fetch accepted: frame 2; kernel mode, page 1
+line 6: write refused: 11, a touched page is not present; kernel mode, page 1
+line 6: synchronise all accepted: 1 shadow entry changed, 0 pages joined the map; kernel mode, page 1
+line 7: calls ended: 15, the kind of call is unknown; kernel mode, page 1
+page 0: absent
+share: 25 percent of the frames are excluded
+";
+    assert_eq!(explain(lines, Some(&script)).unwrap(), expected);
+}
+
+/// A drill may refuse what the front finds no fault with; then the start has its line alone.
+#[test]
+fn a_refused_start_without_a_cause() {
+    let script = encode(SCRIPT).unwrap();
+    let words = explain("S 7 0 0 U 0", Some(&script)).unwrap();
+    let expected = "line 1: start refused: 7, the state or the length of a table does not fit; \
+                    user mode, page 0; no guard was started\n";
+    assert_eq!(words, expected);
+    for number in 1..=6 {
+        let words = explain(&format!("S {number} 0 0 U 0"), Some(&script)).unwrap();
+        assert!(words.starts_with("line 1: ") && !words.contains('('), "{words}");
+    }
+}
+
+#[test]
+fn lines_that_another_script_made() {
+    let script = encode(SCRIPT).unwrap();
+    let outputs = [
+        ("3 0 2 2 K 1", "line 1: the start's line comes first"),
+        ("S 0 1 1 K 1\nS 0 1 1 K 1", "line 2: this does not answer line 4 of the script"),
+        ("S 0 1 1 K 1\n4 0 2 2 K 1", "line 2: this does not answer line 4 of the script"),
+        (
+            "S 0 1 1 K 1\n3 0 2 2 K 1\n4 0 2 2 K 1\n2 0 0 0 K 1\nX 15 0 0 K 1\n6 0 0 0 U 3\n2 0 0 0 U 3",
+            "line 7: the script has no call for this line",
+        ),
+    ];
+    for (lines, message) in outputs {
+        assert_eq!(explain(lines, Some(&script)).unwrap_err().to_string(), message);
     }
 }

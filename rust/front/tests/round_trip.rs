@@ -12,29 +12,37 @@ use front::{encode, explain};
 fn examples() {
     for name in ["worked", "hotel"] {
         let input = encode(&common::read(&format!("examples/{name}.script"))).unwrap();
-        let explained = explain(&common::reference_drill(&input)).unwrap();
+        let printed = common::reference_drill(&input.bytes);
+        let explained = explain(&printed, Some(&input)).unwrap();
         assert_eq!(explained, common::read(&format!("examples/{name}.explained")), "{name}");
     }
 }
 
-/// The comments of the hotel's script say which calls are refused, and with which number.
+/// The comments of the hotel's script say which calls are refused, and with which number. The explained lines name the line of
+/// each call, every one once.
 #[test]
 fn the_comments_of_the_hotel_are_true() {
     let script = common::read("examples/hotel.script");
-    let printed = common::reference_drill(&encode(&script).unwrap());
-    let items = script.lines().filter(|line| !line.trim().is_empty() && !line.starts_with('#'));
-    let calls: Vec<_> =
-        items.filter(|item| !item.starts_with("policy") && !item.starts_with("approve")).collect();
-    let mut refused = 0;
-    for (call, line) in calls.iter().zip(printed.lines().skip(1)) {
-        let number = line.split(' ').nth(1).unwrap();
-        let comment = call.split_once("# refused, ").map_or("0", |(_, comment)| comment);
-        assert_eq!(comment.split(':').next(), Some(number), "{call}: {line}");
-        if number != "0" {
-            refused += 1;
+    let explained = common::read("examples/hotel.explained");
+    let answers = explained.lines().filter_map(|line| line.strip_prefix("line ")).skip(1);
+    let answers: Vec<_> = answers.map(|answer| answer.split_once(": ").unwrap()).collect();
+    let mut calls = vec![];
+    for (at, item) in script.lines().enumerate() {
+        let is_call = !item.trim().is_empty()
+            && !["#", "policy", "approve"].iter().any(|other| item.starts_with(other));
+        if is_call {
+            let comment = item.split_once("# refused, ").map(|(_, comment)| comment);
+            calls.push(((at + 1).to_string(), item, comment));
         }
     }
-    assert!(refused > 5);
+    assert_eq!(answers.len(), calls.len());
+    for ((named, words), (line, item, comment)) in answers.iter().zip(&calls) {
+        assert_eq!(named, line);
+        let number = words.split_once("refused: ").map(|(_, words)| words);
+        let up_to = |mark| move |text: &str| text.split(mark).next().map(str::to_string);
+        assert_eq!(number.and_then(up_to(',')), comment.and_then(up_to(':')), "{item}");
+    }
+    assert!(calls.iter().filter(|(_, _, comment)| comment.is_some()).count() > 5);
 }
 
 fn word(bytes: &[u8], place: usize) -> u16 {
@@ -45,23 +53,25 @@ fn bytes_line(bytes: &[u8]) -> String {
     bytes.iter().fold("bytes".to_string(), |line, byte| format!("{line} {byte}")) + "\n"
 }
 
+/// Where the record of a drill input ends, if it is whole.
+fn record_end(input: &[u8]) -> Option<usize> {
+    let listed = (input.len() >= 8).then(|| usize::from(word(input, 2)))?;
+    let end = if (1..=2048).contains(&listed) { 8 + 4 * listed } else { 8 };
+    (end <= input.len()).then_some(end)
+}
+
 /// A drill input as a script; a record that is cut short is given as bytes.
 fn script_of(input: &[u8]) -> String {
-    let sizes = (input.len() >= 8).then(|| [0, 1, 2, 3].map(|place| word(input, place)));
-    let listed = sizes.map_or(0, |[_, _, n, _]| usize::from(n));
-    let end = if (1..=2048).contains(&listed) { 8 + 4 * listed } else { 8 };
-    let (mut script, calls) = match sizes {
-        Some([v, f, n, e]) if input.len() >= end => {
-            let mut script = format!("policy pages {v} frames {f} listed {n} entries {e}\n");
-            for place in 4..end / 4 + 2 {
-                let (page, frame) = (word(input, place), word(input, place + listed));
-                writeln!(script, "approve page {page} frame {frame}").unwrap();
-            }
-            (script, &input[end..])
-        }
-        _ => (bytes_line(input), &[][..]),
+    let Some(end) = record_end(input) else {
+        return bytes_line(input);
     };
-    for call in calls.chunks(16) {
+    let [v, f, n, e] = [0, 1, 2, 3].map(|place| word(input, place));
+    let mut script = format!("policy pages {v} frames {f} listed {n} entries {e}\n");
+    for place in 4..end / 4 + 2 {
+        let (page, frame) = (word(input, place), word(input, place + usize::from(n)));
+        writeln!(script, "approve page {page} frame {frame}").unwrap();
+    }
+    for call in input[end..].chunks(16) {
         script.push_str(&call_line(call));
     }
     script
@@ -95,12 +105,19 @@ fn vectors_as_scripts() {
         if path.extension().is_none_or(|extension| extension != "in") {
             continue;
         }
-        let input = fs::read(&path).unwrap();
+        let name = path.display();
+        let mut input = fs::read(&path).unwrap();
         let expected = fs::read_to_string(path.with_extension("out")).unwrap();
+        // The drill reads no further than its 1,024th call.
+        input.truncate(record_end(&input).map_or(usize::MAX, |end| end + 16 * 1024));
         let encoded = encode(&script_of(&input)).unwrap();
-        assert_eq!(encoded.len(), input.len(), "{}", path.display());
-        assert_eq!(common::reference_drill(&encoded), expected, "{}", path.display());
-        assert_eq!(explain(&expected).unwrap().lines().count(), expected.lines().count());
+        assert_eq!(encoded.bytes.len(), input.len(), "{name}");
+        assert_eq!(common::reference_drill(&encoded.bytes), expected, "{name}");
+        let explained = explain(&expected, Some(&encoded)).unwrap();
+        assert_eq!(explained.lines().count(), expected.lines().count(), "{name}");
+        // Each refused start is traced to its cause.
+        let is_traced = explained.lines().next().unwrap().contains('(');
+        assert_eq!(is_traced, !expected.starts_with("S 0 "), "{name}: {explained}");
         compared += 1;
     }
     assert!(compared > 0, "no vector was compared");

@@ -1,0 +1,107 @@
+//! Why a start was refused, and by which line of the script.
+//! The drill gives the number alone; the question behind it is asked once more here, of the same record.
+
+use crate::input::{DrillInput, Number, MOST_ENTRIES, MOST_FRAMES, MOST_PAGES, SIZES_BYTES};
+use crate::LineError;
+
+impl DrillInput {
+    /// What made the start answer this number.
+    pub(crate) fn cause(&self, number: u64) -> Option<LineError> {
+        match number {
+            1 => self.too_short(),
+            2 => self.size(),
+            3 => self.count(),
+            4 => self.length(),
+            5 => self.listed_page(),
+            6 => self.listed_frame(),
+            _ => None,
+        }
+    }
+
+    /// V, F, n and e.
+    fn sizes(&self) -> Option<[Number; 4]> {
+        Some([self.number(0)?, self.number(2)?, self.number(4)?, self.number(6)?])
+    }
+
+    fn too_short(&self) -> Option<LineError> {
+        let there = self.bytes.len();
+        let message = format!("{there} of the first {SIZES_BYTES} bytes are there");
+        (there < SIZES_BYTES).then(|| LineError::new(self.first_line, message))
+    }
+
+    fn size(&self) -> Option<LineError> {
+        let [pages, frames, _, _] = self.sizes()?;
+        let limits = [("pages", pages, MOST_PAGES), ("frames", frames, MOST_FRAMES)];
+        let (name, Number { value, line }, most) =
+            limits.into_iter().find(|(_, size, most)| !(1..=*most).contains(&size.value))?;
+        Some(LineError::new(line, format!("the number of {name} is {value}, not 1 to {most}")))
+    }
+
+    fn count(&self) -> Option<LineError> {
+        let [pages, _, listed, entries] = self.sizes()?;
+        let (v, n, e) = (pages.value, listed.value, entries.value);
+        let (line, message) = if n == 0 {
+            (listed.line, "no page is listed".into())
+        } else if n > v {
+            (listed.line, format!("{n} pages are listed, and the policy has {v}"))
+        } else if e == 0 {
+            let mark = "mark the lowest listed pages 'entry'";
+            (entries.line, format!("there is no entry page: {mark}"))
+        } else if e > MOST_ENTRIES {
+            (entries.line, format!("there are {e} entry pages, more than {MOST_ENTRIES}"))
+        } else if e > n {
+            (entries.line, format!("there are {e} entry pages, and {n} listed in all"))
+        } else {
+            return None;
+        };
+        Some(LineError::new(line, message))
+    }
+
+    fn length(&self) -> Option<LineError> {
+        let Number { value: n, line } = self.number(4)?;
+        let (there, needed) = (self.bytes.len(), SIZES_BYTES + 4 * usize::from(n));
+        let message = format!("the list of {n} needs {needed} bytes, and {there} are there");
+        (there < needed).then(|| LineError::new(line, message))
+    }
+
+    fn listed_page(&self) -> Option<LineError> {
+        let [v, _, n, e] = self.sizes()?.map(|size| size.value);
+        let pages: Vec<_> = self.numbers(SIZES_BYTES, n).collect();
+        let at = (0..pages.len()).find(|&at| {
+            let page = pages[at].value;
+            page >= v || at > 0 && page <= pages[at - 1].value
+        })?;
+        let (Number { value: page, line }, before) = (pages[at], &pages[..at]);
+        if page >= v {
+            let message = format!("page {page} is not below {v}, the number of pages");
+            return Some(LineError::new(line, message));
+        }
+        if let Some(same) = before.iter().find(|listed| listed.value == page) {
+            let (first, second) = (line.min(same.line), line.max(same.line));
+            let message = format!("page {page} is listed on line {first} too");
+            return Some(LineError::new(second, message));
+        }
+        let last = before.last()?;
+        if at == usize::from(e) {
+            let message = format!(
+                "entry page {} is not among the lowest: page {page} on line {line} is no entry page",
+                last.value
+            );
+            return Some(LineError::new(last.line, message));
+        }
+        let message = format!("page {page} comes after page {} on line {}", last.value, last.line);
+        Some(LineError::new(line, message))
+    }
+
+    fn listed_frame(&self) -> Option<LineError> {
+        let [_, f, n, _] = self.sizes()?.map(|size| size.value);
+        let frames = SIZES_BYTES + 2 * usize::from(n);
+        let Number { value, line } = self.numbers(frames, n).find(|frame| frame.value >= f)?;
+        let message = format!("frame {value} is not below {f}, the number of frames");
+        Some(LineError::new(line, message))
+    }
+
+    fn numbers(&self, offset: usize, count: u16) -> impl Iterator<Item = Number> + '_ {
+        (0..usize::from(count)).map_while(move |at| self.number(offset + 2 * at))
+    }
+}

@@ -1,0 +1,56 @@
+//! The drill's input with the script's line of every byte, so that an answer can be traced to its line.
+//! Record and calls are told apart as the drill does it.
+
+pub(crate) const SIZES_BYTES: usize = 8;
+const CALL_BYTES: usize = 16;
+pub(crate) const MOST_PAGES: u16 = 2048;
+pub(crate) const MOST_FRAMES: u16 = 4096;
+pub(crate) const MOST_ENTRIES: u16 = 16;
+
+/// What the drill reads, made from a script.
+#[derive(Clone, Debug, PartialEq, Eq)]
+pub struct DrillInput {
+    pub bytes: Vec<u8>,
+    /// For each byte the line to name where it is wrong.
+    lines: Vec<usize>,
+    /// The line of the first item, which begins the record.
+    pub(crate) first_line: usize,
+}
+
+/// A number of the record.
+#[derive(Clone, Copy)]
+pub(crate) struct Number {
+    pub value: u16,
+    pub line: usize,
+}
+
+impl DrillInput {
+    pub(crate) fn new(first_line: usize) -> Self {
+        DrillInput { bytes: vec![], lines: vec![], first_line }
+    }
+
+    pub(crate) fn push(&mut self, bytes: &[u8], line: usize) {
+        self.bytes.extend(bytes);
+        self.lines.resize(self.bytes.len(), line);
+    }
+
+    /// The number of two bytes at an offset.
+    pub(crate) fn number(&self, offset: usize) -> Option<Number> {
+        let bytes = self.bytes.get(offset..offset + 2)?;
+        let value = u16::from_le_bytes(bytes.try_into().ok()?);
+        Some(Number { value, line: self.lines[offset] })
+    }
+
+    /// Where the calls begin. Without a whole record of 1 to 2,048 pages the drill makes none.
+    fn calls_begin(&self) -> Option<usize> {
+        let listed = self.number(4)?.value;
+        let end = SIZES_BYTES + 4 * usize::from(listed);
+        ((1..=MOST_PAGES).contains(&listed) && end <= self.bytes.len()).then_some(end)
+    }
+
+    /// The line and the kind of a call, counted from 0.
+    pub(crate) fn call(&self, at: usize) -> Option<(usize, u8)> {
+        let offset = self.calls_begin()? + CALL_BYTES * at;
+        Some((*self.lines.get(offset)?, self.bytes[offset]))
+    }
+}
