@@ -2,6 +2,7 @@
 //! One line of words for each line of the drill, in the same order; with the script at hand, an answer begins with the line that it answers.
 
 use crate::refusals::refusal;
+use crate::text::shown;
 use crate::{DrillInput, LineError};
 
 /// Explains the drill's output, and names the lines of the script that made it where that is given.
@@ -82,7 +83,7 @@ fn beginning(line: usize) -> String {
 }
 
 fn no_line(line: &str) -> String {
-    format!("'{}' is no line of the drill", line)
+    format!("'{}' is no line of the drill", shown(line))
 }
 
 fn explain_call(kind: &str, number: u64, numbers: (u64, u64)) -> Result<String, String> {
@@ -97,7 +98,7 @@ fn explain_call(kind: &str, number: u64, numbers: (u64, u64)) -> Result<String, 
         "5" => "enter",
         "6" => "leave",
         "7" => "device write",
-        _ => return Err(format!("'{}' is no kind of call", kind)),
+        _ => return Err(format!("'{}' is no kind of call", shown(kind))),
     };
     if number == 0 {
         return match kind {
@@ -167,14 +168,14 @@ fn mode_word(mode: &str) -> Result<&'static str, String> {
     match mode {
         "K" => Ok("kernel"),
         "U" => Ok("user"),
-        _ => Err(format!("the mode is K or U, not '{}'", mode)),
+        _ => Err(format!("the mode is K or U, not '{}'", shown(mode))),
     }
 }
 
 fn decimal(word: &str) -> Result<u64, String> {
     let is_decimal = word.bytes().all(|digit| digit.is_ascii_digit());
     let number = word.parse().ok().filter(|_| is_decimal);
-    number.ok_or_else(|| format!("a decimal number is expected, not '{}'", word))
+    number.ok_or_else(|| format!("a decimal number is expected, not '{}'", shown(word)))
 }
 
 fn hexadecimal(word: &str) -> Result<u64, String> {

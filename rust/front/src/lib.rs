@@ -8,6 +8,7 @@ mod input;
 mod refusals;
 mod run;
 mod script;
+mod text;
 
 use std::fmt;
 
@@ -16,6 +17,7 @@ pub use input::DrillInput;
 pub use refusals::{refusals, refusals_page, RefusalWords};
 pub use run::{run, Explained, RunError};
 pub use script::encode;
+pub use text::text;
 
 /// What is wrong with a line of a script or of drill output. Lines are counted from 1.
 #[derive(Clone, Debug, PartialEq, Eq)]
@@ -37,12 +39,3 @@ impl fmt::Display for LineError {
 }
 
 impl std::error::Error for LineError {}
-
-/// Text from bytes; the error names the line of the first byte that is no text.
-pub fn text(bytes: Vec<u8>) -> Result<String, LineError> {
-    String::from_utf8(bytes).map_err(|error| {
-        let before = &error.as_bytes()[..error.utf8_error().valid_up_to()];
-        let line = 1 + before.iter().filter(|&&byte| byte == b'\n').count();
-        LineError::new(line, "the text is not UTF-8")
-    })
-}

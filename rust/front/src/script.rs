@@ -2,6 +2,7 @@
 //! Only what the binary form asks is checked, that each number fits its field, so refused calls can be written too.
 
 use crate::input::{DrillInput, MOST_ENTRIES};
+use crate::text::shown;
 use crate::LineError;
 
 /// The field of the binary form that a number goes to.
@@ -61,7 +62,7 @@ impl Words<'_> {
     fn name(&mut self, name: &str) -> Result<(), LineError> {
         match self.rest.next() {
             Some(found) if found == name => Ok(()),
-            Some(found) => self.error(format!("'{name}' is expected, not '{}'", found)),
+            Some(found) => self.error(format!("'{name}' is expected, not '{}'", shown(found))),
             None => self.error(format!("'{name}' is missing")),
         }
     }
@@ -98,21 +99,22 @@ impl Words<'_> {
         if digits.is_empty() || !digits.chars().all(|digit| digit.is_digit(radix)) {
             return self.error(format!(
                 "the {name} is a number, decimal or hexadecimal with 0x, not '{}'",
-                word
+                shown(word)
             ));
         }
         match u64::from_str_radix(digits, radix) {
             Ok(number) if number <= largest => Ok(number),
-            _ => {
-                self.error(format!("the {name} {} does not fit its field, at most {largest}", word))
-            }
+            _ => self.error(format!(
+                "the {name} {} does not fit its field, at most {largest}",
+                shown(word)
+            )),
         }
     }
 
     fn end(&mut self) -> Result<(), LineError> {
         match self.rest.next() {
             None => Ok(()),
-            Some(word) => self.error(format!("'{}' is too much on this line", word)),
+            Some(word) => self.error(format!("'{}' is too much on this line", shown(word))),
         }
     }
 }
@@ -296,7 +298,7 @@ fn read_call(name: &str, words: &mut Words) -> Result<[u8; 16], LineError> {
             let length = words.named("length", LENGTH)?;
             call(kind, index, length, words.named("value", VALUE)?)
         }
-        _ => return words.error(format!("'{}' is no item; an item is {ITEMS}", name)),
+        _ => return words.error(format!("'{}' is no item; an item is {ITEMS}", shown(name))),
     })
 }
 

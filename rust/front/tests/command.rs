@@ -56,6 +56,8 @@ fn encode_prints_bytes() {
     let script = common::read("examples/worked.script");
     let vector = std::fs::read(common::vectors().join("worked-example.in")).unwrap();
     assert_eq!(printed(&["encode"], script.as_bytes()), vector);
+    let marked = format!("\u{feff}{script}");
+    assert_eq!(printed(&["encode"], marked.as_bytes()), vector, "with a byte order mark");
 }
 
 #[test]
@@ -93,8 +95,10 @@ fn refusals_prints_the_page() {
 fn bad_input_gives_a_line_and_nothing_else() {
     let bad_script = format!("{POLICY}fetch page x\n");
     let bad_page = "line 3: the page is a number, decimal or hexadecimal with 0x, not 'x'\n";
+    let utf16 = b"\xff\xfep\0o\0l\0i\0c\0y\0";
     for arguments in [&["encode"][..], &["run", "cat"]] {
         assert_eq!(message(arguments, bad_script.as_bytes()), bad_page);
+        assert_eq!(message(arguments, utf16), "line 1: the text is UTF-16: save it as UTF-8\n");
         assert_eq!(message(arguments, b"# 1\n# \xff\n"), "line 2: the text is not UTF-8\n");
     }
     assert_eq!(message(&["explain"], b"S 0 1 1 K 1\nT\n"), "line 2: 'T' is no line of the drill\n");
