@@ -1,8 +1,11 @@
 //! The drill's input with the script's line of every byte, so that an answer can be traced to its line.
 //! Record and calls are told apart as the drill does it.
 
+use crate::LineError;
+
 pub(crate) const SIZES_BYTES: usize = 8;
 const CALL_BYTES: usize = 16;
+const MOST_CALLS: usize = 1024;
 pub(crate) const MOST_PAGES: u16 = 2048;
 pub(crate) const MOST_FRAMES: u16 = 4096;
 pub(crate) const MOST_ENTRIES: u16 = 16;
@@ -52,5 +55,18 @@ impl DrillInput {
     pub(crate) fn call(&self, at: usize) -> Option<(usize, u8)> {
         let offset = self.calls_begin()? + CALL_BYTES * at;
         Some((*self.lines.get(offset)?, self.bytes[offset]))
+    }
+
+    /// The drill reads no further than its last call, so that more of them would be dropped without a word.
+    pub(crate) fn check_calls(&self) -> Result<(), LineError> {
+        match self.call(MOST_CALLS) {
+            None => Ok(()),
+            Some((line, _)) => {
+                let next = MOST_CALLS + 1;
+                let message =
+                    format!("this is call {next}, and the drill takes {MOST_CALLS} at most");
+                Err(LineError::new(line, message))
+            }
+        }
     }
 }

@@ -26,6 +26,7 @@ A script has one item a line; # begins a comment; numbers are decimal, or hexade
   leave page P                     device-write address A length L
   call kind K index I length L value X     any call, also one of an unknown kind
   bytes [B ..]                             bytes as they are, also in place of the policy
+At most 1024 calls follow the policy.
 ";
 
 fn main() -> ExitCode {

@@ -267,6 +267,7 @@ impl Encoder {
         self.close_policy();
         let input =
             self.input.ok_or_else(|| LineError::new(last_line, "the script has no policy"))?;
+        input.check_calls()?;
         Ok(input)
     }
 }

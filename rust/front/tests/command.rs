@@ -95,9 +95,12 @@ fn refusals_prints_the_page() {
 fn bad_input_gives_a_line_and_nothing_else() {
     let bad_script = format!("{POLICY}fetch page x\n");
     let bad_page = "line 3: the page is a number, decimal or hexadecimal with 0x, not 'x'\n";
+    let long_script = format!("{POLICY}{}", "synchronise all\n".repeat(1025));
+    let too_many = "line 1027: this is call 1025, and the drill takes 1024 at most\n";
     let utf16 = b"\xff\xfep\0o\0l\0i\0c\0y\0";
     for arguments in [&["encode"][..], &["run", "cat"]] {
         assert_eq!(message(arguments, bad_script.as_bytes()), bad_page);
+        assert_eq!(message(arguments, long_script.as_bytes()), too_many);
         assert_eq!(message(arguments, utf16), "line 1: the text is UTF-16: save it as UTF-8\n");
         assert_eq!(message(arguments, b"# 1\n# \xff\n"), "line 2: the text is not UTF-8\n");
     }

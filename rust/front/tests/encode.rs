@@ -199,3 +199,29 @@ fn no_more_approvals_than_the_count_holds() {
     let script = format!("policy pages 4 frames 4{}", "\napprove page 1 frame 2".repeat(65536));
     assert_eq!(message(&script), "line 65537: a policy lists at most 65535 pages");
 }
+
+#[test]
+fn no_more_calls_than_the_drill_takes() {
+    let started = "policy pages 1 frames 1\napprove page 0 frame 0 entry\n";
+    let last = format!("{started}{}", "synchronise all\n\n".repeat(1024));
+    assert_eq!(bytes(&last).len(), 12 + 16 * 1024);
+    let too_many = "this is call 1025, and the drill takes 1024 at most";
+    // The call's own line, a cut call, and the last of three calls that are given as bytes on one line.
+    for next in ["# the end\nfetch page 0\nleave page 0", "# the end\nbytes 3"] {
+        assert_eq!(message(&format!("{last}{next}")), format!("line 2052: {too_many}"));
+    }
+    let in_one_line = format!("bytes{}", " 2".repeat(48));
+    let before = "synchronise all\n".repeat(1022);
+    let script = format!("{started}{before}{in_one_line}\n");
+    assert_eq!(message(&script), format!("line 1025: {too_many}"));
+}
+
+/// A list that is too long for the drill is the policy's fault, which the start tells; no call is made.
+#[test]
+fn a_long_list_is_not_taken_for_calls() {
+    let list: String =
+        (0..5000).map(|page| format!("approve page {page} frame 0 entry\n")).collect();
+    let bytes = bytes(&format!("policy pages 2048 frames 1\n{list}"));
+    assert_eq!(bytes.len(), 8 + 4 * 5000);
+    assert_eq!(common::reference_drill(&bytes), "S 3 0 0 U 0\n");
+}
