@@ -43,14 +43,14 @@ fn main() -> ExitCode {
         (Some("refusals"), []) => print(refusals_page().as_bytes()),
         (Some("help" | "--help" | "-h"), []) => print(USAGE.as_bytes()),
         _ => {
-            eprint!("{USAGE}");
+            complain(USAGE);
             return ExitCode::from(2);
         }
     };
     match done {
         Ok(()) => ExitCode::SUCCESS,
         Err(message) => {
-            eprintln!("{message}");
+            complain(&(message + "\n"));
             ExitCode::FAILURE
         }
     }
@@ -103,4 +103,9 @@ fn print(bytes: &[u8]) -> Result<(), String> {
     out.write_all(bytes)
         .and_then(|()| out.flush())
         .map_err(|error| format!("standard output cannot be written: {error}"))
+}
+
+/// Where standard error is closed too, the exit status says it alone.
+fn complain(message: &str) {
+    let _ = io::stderr().write_all(message.as_bytes());
 }

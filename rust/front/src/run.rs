@@ -1,8 +1,10 @@
 //! Runs a drill program on a script and explains what it prints.
 //! The drill may stop reading early, so its input is written beside the reading of its output.
 
+use std::ffi::OsString;
 use std::fmt;
 use std::io::{self, ErrorKind, Read, Write};
+use std::path::Path;
 use std::process::{Command, ExitStatus, Stdio};
 use std::thread;
 
@@ -21,7 +23,8 @@ pub struct Explained {
 #[derive(Debug)]
 pub enum RunError {
     Script(LineError),
-    Start(io::Error),
+    /// The drill program, and why it was not run.
+    Start(OsString, io::Error),
     Stream(io::Error),
     Output(LineError, ExitStatus),
 }
@@ -30,7 +33,16 @@ impl fmt::Display for RunError {
     fn fmt(&self, f: &mut fmt::Formatter) -> fmt::Result {
         match self {
             RunError::Script(error) => error.fmt(f),
-            RunError::Start(error) => write!(f, "the drill cannot be run: {error}"),
+            RunError::Start(drill, error) => {
+                let name = drill.to_string_lossy();
+                let name = name.escape_debug();
+                // A file that is there and not found lacks its interpreter, or is no name in PATH.
+                if error.kind() == ErrorKind::NotFound && !Path::new(drill).exists() {
+                    write!(f, "{name} is not there: `make drill` at the repository's root builds target/bin/drill")
+                } else {
+                    write!(f, "{name} cannot be run: {error}")
+                }
+            }
             RunError::Stream(error) => write!(f, "the drill's input or output failed: {error}"),
             RunError::Output(error, status) => {
                 write!(f, "the drill's output, {error} (the drill ended with {status})")
@@ -45,7 +57,8 @@ impl std::error::Error for RunError {}
 pub fn run(drill: &mut Command, script: &str) -> Result<Explained, RunError> {
     let input = encode(script).map_err(RunError::Script)?;
     let piped = drill.stdin(Stdio::piped()).stdout(Stdio::piped());
-    let mut child = piped.spawn().map_err(RunError::Start)?;
+    let spawned = piped.spawn();
+    let mut child = spawned.map_err(|error| RunError::Start(drill.get_program().into(), error))?;
     let mut to_drill = child.stdin.take().expect("the drill's input is a pipe");
     let mut from_drill = child.stdout.take().expect("the drill's output is a pipe");
     let bytes = input.bytes.clone();

@@ -5,6 +5,7 @@ mod common;
 
 use std::ffi::OsStr;
 use std::io::Write;
+use std::os::unix::ffi::OsStrExt;
 use std::process::{Child, Command, Output, Stdio};
 
 const POLICY: &str = "policy pages 4 frames 4\napprove page 1 frame 2 entry\n";
@@ -147,6 +148,17 @@ fn run_copes_with_a_drill_that_stops_reading() {
 }
 
 #[test]
+fn run_tells_of_a_drill_that_is_not_there() {
+    let missing = message(&["run", "no-such-folder/drill"], POLICY.as_bytes());
+    assert_eq!(
+        missing,
+        "no-such-folder/drill is not there: `make drill` at the repository's root builds target/bin/drill\n"
+    );
+    let no_program = message(&["run", "./Cargo.toml"], POLICY.as_bytes());
+    assert!(no_program.starts_with("./Cargo.toml cannot be run: "), "{no_program}");
+}
+
+#[test]
 fn run_tells_of_a_drill_that_fails() {
     let silent = message(&["run", "sh", "-c", "cat > /dev/null; exit 3"], POLICY.as_bytes());
     assert!(silent.starts_with("the drill's output, line 1: "), "{silent}");
@@ -161,4 +173,28 @@ fn run_tells_of_a_drill_that_fails() {
             format!("the drill ended with {told}\n")
         );
     }
+}
+
+/// No panic, which would end with 101, where nobody reads what the program writes.
+#[test]
+fn closed_pipes() {
+    let mut child = started(&["encode"]);
+    drop(child.stdout.take());
+    let output = finished(child, POLICY.as_bytes());
+    assert_eq!(output.status.code(), Some(1));
+    let told = String::from_utf8(output.stderr).unwrap();
+    assert!(told.starts_with("standard output cannot be written: "), "{told}");
+    let mut child = started(&["encode"]);
+    drop(child.stderr.take());
+    assert_eq!(finished(child, b"no policy").status.code(), Some(1));
+}
+
+#[test]
+fn arguments_that_are_no_text() {
+    let odd = OsStr::from_bytes(b"\xff\x1b");
+    assert_eq!(guard_front(&[odd], b"").status.code(), Some(2));
+    let output = guard_front(&[OsStr::new("run"), odd], POLICY.as_bytes());
+    assert_eq!(output.status.code(), Some(1));
+    let told = String::from_utf8(output.stderr).unwrap();
+    assert!(told.starts_with("\u{fffd}\\u{1b} is not there: "), "{told:?}");
 }
