@@ -38,7 +38,8 @@ impl fmt::Display for RunError {
                 let name = name.escape_debug();
                 // A file that is there and not found lacks its interpreter, or is no name in PATH.
                 if error.kind() == ErrorKind::NotFound && !Path::new(drill).exists() {
-                    write!(f, "{name} is not there: `make drill` at the repository's root builds target/bin/drill")
+                    let cure = "`make drill` at the repository's root builds target/bin/drill";
+                    write!(f, "{name} is not there: {cure}")
                 } else {
                     write!(f, "{name} cannot be run: {error}")
                 }
