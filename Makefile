@@ -1,7 +1,7 @@
 # The commands of the README.
 .PHONY: drill test bench
 drill:
-	rt check drill
+	bash tests/drill
 	target/bin/drill < crates/drill/stdin
 
 test:
