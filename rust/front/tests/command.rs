@@ -4,6 +4,7 @@
 mod common;
 
 use std::ffi::OsStr;
+use std::fs;
 use std::io::Write;
 use std::os::unix::ffi::OsStrExt;
 use std::process::{Child, Command, Output, Stdio};
@@ -55,7 +56,7 @@ fn path(below_root: &str) -> String {
 #[test]
 fn encode_prints_bytes() {
     let script = common::read("examples/worked.script");
-    let vector = std::fs::read(common::vectors().join("worked-example.in")).unwrap();
+    let vector = fs::read(common::vector("worked-example.in")).unwrap();
     assert_eq!(printed(&["encode"], script.as_bytes()), vector);
     let marked = format!("\u{feff}{script}");
     assert_eq!(printed(&["encode"], marked.as_bytes()), vector, "with a byte order mark");
@@ -63,27 +64,27 @@ fn encode_prints_bytes() {
 
 #[test]
 fn explain_prints_words() {
-    let lines = common::read("tests/vectors/base/worked-example.out");
+    let lines = fs::read(common::vector("worked-example.out")).unwrap();
     let with_lines = common::read("examples/worked.explained");
     let arguments = ["explain", &path("examples/worked.script")];
-    assert_eq!(words(&arguments, lines.as_bytes()), with_lines);
+    assert_eq!(words(&arguments, &lines), with_lines);
     // Without the script no line can be named.
     let without = with_lines.lines().map(|line| match line.strip_prefix("line ") {
         Some(answer) => format!("{}\n", answer.split_once(": ").unwrap().1),
         None => format!("{line}\n"),
     });
-    assert_eq!(words(&["explain"], lines.as_bytes()), without.collect::<String>());
+    assert_eq!(words(&["explain"], &lines), without.collect::<String>());
 }
 
 #[test]
 fn explain_tells_of_a_script_that_does_not_fit() {
-    let lines = common::read("tests/vectors/base/worked-example.out");
-    let hotel = message(&["explain", &path("examples/hotel.script")], lines.as_bytes());
+    let lines = fs::read(common::vector("worked-example.out")).unwrap();
+    let hotel = message(&["explain", &path("examples/hotel.script")], &lines);
     assert_eq!(hotel, "line 3: this does not answer line 11 of the script\n");
     let faulty = path("README.md");
-    let bad = message(&["explain", &faulty], lines.as_bytes());
+    let bad = message(&["explain", &faulty], &lines);
     assert!(bad.starts_with(&format!("{faulty}, line ")), "{bad}");
-    let missing = message(&["explain", "no-such-script"], lines.as_bytes());
+    let missing = message(&["explain", "no-such-script"], &lines);
     assert!(missing.starts_with("no-such-script cannot be read: "), "{missing}");
 }
 
@@ -130,9 +131,9 @@ fn wrong_use_gives_the_usage() {
 fn run_hands_the_bytes_to_the_drill_and_explains_its_lines() {
     // This drill prints its output only where its input is the worked example's.
     let drill = "cmp -s - \"$1.in\" && cat \"$1.out\"";
-    let vector = path("tests/vectors/base/worked-example");
+    let vector = common::vector("worked-example");
     let script = common::read("examples/worked.script");
-    let arguments = ["run", "sh", "-c", drill, "drill", &vector];
+    let arguments = ["run", "sh", "-c", drill, "drill", vector.to_str().unwrap()];
     assert_eq!(words(&arguments, script.as_bytes()), common::read("examples/worked.explained"));
 }
 

@@ -29,7 +29,7 @@ const WORKED: [u8; 124] = [
 #[test]
 fn worked_example() {
     assert_eq!(bytes(&common::read("examples/worked.script")), WORKED);
-    let vector = std::fs::read(common::path("tests/vectors/base/worked-example.in")).unwrap();
+    let vector = std::fs::read(common::vector("worked-example.in")).unwrap();
     assert_eq!(vector, WORKED);
 }
 

@@ -100,7 +100,7 @@ fn call_line(call: &[u8]) -> String {
 #[test]
 fn vectors_as_scripts() {
     let mut compared = 0;
-    for file in fs::read_dir(common::vectors()).unwrap() {
+    for file in fs::read_dir(common::vector("")).unwrap() {
         let path = file.unwrap().path();
         if path.extension().is_none_or(|extension| extension != "in") {
             continue;

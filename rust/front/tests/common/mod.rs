@@ -20,6 +20,11 @@ pub fn read(below_root: &str) -> String {
     fs::read_to_string(&path).unwrap_or_else(|error| panic!("{}: {error}", path.display()))
 }
 
+/// The drill's vectors, or one file of them.
+pub fn vector(name: &str) -> PathBuf {
+    path("tests/vectors/base").join(name)
+}
+
 /// What the drill over the reference guard prints.
 pub fn reference_drill(input: &[u8]) -> String {
     let mut printed = Vec::new();
