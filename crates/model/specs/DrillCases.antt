@@ -47,7 +47,10 @@ sixteen = 16 ∷ 17 ∷ 18 ∷ 19 ∷ 20 ∷ 21 ∷ 22 ∷ 23 ∷ 24 ∷ 25 ∷ 
 unfoldable pub extentOf : ℕ → ℕ
 extentOf count = policyExtent (replicate 4 0 ++ littleEndian 2 count ++ replicate 2 0)
 
-unfoldable pub drillCases : List (Row (List ℕ))
+abbrev pub DrillCase : Type 0
+DrillCase = Row (List ℕ)
+
+unfoldable pub drillCases : List DrillCase
 drillCases =
     row (drillOutput everyKind)
     (linesOf

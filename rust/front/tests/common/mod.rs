@@ -10,11 +10,6 @@ pub fn path(below_root: &str) -> PathBuf {
     Path::new(env!("CARGO_MANIFEST_DIR")).join("../..").join(below_root)
 }
 
-/// The folder of the drill's vectors.
-pub fn vectors() -> PathBuf {
-    path("tests/vectors")
-}
-
 pub fn read(below_root: &str) -> String {
     let path = path(below_root);
     fs::read_to_string(&path).unwrap_or_else(|error| panic!("{}: {error}", path.display()))
@@ -22,7 +17,7 @@ pub fn read(below_root: &str) -> String {
 
 /// The drill's vectors, or one file of them.
 pub fn vector(name: &str) -> PathBuf {
-    path("tests/vectors/base").join(name)
+    path("tests/vectors").join(name)
 }
 
 /// What the drill over the reference guard prints.
