@@ -2,14 +2,17 @@
  * The page guard, for C. The calls are those of document 01; every one of them is proved, in Rattle, to answer what the
  * definitions in crates/model say, on all inputs (crates/exports, specs/Boundary.antt).
  *
- * Build the library with `rt staticlib exports`, and link target/staticlib/libexports.a.
+ * Build the library with `rt staticlib exports`, and link target/staticlib/libexports.a. docs/INTEGRATION.md has what it needs
+ * beside that (memcpy, memset, SSE, stack), how the processor is set up, and what to do around each call.
  *
  * Runs. A table, a policy record, the state and the two numbers of a call each cross as a pointer and the number of its
  * elements. The guard keeps nothing between calls: the caller holds every run and lends it.
- *   - A pointer is valid for as many elements as its length says, is aligned, and is not NULL, even where the length is 0.
+ *   - A pointer is valid for as many elements as its length says, is aligned to its element (8 bytes for 64 bits, 2 for 16), and
+ *     is not NULL, even where the length is 0.
  *   - A run that is lent for writing overlaps no other run of the same call.
- *   - One run is lent to one call at a time.
- * These three are the caller's part, and the only part that the guard does not test.
+ *   - One run is lent to one call at a time, and nobody else writes it during the call, neither processor nor device.
+ * These three are the caller's part, and the only part that the guard does not test. State, shadow, map and exclusion go from
+ * one call to the next as the last one left them: that is what the guarantee about all calls rests on.
  *
  * Numbers. Pages, entry indices, addresses and lengths are 64 bits wide and are never cut: page 65537 is refused with 9, and
  * is not taken for page 1. Sums of address and length are exact.
@@ -78,15 +81,86 @@ enum guard_refusal {
  * The tables, with the lengths that question 7 asks for.
  *   kernel     V entries of 64 bits, the kernel's own page table: read, never written
  *   shadow     V entries of 64 bits, which only the guard writes
- *   map        V numbers of 16 bits: the frame approved for that page, or 65535 for none
- *   exclusion  (F + 7) / 8 bytes: bit f % 8 of byte f / 8, bit 0 the lowest, is set where frame f is excluded
+ *   map        V numbers of 16 bits: the frame approved for that page, or GUARD_MAP_NONE
+ *   exclusion  (F + 7) / 8 bytes: bit f % 8 of byte f / 8, bit 0 the lowest, is set where frame f is excluded; spare bits are 0
  */
+#define GUARD_MAP_NONE UINT16_C(65535)
+
+/*
+ * Entries. Entry p of a table is that of page p, the virtual addresses from p * 4096 to p * 4096 + 4095; frame f is the same of
+ * physical addresses. The bits lie as in a last-level entry of 32-bit paging with physical address extension (PAE).
+ *
+ * What a synchronisation makes of a page's kernel entry, by the first line that fits:
+ *
+ *   bit 0 clear (absent)                        shadow entry 0; the other bits of the kernel entry are not read
+ *   the map has a frame for the page            an approved entry with the map's frame, whatever the kernel's frame is
+ *   frame at or above F                         shadow entry 0
+ *   frame excluded                              an approved entry with this frame, which the map has for the page from then on
+ *   any other                                   an ordinary entry
+ *
+ * Every bit of a kernel entry, and of the shadow entry that is made of it. K: in kernel mode. U: in user mode.
+ *
+ *   bits    name               kernel entry    ordinary entry         approved entry
+ *   0       present            read            1                      1
+ *   1       writable           read            kernel bit 1           0
+ *   2       user               read            kernel bit 2           0
+ *   3       write-through      ignored         0                      0
+ *   4       cache disable      ignored         0                      0
+ *   5       accessed           ignored         0                      0
+ *   6       dirty              ignored         0                      0
+ *   7       PAT                ignored         0                      0
+ *   8       global             ignored         0                      0
+ *   9       kernel no-execute  ignored         kernel bit 63          0
+ *   10      approved           ignored         0                      1
+ *   11      available          ignored         0                      0
+ *   12..51  frame              read            kernel bits 12..51     the map's frame
+ *   52..62  reserved           ignored         0                      0
+ *   63 K    no-execute         read            1                      0
+ *   63 U    no-execute         read            bit 9, or bit 2 clear  1
+ *
+ * An accepted guard_enter or guard_leave sets or clears bit 63 of every shadow entry whose bit 0 is set, by the last two rows
+ * and the entry's own bits 2, 9 and 10. It keeps every other bit. A processor that walks the shadow table sets bits 5 and 6 in
+ * it; no call asks for them.
+ *
+ * What the calls ask of the shadow entry of each page that they touch (11 where bit 0 is clear, else 12):
+ *
+ *   guard_fetch   bit 0 set, bit 63 clear; in user mode bit 2 set
+ *   guard_write   bits 0 and 1 set; in user mode bit 2 set
+ *   guard_enter   bits 0 and 10 set
+ *   guard_leave   bits 0 and 2 set, bit 9 clear
+ */
+#define GUARD_ENTRY_PRESENT (UINT64_C(1) << 0)
+#define GUARD_ENTRY_WRITABLE (UINT64_C(1) << 1)
+#define GUARD_ENTRY_USER (UINT64_C(1) << 2)
+#define GUARD_ENTRY_KERNEL_NO_EXECUTE (UINT64_C(1) << 9) /* shadow entries only: the kernel entry's bit 63 */
+#define GUARD_ENTRY_APPROVED (UINT64_C(1) << 10)         /* shadow entries only */
+#define GUARD_ENTRY_NO_EXECUTE (UINT64_C(1) << 63)
+
+/* The frame of an entry, and the bits 12 to 51 for a frame below 2^40. */
+#define GUARD_ENTRY_FRAME(entry) ((uint64_t)(entry) >> 12 & UINT64_C(0xffffffffff))
+#define GUARD_ENTRY_OF_FRAME(frame) ((uint64_t)(frame) << 12)
 
 /*
  * Start: reads the policy record, sets state, shadow, map and exclusion from it, whatever they held, and stands in kernel mode
  * on the first entry page. Numbers: n and e.
- * Record: V, F, n and e, then n listed pages in strictly rising order, whose first e are the entry pages, then n frames; each
- * number has 16 bits, the lower byte first.
+ *
+ * The record has 8 + 4 * n bytes. Every number in it has 16 bits, the lower byte first; i goes from 0 to n - 1.
+ *
+ *   at byte             number
+ *   0                   V, the number of virtual pages, 1 to 2048
+ *   2                   F, the number of physical frames, 1 to 4096
+ *   4                   n, the number of listed pages, 1 to V
+ *   6                   e, the number of entry pages, 1 to the smaller of n and 16
+ *   8 + 2 * i           listed page i: below V, and above listed page i - 1
+ *   8 + 2 * n + 2 * i   the frame of listed page i: below F; two pages may have one frame
+ *
+ * Listed page i is the page of entry index i, for i below e. What an accepted start writes:
+ *
+ *   state      V, F, e; the e entry pages, then zeros; GUARD_MODE_KERNEL; listed page 0
+ *   shadow     for a listed page the approved entry of its frame in kernel mode, frame * 4096 + 0x401; for any other 0
+ *   map        for a listed page its frame; for any other GUARD_MAP_NONE
+ *   exclusion  the bits of the frames in the record; every other bit 0
+ *
  * Refusals 1 to 6 are about the record. Then comes 7, by the record's V and F, for the lengths of all runs. What the state run
  * holds is not read.
  */
@@ -95,8 +169,9 @@ uint64_t guard_start(const uint8_t *policy, size_t policy_length, uint64_t *stat
                      uint64_t *numbers, size_t numbers_length);
 
 /*
- * Synchronise one page: makes its shadow entry from its kernel entry, by steps 1 to 5 of document 01. The page may join the
- * map. Numbers: shadow entries whose value changed, pages that joined the map; each 0 or 1.
+ * Synchronise one page: makes its shadow entry from its kernel entry, as said at "Entries". The page may join the map, which is
+ * to say that the map has a frame for it where it had none. Numbers: shadow entries whose value changed, pages that joined the
+ * map; each 0 or 1. Where the first is not 0, flush the TLB before the kernel runs on.
  * Refusals 7 and 9.
  */
 uint64_t guard_sync_page(const uint64_t *state, size_t state_length, const uint64_t *kernel, size_t kernel_length,
@@ -104,7 +179,8 @@ uint64_t guard_sync_page(const uint64_t *state, size_t state_length, const uint6
                          size_t exclusion_length, uint64_t page, uint64_t *numbers, size_t numbers_length);
 
 /*
- * Synchronise all pages, in rising order. Numbers: shadow entries whose value changed, pages that joined the map.
+ * Synchronise all pages, in rising order. Numbers: shadow entries whose value changed, pages that joined the map. Where the
+ * first is not 0, flush the TLB before the kernel runs on.
  * Refusal 7.
  */
 uint64_t guard_sync_all(const uint64_t *state, size_t state_length, const uint64_t *kernel, size_t kernel_length,
@@ -112,15 +188,16 @@ uint64_t guard_sync_all(const uint64_t *state, size_t state_length, const uint64
                         size_t exclusion_length, uint64_t *numbers, size_t numbers_length);
 
 /*
- * Fetch a page, which then runs, in the mode that stands. Numbers: its frame, twice.
+ * Fetch a page, which then runs, in the mode that stands. Numbers: its frame, twice. No table changes.
  * Refusals 7, 9, 11 and 12.
  */
 uint64_t guard_fetch(uint64_t *state, size_t state_length, const uint64_t *shadow, size_t shadow_length, uint64_t page,
                      uint64_t *numbers, size_t numbers_length);
 
 /*
- * Write 1 to 16 bytes at a virtual address. Numbers: the frames of the first and of the last byte.
- * Refusals 7, 8, 9, 11, 12 and 13.
+ * Write 1 to 16 bytes at a virtual address. Numbers: the frames of the first and of the last byte. The guard decides and stores
+ * nothing: where it accepts, the caller makes the write.
+ * Refusals 7, 8, 9, 11, 12 and 13; the last where a frame is excluded, or at or above F.
  */
 uint64_t guard_write(const uint64_t *state, size_t state_length, const uint64_t *shadow, size_t shadow_length,
                      const uint8_t *exclusion, size_t exclusion_length, uint64_t address, uint64_t length,
@@ -128,22 +205,23 @@ uint64_t guard_write(const uint64_t *state, size_t state_length, const uint64_t 
 
 /*
  * Enter the kernel by an entry index, 0 to e - 1: kernel mode, and the entry's page runs. Bit 63 of every present shadow entry is
- * set by the new mode. Numbers: shadow entries that changed, and 0.
+ * set or cleared for the new mode. Numbers: shadow entries that changed, and 0. Flush the TLB before the kernel runs.
  * Refusals 7, 9, 10, 11 and 12.
  */
 uint64_t guard_enter(uint64_t *state, size_t state_length, uint64_t *shadow, size_t shadow_length, uint64_t index,
                      uint64_t *numbers, size_t numbers_length);
 
 /*
- * Leave the kernel to a page: user mode, and that page runs. Bit 63 of every present shadow entry is set by the new mode.
- * Numbers: shadow entries that changed, and 0.
+ * Leave the kernel to a page: user mode, and that page runs. Bit 63 of every present shadow entry is set or cleared for the new
+ * mode. Numbers: shadow entries that changed, and 0. Flush the TLB, and go on at user privilege.
  * Refusals 7, 9, 10, 11 and 12.
  */
 uint64_t guard_leave(uint64_t *state, size_t state_length, uint64_t *shadow, size_t shadow_length, uint64_t page,
                      uint64_t *numbers, size_t numbers_length);
 
 /*
- * A device's write of 1 to 1048576 bytes at a physical address. Numbers: the frames of the first and of the last byte.
+ * A device's write of 1 to 1048576 bytes at a physical address. Numbers: the frames of the first and of the last byte. The guard
+ * decides and stores nothing: where it accepts, the caller lets the device write.
  * Refusals 7, 8, 9 and 13.
  */
 uint64_t guard_device_write(const uint64_t *state, size_t state_length, const uint8_t *exclusion, size_t exclusion_length,
