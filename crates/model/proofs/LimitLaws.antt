@@ -20,7 +20,7 @@ editLine = linesOf ("0 9 0 0 K 1" ∷ [])
 
 unfoldable pub closingLines : List ℕ
 closingLines =
-    linesOf ("0000000000000000" ∷ "0000000000002401" ∷ "0000000000000000" ∷ "0000000000000000" ∷ "share 25" ∷ [])
+    linesOf ("0000000000000000\n0000000000002401\n0000000000000000\n0000000000000000\nshare 25" ∷ [])
 
 pub opening : (calls : List ℕ) → drillOutput (policyBytes ++ calls) ≡ linesOf ("S 0 1 1 K 1" ∷ []) ++ callLines callLimit opened calls
 unfolding computed policyBytes bytesOf linesOf opened

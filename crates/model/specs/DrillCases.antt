@@ -64,11 +64,7 @@ drillCases =
     ∷ "5 11 0 0 U 0"
     ∷ "7 0 7 7 U 0"
     ∷ "1 0 0 0 U 0"
-    ∷ "X 14 0 0 U 0"
-    ∷ "0000000000004007"
-    ∷ "0000000000000000"
-    ∷ "0000000000000000"
-    ∷ "share 11"
+    ∷ "X 14 0 0 U 0\n0000000000004007\n0000000000000000\n0000000000000000\nshare 11"
     ∷ []))
     -- More pages than frames; an unknown kind ends the calls, and the call after it is not made.
     ∷ row (drillOutput (ninePages ++ callBytes 0 8 0 0x1003 ++ callBytes 2 0 0 0 ++ callBytes 8 0 0 0 ++ callBytes 3 8 0 0))
@@ -77,20 +73,15 @@ drillCases =
     ∷ "0 0 0 0 K 8"
     ∷ "2 0 0 0 K 8"
     ∷ "X 15 0 0 K 8"
-    ∷ replicate 8 "0000000000000000"
-    ++ ("0000000000002401" ∷ "share 33" ∷ [])))
+    ∷ replicate 7 "0000000000000000"
+    ++ ("0000000000000000\n0000000000002401\nshare 33" ∷ [])))
     -- 15 of a call's 16 bytes, and no call at all
     ∷ row (drillOutput (policyBytes ++ replicate 15 0))
     (linesOf
     ("S 0 1 1 K 1"
-    ∷ "X 14 0 0 K 1"
-    ∷ "0000000000000000"
-    ∷ "0000000000002401"
-    ∷ "0000000000000000"
-    ∷ "0000000000000000"
-    ∷ "share 25"
+    ∷ "X 14 0 0 K 1\n0000000000000000\n0000000000002401\n0000000000000000\n0000000000000000\nshare 25"
     ∷ []))
-    ∷ row (drillOutput (1 ∷ 0 ∷ 1 ∷ 0 ∷ 1 ∷ 0 ∷ 1 ∷ 0 ∷ 0 ∷ 0 ∷ 0 ∷ 0 ∷ [])) (linesOf ("S 0 1 1 K 0" ∷ "0000000000000401" ∷ "share 100" ∷ []))
+    ∷ row (drillOutput (1 ∷ 0 ∷ 1 ∷ 0 ∷ 1 ∷ 0 ∷ 1 ∷ 0 ∷ 0 ∷ 0 ∷ 0 ∷ 0 ∷ [])) (linesOf ("S 0 1 1 K 0\n0000000000000401\nshare 100" ∷ []))
     -- "A refused start prints its line alone": V 0, and calls follow; a record cut short; no byte at all
     ∷ row (drillOutput ((0 ∷ 0 ∷ 9 ∷ 0 ∷ 1 ∷ 0 ∷ 1 ∷ 0 ∷ 1 ∷ 0 ∷ 8 ∷ 0 ∷ []) ++ callBytes 3 1 0 0)) (linesOf ("S 2 0 0 U 0" ∷ []))
     ∷ row (drillOutput (3 ∷ 0 ∷ 9 ∷ 0 ∷ 1 ∷ 0 ∷ 1 ∷ 0 ∷ 1 ∷ 0 ∷ 8 ∷ [])) (linesOf ("S 4 0 0 U 0" ∷ []))
@@ -101,7 +92,7 @@ drillCases =
     -- "8 bytes, and 4 × n more if n is 1 to 2,048": n 0, 1, 2,048 and 2,049
     ∷ row (extentOf 0 ∷ extentOf 1 ∷ extentOf 2048 ∷ extentOf 2049 ∷ []) (8 ∷ 12 ∷ 8200 ∷ 8 ∷ [])
     -- Decimal numbers, hexadecimal digits, and the share, rounded down: 2 of 3 frames
-    ∷ row (decimal 0 ++ decimal 10 ++ decimal 18446744073709551615) (bytesOf "01018446744073709551615")
+    ∷ row (decimal 10 ++ decimal 0 ++ decimal 18446744073709551615) (bytesOf "10018446744073709551615")
     ∷ row (entryLines (0xfedcba9876543210 ∷ 0xf ∷ [])) (linesOf ("fedcba9876543210" ∷ "000000000000000f" ∷ []))
     ∷ row (shareLine 3 (5 ∷ [])) (linesOf ("share 66" ∷ []))
     ∷ []
@@ -118,4 +109,4 @@ Limit =
     drillOutput (policyBytes ++ (times 1024 (callBytes 0 4 0 0) ++ rest))
     ≡ linesOf ("S 0 1 1 K 1" ∷ [])
     ++ (times 1024 (linesOf ("0 9 0 0 K 1" ∷ []))
-    ++ linesOf ("0000000000000000" ∷ "0000000000002401" ∷ "0000000000000000" ∷ "0000000000000000" ∷ "share 25" ∷ []))
+    ++ linesOf ("0000000000000000\n0000000000002401\n0000000000000000\n0000000000000000\nshare 25" ∷ []))
