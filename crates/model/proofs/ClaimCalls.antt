@@ -11,13 +11,12 @@ use borrow.Author.Tests.{ltb-true, ltb-false, eqb-true, eqb-false}
 use Rattle.model.specs.declared.Mode.{Mode}
 use Rattle.model.specs.declared.Mode.the-variants.{Kernel, User}
 use Rattle.model.specs.Edges.{bit, framesInRange}
-use Rattle.model.specs.Keeps.{none, Guard, inUser, running, modeOf, inMode}
+use Rattle.model.specs.Keeps.{none, withShadow, withMap, Guard, guardOf, inUser, running, modeOf, inMode}
 use Rattle.model.specs.Policy.{Policy}
 use Rattle.model.specs.Bits.{present, takenApart}
 use Rattle.model.specs.Sync.{Rules, Place, place, step, stepOf, Run, switchedAll, runOver}
 use Rattle.model.specs.Questions.{firstNo, syncAllQuestions}
-use Rattle.model.specs.Calls.{rulesOf, pageSynced, allSynced, switchTo}
-use Rattle.model.specs.Lists.{Call, syncPage, syncAll, fetch, write, enter, leave, deviceWrite, withSynced, withMoved, withSwitched, withReply}
+use Rattle.model.specs.Calls.{Call, syncPage, syncAll, fetch, write, enter, leave, deviceWrite, questionsOf, rulesOf, pageSynced, allSynced, switchTo, effectOf}
 use Rattle.model.specs.OnePage.{synchronised, nothing, seenBy, settled, stepped, turned, told, news}
 use Rattle.model.specs.Claim.{Carried, carriedAfter}
 use Rattle.model.proofs.QuestionLaws.{within-high}
@@ -25,7 +24,7 @@ use Rattle.model.proofs.ClaimPages.{Good, told-good}
 use Rattle.model.proofs.RunLaws.{run-shadow-length, run-map-length, run-shadow-at, run-map-at}
 use Rattle.model.proofs.SwitchLaws.{length-switched, switched-at}
 use Rattle.model.proofs.AcceptedLaws.{syncPage-page, syncAll-kernel, fetch-page, enter-page, leave-page}
-use Rattle.model.proofs.ClaimKept.{Sound, Kept, pageOf, acceptedOf}
+use Rattle.model.proofs.ClaimKept.{Sound, Kept, pageOf}
 
 inUser-modeOf : (user : Bool) (page : ℕ) → inUser (modeOf user page) ≡ user
 unfolding inUser modeOf
@@ -45,72 +44,72 @@ step-nothing rules a = refl
 module _ (policy : Policy) (carried : Carried) (g : Guard) (sound : Sound policy) (h : Kept policy carried g) where
   -- A synchronised page is as its one-page guard is told, if the tables have the step's place at it.
   stepped-at : (shadow map : List ℕ) (p k : ℕ)
-      → getD shadow p 0 ≡ (step (rulesOf (g .state) (g .exclusion)) k (getD (g .map) p none)) .entry
-      → getD map p none ≡ (step (rulesOf (g .state) (g .exclusion)) k (getD (g .map) p none)) .approval
-      → stepped policy (pageOf g p) k ≡ pageOf (record { state = g .state; shadow = shadow; map = map; exclusion = g .exclusion }) p
+      → getD shadow p 0 ≡ (step (rulesOf (g .state) (g .tables .exclusion)) k (getD (g .tables .map) p none)) .entry
+      → getD map p none ≡ (step (rulesOf (g .state) (g .tables .exclusion)) k (getD (g .tables .map) p none)) .approval
+      → stepped policy (pageOf g p) k ≡ pageOf (guardOf (g .state) (withShadow shadow (withMap map (g .tables)))) p
   unfolding stepped
   stepped-at shadow map p k entry approval = rw (← h .frames, entry, approval)
 
   -- The same of a page that is in no table: it has no kernel entry either.
   stepped-past : (shadow map : List ℕ) (p k : ℕ) → policy .pages ≤ p → k ≡ 0 → length shadow ≡ policy .pages → length map ≡ policy .pages
-      → stepped policy (pageOf g p) k ≡ pageOf (record { state = g .state; shadow = shadow; map = map; exclusion = g .exclusion }) p
+      → stepped policy (pageOf g p) k ≡ pageOf (guardOf (g .state) (withShadow shadow (withMap map (g .tables)))) p
   stepped-past shadow map p k past absent shadowLength mapLength =
-      let was : getD (g .map) p none ≡ none = List·getD-eq-default (g .map) none (omega (arith, h .mapLength)) in
-      let empty : step (rulesOf (g .state) (g .exclusion)) k (getD (g .map) p none) ≡ place 0 none = rw (absent, was) (step-nothing _ none) in
+      let was : getD (g .tables .map) p none ≡ none = List·getD-eq-default (g .tables .map) none (omega (arith, h .mapLength)) in
+      let empty : step (rulesOf (g .state) (g .tables .exclusion)) k (getD (g .tables .map) p none) ≡ place 0 none = rw (absent, was) (step-nothing _ none) in
       stepped-at shadow map p k (rw empty (List·getD-eq-default shadow 0 (omega arith))) (rw empty (List·getD-eq-default map none (omega arith)))
 
   -- The page of a synchronise, and every other page.
   syncPage-here : (kernel : List ℕ) (page : ℕ) → page < policy .pages
-      → stepped policy (pageOf g page) (getD kernel page 0) ≡ pageOf ((acceptedOf g (syncPage kernel page)) .guard) page
-  unfolding acceptedOf withSynced pageSynced
+      → stepped policy (pageOf g page) (getD kernel page 0) ≡ pageOf ((effectOf g (syncPage kernel page)) .guard) page
+  unfolding effectOf pageSynced
   syncPage-here kernel page below =
-      let after : Guard = (acceptedOf g (syncPage kernel page)) .guard in
-      stepped-at (after .shadow) (after .map) page (getD kernel page 0) (getD-set-same (g .shadow) page _ 0 (omega (arith, h .shadowLength)))
-      (getD-set-same (g .map) page _ none (omega (arith, h .mapLength)))
+      let after : Guard = (effectOf g (syncPage kernel page)) .guard in
+      stepped-at (after .tables .shadow) (after .tables .map) page (getD kernel page 0) (getD-set-same (g .tables .shadow) page _ 0 (omega (arith, h .shadowLength)))
+      (getD-set-same (g .tables .map) page _ none (omega (arith, h .mapLength)))
 
-  syncPage-other : (kernel : List ℕ) (page p : ℕ) → (p ≡ page → ⊥) → pageOf g p ≡ pageOf ((acceptedOf g (syncPage kernel page)) .guard) p
-  unfolding acceptedOf withSynced pageSynced
-  syncPage-other kernel page p other = rw (getD-set-other (g .shadow) page p _ 0 other, getD-set-other (g .map) page p _ none other)
+  syncPage-other : (kernel : List ℕ) (page p : ℕ) → (p ≡ page → ⊥) → pageOf g p ≡ pageOf ((effectOf g (syncPage kernel page)) .guard) p
+  unfolding effectOf pageSynced
+  syncPage-other kernel page p other = rw (getD-set-other (g .tables .shadow) page p _ 0 other, getD-set-other (g .tables .map) page p _ none other)
 
   syncPage-commutes : (kernel : List ℕ) (page : ℕ) → page < policy .pages → (p : ℕ)
-      → told policy (pageOf g p) (news p (syncPage kernel page)) ≡ pageOf ((acceptedOf g (syncPage kernel page)) .guard) p
+      → told policy (pageOf g p) (news p (syncPage kernel page)) ≡ pageOf ((effectOf g (syncPage kernel page)) .guard) p
   unfolding news told
   syncPage-commutes kernel page below p = at (eqb p page) refl
     where
       at : (b : Bool) → eqb p page ≡ b
-          → told policy (pageOf g p) (cond b (synchronised (getD kernel p 0)) nothing) ≡ pageOf ((acceptedOf g (syncPage kernel page)) .guard) p
+          → told policy (pageOf g p) (cond b (synchronised (getD kernel p 0)) nothing) ≡ pageOf ((effectOf g (syncPage kernel page)) .guard) p
       at true e = rw (eqb-true p page e) (syncPage-here kernel page below)
       at false e = syncPage-other kernel page p (eqb-false p page e)
 
   syncAll-commutes : (kernel : List ℕ) → firstNo (syncAllQuestions (seenBy policy (pageOf g)) (length kernel)) ≡ 0 → (p : ℕ)
-      → told policy (pageOf g p) (news p (syncAll kernel)) ≡ pageOf ((acceptedOf g (syncAll kernel)) .guard) p
-  unfolding news told acceptedOf withSynced allSynced
+      → told policy (pageOf g p) (news p (syncAll kernel)) ≡ pageOf ((effectOf g (syncAll kernel)) .guard) p
+  unfolding news told effectOf allSynced
   syncAll-commutes kernel passed p = at (ltb p (policy .pages)) refl
     where
       whole : length kernel ≡ policy .pages
       whole = syncAll-kernel (seenBy policy (pageOf g)) (length kernel) passed
 
       f : ℕ → ℕ → Place
-      f = step (rulesOf (g .state) (g .exclusion))
+      f = step (rulesOf (g .state) (g .tables .exclusion))
 
       after : Run
-      after = runOver f kernel (g .shadow) (g .map)
+      after = runOver f kernel (g .tables .shadow) (g .tables .map)
 
-      at : (b : Bool) → ltb p (policy .pages) ≡ b → stepped policy (pageOf g p) (getD kernel p 0) ≡ pageOf ((acceptedOf g (syncAll kernel)) .guard) p
+      at : (b : Bool) → ltb p (policy .pages) ≡ b → stepped policy (pageOf g p) (getD kernel p 0) ≡ pageOf ((effectOf g (syncAll kernel)) .guard) p
       at true e =
           let below : p < policy .pages = ltb-true p (policy .pages) e in
           stepped-at (after .shadow) (after .map) p (getD kernel p 0)
-          (run-shadow-at f kernel (g .shadow) (g .map) p 0 0 none (omega (arith, whole)) (omega (arith, h .shadowLength)) (omega (arith, h .mapLength)))
-          (run-map-at f kernel (g .shadow) (g .map) p 0 none (omega (arith, whole)) (omega (arith, h .shadowLength)) (omega (arith, h .mapLength)))
+          (run-shadow-at f kernel (g .tables .shadow) (g .tables .map) p 0 0 none (omega (arith, whole)) (omega (arith, h .shadowLength)) (omega (arith, h .mapLength)))
+          (run-map-at f kernel (g .tables .shadow) (g .tables .map) p 0 none (omega (arith, whole)) (omega (arith, h .shadowLength)) (omega (arith, h .mapLength)))
       at false e =
           let past : policy .pages ≤ p = ltb-false p (policy .pages) e in
           stepped-past (after .shadow) (after .map) p (getD kernel p 0) past (List·getD-eq-default kernel 0 (omega (arith, whole)))
-          (run-shadow-length f kernel (g .shadow) (g .map) ∙ h .shadowLength) (run-map-length f kernel (g .shadow) (g .map) ∙ h .mapLength)
+          (run-shadow-length f kernel (g .tables .shadow) (g .tables .map) ∙ h .shadowLength) (run-map-length f kernel (g .tables .shadow) (g .tables .map) ∙ h .mapLength)
 
   -- Each accepted call, as the one-page guards are told of it.
   pub commutes : (call : Call) → settled policy (pageOf g) g call ≡ 0 → (p : ℕ)
-      → told policy (pageOf g p) (news p call) ≡ pageOf ((acceptedOf g call) .guard) p
-  unfolding news told settled acceptedOf withMoved withSwitched withReply switchTo inMode inUser turned
+      → told policy (pageOf g p) (news p call) ≡ pageOf ((effectOf g call) .guard) p
+  unfolding news told settled questionsOf effectOf switchTo inMode inUser turned
   commutes (syncPage kernel page) passed p = syncPage-commutes kernel page (syncPage-page (seenBy policy (pageOf g)) (length kernel) page passed) p
   commutes (syncAll kernel) passed p = syncAll-commutes kernel passed p
   commutes (fetch page) passed p = rw inUser-modeOf
@@ -120,7 +119,7 @@ module _ (policy : Policy) (carried : Carried) (g : Guard) (sound : Sound policy
   commutes (deviceWrite address size) passed p = refl
 
   -- Every page stays good.
-  good-after : (call : Call) → settled policy (pageOf g) g call ≡ 0 → (p : ℕ) → Good (carried .code) (pageOf ((acceptedOf g call) .guard) p)
+  good-after : (call : Call) → settled policy (pageOf g) g call ≡ 0 → (p : ℕ) → Good (carried .code) (pageOf ((effectOf g call) .guard) p)
   unfolding framesInRange
   good-after call passed p =
       subst (Good (carried .code)) (commutes call passed p)
@@ -129,7 +128,7 @@ module _ (policy : Policy) (carried : Carried) (g : Guard) (sound : Sound policy
 
   -- What always holds is kept by another mode on a page below V and by tables of the same lengths, if every page stays good.
   kept-with : (mode : Mode) (shadow map : List ℕ) → running mode < policy .pages → length shadow ≡ policy .pages → length map ≡ policy .pages
-      → let after : Guard = record { state = inMode (g .state) mode; shadow = shadow; map = map; exclusion = g .exclusion } in
+      → let after : Guard = guardOf (inMode (g .state) mode) (withShadow shadow (withMap map (g .tables))) in
       ((p : ℕ) → Good (carried .code) (pageOf after p)) → Kept policy carried after
   unfolding inMode
   kept-with mode shadow map runs shadowLength mapLength good =
@@ -149,22 +148,22 @@ module _ (policy : Policy) (carried : Carried) (g : Guard) (sound : Sound policy
       }
 
   -- Every accepted call keeps what always holds.
-  pub kept : (call : Call) → settled policy (pageOf g) g call ≡ 0 → Kept policy (carriedAfter 0 call (pageOf g) carried) ((acceptedOf g call) .guard)
-  unfolding carriedAfter settled acceptedOf withSynced withMoved withSwitched withReply pageSynced allSynced switchTo inMode running inUser
+  pub kept : (call : Call) → settled policy (pageOf g) g call ≡ 0 → Kept policy (carriedAfter 0 call (pageOf g) carried) ((effectOf g call) .guard)
+  unfolding carriedAfter settled questionsOf effectOf pageSynced allSynced switchTo inMode running inUser
   kept (syncPage kernel page) passed =
-      kept-with (g .state .mode) _ _ (h .runs) (length-set (g .shadow) page _ ∙ h .shadowLength) (length-set (g .map) page _ ∙ h .mapLength)
+      kept-with (g .state .mode) _ _ (h .runs) (length-set (g .tables .shadow) page _ ∙ h .shadowLength) (length-set (g .tables .map) page _ ∙ h .mapLength)
       (good-after (syncPage kernel page) passed)
   kept (syncAll kernel) passed =
-      kept-with (g .state .mode) _ _ (h .runs) (run-shadow-length _ kernel (g .shadow) (g .map) ∙ h .shadowLength)
-      (run-map-length _ kernel (g .shadow) (g .map) ∙ h .mapLength) (good-after (syncAll kernel) passed)
+      kept-with (g .state .mode) _ _ (h .runs) (run-shadow-length _ kernel (g .tables .shadow) (g .tables .map) ∙ h .shadowLength)
+      (run-map-length _ kernel (g .tables .shadow) (g .tables .map) ∙ h .mapLength) (good-after (syncAll kernel) passed)
   kept (fetch page) passed =
-      kept-with (modeOf (inUser (g .state .mode)) page) (g .shadow) (g .map)
+      kept-with (modeOf (inUser (g .state .mode)) page) (g .tables .shadow) (g .tables .map)
       (rw running-modeOf (fetch-page (seenBy policy (pageOf g)) page passed)) (h .shadowLength) (h .mapLength) (good-after (fetch page) passed)
   kept (write address size) passed = h
   kept (enter index) passed =
-      kept-with (Kernel (getD (g .state .entry) index 0)) (switchedAll false (g .shadow)) (g .map)
-      (rw (h .entry) (enter-page (seenBy policy (pageOf g)) index passed)) (length-switched false (g .shadow) ∙ h .shadowLength) (h .mapLength) (good-after (enter index) passed)
+      kept-with (Kernel (getD (g .state .entry) index 0)) (switchedAll false (g .tables .shadow)) (g .tables .map)
+      (rw (h .entry) (enter-page (seenBy policy (pageOf g)) index passed)) (length-switched false (g .tables .shadow) ∙ h .shadowLength) (h .mapLength) (good-after (enter index) passed)
   kept (leave page) passed =
-      kept-with (User page) (switchedAll true (g .shadow)) (g .map) (leave-page (seenBy policy (pageOf g)) page passed) (length-switched true (g .shadow) ∙ h .shadowLength)
+      kept-with (User page) (switchedAll true (g .tables .shadow)) (g .tables .map) (leave-page (seenBy policy (pageOf g)) page passed) (length-switched true (g .tables .shadow) ∙ h .shadowLength)
       (h .mapLength) (good-after (leave page) passed)
   kept (deviceWrite address size) passed = h

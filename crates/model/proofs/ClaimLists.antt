@@ -3,25 +3,23 @@ use Prim.Native.Nat.{ℕ, zero, suc}
 use mathlib.Core.Bool.{true}
 use mathlib.Core.List.{List, [], _∷_}
 use mathlib.Core.Path.{_≡_, refl, sym, ap, fun-ext, _∙_}
-use lib.ListN.{length}
 use native.Mathlib.Omega.{arith}
 use borrow.Author.Tests.{ne-eqb}
 use Rattle.model.specs.Keeps.{Guard}
 use Rattle.model.specs.Policy.{Policy, policyOf, startGuard}
-use Rattle.model.specs.Questions.{firstNo, startQuestions}
-use Rattle.model.specs.Calls.{Outcome, startOf, pageSynced, allSynced, switchTo}
-use Rattle.model.specs.Lists.{Call, syncPage, syncAll, fetch, write, enter, leave, deviceWrite, withSynced, withMoved, withSwitched, withReply, answer}
+use Rattle.model.specs.Questions.{firstNo, lengthsOf, startQuestions}
+use Rattle.model.specs.Calls.{Outcome, refusedOf, startOf, Call, syncPage, syncAll, fetch, write, enter, leave, deviceWrite, pageSynced, allSynced, switchTo, effectOf, answer}
 use Rattle.model.specs.OnePage.{Page, firstPage, settled, pagesAfter}
 use Rattle.model.specs.Claim.{Agree, Carried, carriedFirst, carriedAfter, Always, Claim}
 use Rattle.model.proofs.QuestionLaws.{settle-accepted, settle-refused}
-use Rattle.model.proofs.ClaimKept.{Sound, Kept, pageOf, acceptedOf, refusedOf, answered}
+use Rattle.model.proofs.ClaimKept.{Sound, Kept, pageOf, answered}
 use Rattle.model.proofs.ClaimCalls.{commutes, kept}
 use Rattle.model.proofs.ClaimSafe.{safe}
 use Rattle.model.proofs.ClaimStart.{sound, first-pages, start-kept}
 
 -- An accepted call has no number, and says that it is allowed.
-accepted-reply : (g : Guard) (call : Call) → ((acceptedOf g call) .reply .number ≡ 0) × ((acceptedOf g call) .reply .allowed ≡ true)
-unfolding acceptedOf withSynced withMoved withSwitched withReply pageSynced allSynced switchTo
+accepted-reply : (g : Guard) (call : Call) → ((effectOf g call) .reply .number ≡ 0) × ((effectOf g call) .reply .allowed ≡ true)
+unfolding effectOf pageSynced allSynced switchTo
 accepted-reply g (syncPage kernel page) = (refl, refl)
 accepted-reply g (syncAll kernel) = (refl, refl)
 accepted-reply g (fetch page) = (refl, refl)
@@ -61,9 +59,9 @@ always policy sound (call ∷ calls) carried g h = by-number (settled policy (pa
         → ((still : Carried) (after : Guard) → Kept policy still after → Always policy still after (pageOf after) calls)
         → Always policy carried g (pageOf g) (call ∷ calls)
     by-number zero e rest =
-        let outcome : answer g call ≡ acceptedOf g call =
-        answered policy carried g sound h call ∙ settle-accepted (acceptedOf g call) (refusedOf g) e in
-        let pages : pagesAfter policy number call (pageOf g) ≡ pageOf ((acceptedOf g call) .guard) =
+        let outcome : answer g call ≡ effectOf g call =
+        answered policy carried g sound h call ∙ settle-accepted (effectOf g call) (refusedOf g) e in
+        let pages : pagesAfter policy number call (pageOf g) ≡ pageOf ((effectOf g call) .guard) =
         fun-ext (λ p. settle-accepted _ _ e ∙ commutes policy carried g sound h call e p) in (
           agree policy carried g h,
           rw (outcome, e) (accepted-reply g call .0),
@@ -73,7 +71,7 @@ always policy sound (call ∷ calls) carried g h = by-number (settled policy (pa
         )
     by-number (suc n) e rest =
         let outcome : answer g call ≡ refusedOf g (suc n) =
-        answered policy carried g sound h call ∙ settle-refused n (acceptedOf g call) (refusedOf g) e in
+        answered policy carried g sound h call ∙ settle-refused n (effectOf g call) (refusedOf g) e in
         let pages : pagesAfter policy number call (pageOf g) ≡ pageOf g = fun-ext (λ p. settle-refused n _ _ e) in (
           agree policy carried g h,
           rw (outcome, e) refl,
@@ -85,15 +83,15 @@ always policy sound (call ∷ calls) carried g h = by-number (settled policy (pa
 -- The start is settled first: a refused one has a number, and the list of an accepted one begins with what always holds.
 pub claim : Claim
 unfolding startOf
-claim bytes shadow map exclusion calls accepted = by-number (firstNo (startQuestions bytes (policyOf bytes) (length shadow) (length map) (length exclusion))) refl
+claim given bytes t calls accepted = by-number (firstNo (startQuestions given bytes (policyOf bytes) (lengthsOf t))) refl
   where
-    by-number : (n : ℕ) → firstNo (startQuestions bytes (policyOf bytes) (length shadow) (length map) (length exclusion)) ≡ n
-        → Always (policyOf bytes) (carriedFirst (policyOf bytes)) ((startOf bytes shadow map exclusion) .guard) (firstPage (policyOf bytes)) calls
+    by-number : (n : ℕ) → firstNo (startQuestions given bytes (policyOf bytes) (lengthsOf t)) ≡ n
+        → Always (policyOf bytes) (carriedFirst (policyOf bytes)) ((startOf given bytes t) .guard) (firstPage (policyOf bytes)) calls
     by-number zero e =
-        let guard : (startOf bytes shadow map exclusion) .guard ≡ startGuard (policyOf bytes) = ap (λ (o : Outcome). o .guard) (settle-accepted _ _ e) in
-        rw (guard, ← (first-pages bytes (length shadow) (length map) (length exclusion) e))
-        (always (policyOf bytes) (sound bytes (length shadow) (length map) (length exclusion) e) calls (carriedFirst (policyOf bytes))
-        (startGuard (policyOf bytes)) (start-kept bytes (length shadow) (length map) (length exclusion) e))
+        let guard : (startOf given bytes t) .guard ≡ startGuard (policyOf bytes) = ap (λ (o : Outcome). o .guard) (settle-accepted _ _ e) in
+        rw (guard, ← (first-pages given bytes (lengthsOf t) e))
+        (always (policyOf bytes) (sound given bytes (lengthsOf t) e) calls (carriedFirst (policyOf bytes)) (startGuard (policyOf bytes))
+        (start-kept given bytes (lengthsOf t) e))
     by-number (suc n) e =
-        let number : (startOf bytes shadow map exclusion) .reply .number ≡ suc n = ap (λ (o : Outcome). o .reply .number) (settle-refused n _ _ e) in
+        let number : (startOf given bytes t) .reply .number ≡ suc n = ap (λ (o : Outcome). o .reply .number) (settle-refused n _ _ e) in
         absurd (omega arith)

@@ -11,13 +11,13 @@ use Rattle.model.specs.Keeps.{Guard, excludedIn}
 use Rattle.model.specs.Policy.{Policy}
 use Rattle.model.specs.Bits.{frameOf}
 use Rattle.model.specs.Questions.{free}
-use Rattle.model.specs.Lists.{Call, syncPage, syncAll, fetch, write, enter, leave, deviceWrite, withMoved, withReply}
+use Rattle.model.specs.Calls.{Call, syncPage, syncAll, fetch, write, enter, leave, deviceWrite, questionsOf, effectOf}
 use Rattle.model.specs.OnePage.{seenBy, settled}
 use Rattle.model.specs.Claim.{Carried, Clear, coveredBy, Safe}
 use Rattle.model.proofs.QuestionLaws.{both-first, both-second}
 use Rattle.model.proofs.ClaimPages.{good-code}
 use Rattle.model.proofs.AcceptedLaws.{fetch-there, fetch-executable, write-free, deviceWrite-free}
-use Rattle.model.proofs.ClaimKept.{Kept, pageOf, acceptedOf}
+use Rattle.model.proofs.ClaimKept.{Kept, pageOf}
 
 module _ (policy : Policy) (carried : Carried) (g : Guard) (h : Kept policy carried g) where
   -- Any byte of a frame that question 13 lets pass is clear.
@@ -27,12 +27,12 @@ module _ (policy : Policy) (carried : Carried) (g : Guard) (h : Kept policy carr
       let below : f < policy .frames = ltb-true f (policy .frames) (both-first _ _ passed) in
       record {
         below = omega arith;
-        unprotected = rw e (sym (h .excluded f) ∙ not-true (excludedIn (g .exclusion) f) (both-second (ltb f (policy .frames)) (not (excludedIn (g .exclusion) f)) passed));
+        unprotected = rw e (sym (h .excluded f) ∙ not-true (excludedIn (g .tables .exclusion) f) (both-second (ltb f (policy .frames)) (not (excludedIn (g .tables .exclusion) f)) passed));
       }
 
   -- Every accepted call is safe.
-  pub safe : (call : Call) → settled policy (pageOf g) g call ≡ 0 → Safe policy carried (pageOf g) call ((acceptedOf g call) .reply)
-  unfolding settled acceptedOf withMoved withReply coveredBy lastPage lastByte
+  pub safe : (call : Call) → settled policy (pageOf g) g call ≡ 0 → Safe policy carried (pageOf g) call ((effectOf g call) .reply)
+  unfolding settled questionsOf effectOf coveredBy lastPage lastByte
   safe (syncPage kernel page) passed = tt
   safe (syncAll kernel) passed = tt
   safe (fetch page) passed =
@@ -48,7 +48,7 @@ module _ (policy : Policy) (carried : Carried) (g : Guard) (h : Kept policy carr
         first = refl;
         second = refl;
         bytes = λ a l m.
-            free-clear (frameOf (getD (g .shadow) (a / pageBytes) 0)) (frameOf (getD (g .shadow) (a / pageBytes) 0) * pageBytes + a % pageBytes)
+            free-clear (frameOf (getD (g .tables .shadow) (a / pageBytes) 0)) (frameOf (getD (g .tables .shadow) (a / pageBytes) 0) * pageBytes + a % pageBytes)
             (write-free (seenBy policy (pageOf g)) address size a passed l m) (omega arith);
       }
   safe (enter index) passed = tt

@@ -11,9 +11,9 @@ use native.Mathlib.Omega.{arith}
 use borrow.Author.Tests.{leb-true, ltb-true, ltb-false, eqb-true, ne-eqb}
 use Rattle.model.specs.Edges.{both, either, pagesInRange, framesInRange, table, member, bit}
 use Rattle.model.specs.Keeps.{none, vectorBytes, excludedIn, flag, byteOf, vectorOf, inUser, running}
-use Rattle.model.specs.Policy.{Policy, policyOf, frameFor, approvalFor, named, firstEntry, startState, startGuard}
+use Rattle.model.specs.Policy.{Givens, Policy, policyOf, frameFor, approvalFor, named, firstEntry, startState, startTables, startGuard}
 use Rattle.model.specs.Bits.{approved}
-use Rattle.model.specs.Questions.{firstNo, startQuestions, rising}
+use Rattle.model.specs.Questions.{firstNo, Lengths, startQuestions, rising}
 use Rattle.model.specs.OnePage.{Page, placeIn, firstPage}
 use Rattle.model.specs.Claim.{carriedFirst}
 use Rattle.model.proofs.QuestionLaws.{both-first, both-second, within-yes}
@@ -94,7 +94,7 @@ frameFor-placed pages least (p ∷ ps) (f ∷ fs) page other same up there =
     at true e rest = rw e (frameFor-unlisted ps fs page f (rising-unlisted pages (suc p) ps page later (omega (arith, eqb-true page p e))))
     at false e rest = rw e (rest (sym (member-there page p ps e) ∙ there))
 
-module _ (bytes : List ℕ) (s m x : ℕ) (accepted : firstNo (startQuestions bytes (policyOf bytes) s m x) ≡ 0) where
+module _ (given : Givens) (bytes : List ℕ) (l : Lengths) (accepted : firstNo (startQuestions given bytes (policyOf bytes) l) ≡ 0) where
   abbrev policy : Policy
   policy = policyOf bytes
 
@@ -105,8 +105,8 @@ module _ (bytes : List ℕ) (s m x : ℕ) (accepted : firstNo (startQuestions by
   abbrev frame : ℕ → ℕ
   frame p = frameFor (policy .listed) (policy .backing) p none
 
-  passed : Passed policy s m x
-  passed = start-passed bytes policy s m x accepted
+  passed : Passed policy l
+  passed = start-passed given bytes policy l accepted
 
   listed-length : length (policy .listed) ≡ policy .count
   unfolding policyOf
@@ -163,7 +163,7 @@ module _ (bytes : List ℕ) (s m x : ℕ) (accepted : firstNo (startQuestions by
 
   -- The tables of the start show the one-page guards as they begin.
   pub first-pages : pageOf (startGuard policy) ≡ firstPage policy
-  unfolding startGuard startState inUser firstPage
+  unfolding startGuard startState startTables inUser firstPage
   first-pages =
       fun-ext λ p i.
       record {
@@ -190,7 +190,7 @@ module _ (bytes : List ℕ) (s m x : ℕ) (accepted : firstNo (startQuestions by
       at false e = good-absent (named policy) (firstPage policy p) none (λ k. absurd (true≢false k))
 
   pub start-kept : Kept policy (carriedFirst policy) (startGuard policy)
-  unfolding startGuard startState running carriedFirst
+  unfolding startGuard startState startTables running carriedFirst
   start-kept =
       record {
         pages = refl;

@@ -12,8 +12,8 @@ use native.Mathlib.Omega.{arith}
 use borrow.Author.Tests.{ltb-true, lt-ltb, le-ltb, le-leb, lt-leb, eqb-true, eq-eqb}
 use Rattle.model.specs.Edges.{both, either, within, pagesInRange, framesInRange, member}
 use Rattle.model.specs.Keeps.{vectorBytes}
-use Rattle.model.specs.Policy.{Policy, numberAt, numbersAt, frameFor}
-use Rattle.model.specs.Questions.{firstNo, sizesInRange, countsInRange, rising, allBelow, inOrder, startQuestions}
+use Rattle.model.specs.Policy.{Givens, Policy, numberAt, numbersAt, frameFor}
+use Rattle.model.specs.Questions.{firstNo, sizesInRange, countsInRange, rising, allBelow, inOrder, policyQuestions, givensInRange, recordQuestions, Lengths, lengthsFit, startQuestions}
 use Rattle.model.proofs.QuestionLaws.{either-second, both-yes, both-no, both-no-after, both-first, both-second, within-low, within-high, asked, numbered, all-yes}
 
 -- Numbers in a row: none, one more at the front, how many, and each of them.
@@ -163,8 +163,8 @@ frameFor-map h (p ∷ ps) (f ∷ fs) page other =
     at true = refl
     at false = refl
 
--- What the questions of an accepted start say of its policy and of the lengths of the three tables.
-pub record Passed (policy : Policy) (shadow map exclusion : ℕ) : Type 0 where
+-- What the questions of an accepted start say of its policy and of the lengths of its tables.
+pub record Passed (policy : Policy) (l : Lengths) : Type 0 where
   pub pages-low : 1 ≤ policy .pages
   pub pages-high : policy .pages ≤ 2048
   pub frames-low : 1 ≤ policy .frames
@@ -177,17 +177,17 @@ pub record Passed (policy : Policy) (shadow map exclusion : ℕ) : Type 0 where
   pub listed-rising : rising (policy .pages) 0 (policy .listed) ≡ true
   pub listed-below : allBelow (policy .pages) (policy .listed) ≡ true
   pub backing-below : allBelow (policy .frames) (policy .backing) ≡ true
-  pub shadow-fits : shadow ≡ policy .pages
-  pub map-fits : map ≡ policy .pages
-  pub exclusion-fits : exclusion ≡ vectorBytes (policy .frames)
+  pub shadow-fits : l .shadow ≡ policy .pages
+  pub map-fits : l .map ≡ policy .pages
+  pub exclusion-fits : l .exclusion ≡ vectorBytes (policy .frames)
 
-module _ (bytes : List ℕ) (policy : Policy) (shadow map exclusion : ℕ) (h : firstNo (startQuestions bytes policy shadow map exclusion) ≡ 0) where
-  answered : (n : ℕ) → asked n (startQuestions bytes policy shadow map exclusion) ≡ true
-  unfolding startQuestions numbered both
-  answered n = all-yes n (startQuestions bytes policy shadow map exclusion) refl h
+module _ (given : Givens) (bytes : List ℕ) (policy : Policy) (l : Lengths) (h : firstNo (startQuestions given bytes policy l) ≡ 0) where
+  answered : (n : ℕ) → asked n (startQuestions given bytes policy l) ≡ true
+  unfolding startQuestions recordQuestions policyQuestions numbered both
+  answered n = all-yes n (startQuestions given bytes policy l) refl h
 
   sizes-yes : sizesInRange policy ≡ true
-  unfolding startQuestions asked both either
+  unfolding startQuestions recordQuestions policyQuestions asked both either
   sizes-yes = both-first (sizesInRange policy) true (answered 2)
 
   pages-yes : pagesInRange (policy .pages) ≡ true
@@ -199,8 +199,8 @@ module _ (bytes : List ℕ) (policy : Policy) (shadow map exclusion : ℕ) (h : 
   frames-yes = both-second (pagesInRange (policy .pages)) (framesInRange (policy .frames)) sizes-yes
 
   counts-yes : countsInRange policy ≡ true
-  unfolding startQuestions asked both either
-  counts-yes = both-first (countsInRange policy) true (answered 3)
+  unfolding startQuestions recordQuestions policyQuestions asked both either
+  counts-yes = both-first (countsInRange policy) (givensInRange given) (both-first _ true (answered 3))
 
   count-yes : within 1 (policy .pages) (policy .count) ≡ true
   unfolding countsInRange
@@ -211,18 +211,18 @@ module _ (bytes : List ℕ) (policy : Policy) (shadow map exclusion : ℕ) (h : 
   entries-yes = both-second (within 1 (policy .pages) (policy .count)) (within 1 (min (policy .count) 16) (policy .entries)) counts-yes
 
   rises-yes : rising (policy .pages) 0 (policy .listed) ≡ true
-  unfolding startQuestions asked both either
+  unfolding startQuestions recordQuestions policyQuestions asked both either
   rises-yes = both-first (rising (policy .pages) 0 (policy .listed)) true (answered 5)
 
   below-yes : allBelow (policy .frames) (policy .backing) ≡ true
-  unfolding startQuestions asked both either
+  unfolding startQuestions recordQuestions policyQuestions asked both either
   below-yes = both-first (allBelow (policy .frames) (policy .backing)) true (answered 6)
 
-  lengths-yes : both (eqb shadow (policy .pages)) (both (eqb map (policy .pages)) (both (eqb exclusion (vectorBytes (policy .frames))) true)) ≡ true
-  unfolding startQuestions asked both either inOrder
+  lengths-yes : both (eqb (l .shadow) (policy .pages)) (both (eqb (l .map) (policy .pages)) (both (eqb (l .exclusion) (vectorBytes (policy .frames))) true)) ≡ true
+  unfolding startQuestions recordQuestions policyQuestions asked both either lengthsFit inOrder
   lengths-yes = both-first _ true (answered 7)
 
-  pub start-passed : Passed policy shadow map exclusion
+  pub start-passed : Passed policy l
   unfolding pagesInRange framesInRange
   start-passed =
       record {

@@ -10,11 +10,11 @@ use Rattle.model.specs.declared.Answer.{Answer}
 use Rattle.model.specs.declared.Answer.the-variants.{Done, Refused}
 use Rattle.model.specs.declared.Called.{Called}
 use Rattle.model.specs.Edges.{pageBytes, lastPage}
-use Rattle.model.specs.Keeps.{none, Guard, excludedIn, inUser, modeOf, inMode}
-use Rattle.model.specs.Policy.{Policy, policyOf, startGuard, zeroState}
+use Rattle.model.specs.Keeps.{none, Tables, withShadow, withMap, Guard, guardOf, excludedIn, inUser, modeOf, inMode}
+use Rattle.model.specs.Policy.{Givens, Policy, policyOf, startGuard, zeroState}
 use Rattle.model.specs.Bits.{frameOf}
 use Rattle.model.specs.Sync.{Rules, Place, step, differs, Run, runOver, switchedAll, changes}
-use Rattle.model.specs.Questions.{firstNo, seen, startQuestions, syncPageQuestions, syncAllQuestions, fetchQuestions, writeQuestions, enterQuestions, leaveQuestions, deviceWriteQuestions}
+use Rattle.model.specs.Questions.{Question, firstNo, View, seen, lengthsOf, startQuestions, syncPageQuestions, syncAllQuestions, fetchQuestions, writeQuestions, enterQuestions, leaveQuestions, deviceWriteQuestions}
 
 -- Whether a call was accepted; the number of the question that refused it, or 0; and the call's two numbers.
 pub record Reply : Type 0 where
@@ -40,111 +40,103 @@ unfoldable pub settle : {A : Type 0} → ℕ → A → (ℕ → A) → A
 settle zero done refusal = done
 settle (suc n) done refusal = refusal (suc n)
 
--- A reply beside what the call may change.
-pub record Moved : Type 0 where
-  pub reply : Reply
-  pub state : State
-
-pub record Switched : Type 0 where
-  pub reply : Reply
-  pub state : State
-  pub shadow : List ℕ
-
--- What a call gave, in that form; of a mode switch with the shadow table that it left.
-unfoldable pub movedBy : Called → Moved
-movedBy r = record { reply = replyOf (r .answer); state = r .state }
-
-unfoldable pub switchedBy : Called → List ℕ → Switched
-switchedBy r shadow = record { reply = replyOf (r .answer); state = r .state; shadow = shadow }
-
-pub record Synced : Type 0 where
-  pub reply : Reply
-  pub shadow : List ℕ
-  pub map : List ℕ
-
--- What a synchronising call gave, with the two tables that it left, in that form.
-unfoldable pub syncedBy : Answer → List ℕ → List ℕ → Synced
-syncedBy r shadow map = record { reply = replyOf r; shadow = shadow; map = map }
-
+-- What a call gave: its reply, and the guard after it.
 pub record Outcome : Type 0 where
   pub reply : Reply
   pub guard : Guard
 
--- What a call gave, with all three tables that it left, in that form.
-unfoldable pub outcomeBy : Called → List ℕ → List ℕ → List ℕ → Outcome
-outcomeBy r shadow map exclusion =
-    record { reply = replyOf (r .answer); guard = record { state = r .state; shadow = shadow; map = map; exclusion = exclusion } }
+-- What a call answered, with the tables that it left, in that form.
+unfoldable pub outcomeBy : Called → Tables → Outcome
+outcomeBy r t = record { reply = replyOf (r .answer); guard = guardOf (r .state) t }
+
+-- The same of a call that keeps the state.
+abbrev pub keptBy : Answer → State → Tables → Outcome
+keptBy r s t = outcomeBy (record { answer = r; state = s }) t
+
+-- A refused call: its number, and nothing changed.
+abbrev pub refusedOf : Guard → ℕ → Outcome
+refusedOf g n = record { reply = refused n; guard = g }
 
 -- "Start: n and e." A refused start leaves every lent table as it was.
-unfoldable pub startOf : List ℕ → List ℕ → List ℕ → List ℕ → Outcome
-startOf bytes shadow map exclusion =
+unfoldable pub startOf : Givens → List ℕ → Tables → Outcome
+startOf given bytes t =
     let policy : Policy = policyOf bytes in
-    settle (firstNo (startQuestions bytes policy (length shadow) (length map) (length exclusion)))
+    settle (firstNo (startQuestions given bytes policy (lengthsOf t)))
     (record { reply = accepted (policy .count) (policy .entries); guard = startGuard policy })
-    (λ n. record { reply = refused n; guard = record { state = zeroState; shadow = shadow; map = map; exclusion = exclusion } })
+    (refusedOf (guardOf zeroState t))
+
+-- The other calls. "A list has synchronise one, synchronise all, fetch, write, enter, leave and device write calls [..] with any arguments".
+-- "Each synchronising call brings a kernel table of any contents and length."
+pub data Call : Type 0 where
+  syncPage : (kernel : List ℕ) (page : ℕ) → Call
+  syncAll : (kernel : List ℕ) → Call
+  fetch : (page : ℕ) → Call
+  write : (address length : ℕ) → Call
+  enter : (index : ℕ) → Call
+  leave : (page : ℕ) → Call
+  deviceWrite : (address length : ℕ) → Call
+
+-- The questions of each call, of what they look at.
+unfoldable pub questionsOf : View → Call → List Question
+questionsOf v (syncPage kernel page) = syncPageQuestions v (length kernel) page
+questionsOf v (syncAll kernel) = syncAllQuestions v (length kernel)
+questionsOf v (fetch page) = fetchQuestions v page
+questionsOf v (write address length) = writeQuestions v address length
+questionsOf v (enter index) = enterQuestions v index
+questionsOf v (leave page) = leaveQuestions v page
+questionsOf v (deviceWrite address length) = deviceWriteQuestions v address length
 
 -- What the step of a page reads of the state and of the exclusion vector.
 abbrev pub rulesOf : State → List ℕ → Rules
 rulesOf s exclusion = record { user = inUser (s .mode); frames = s .frames; excluded = excludedIn exclusion }
 
 -- "Synchronise: shadow entries whose value changed; pages that joined the map." One page:
-unfoldable pub pageSynced : List ℕ → List ℕ → ℕ → Place → Synced
-pageSynced shadow map page p =
+unfoldable pub pageSynced : Guard → ℕ → Place → Outcome
+pageSynced g page p =
+    let t : Tables = g .tables in
     record {
-      reply = accepted (differs (getD shadow page 0) (p .entry)) (differs (getD map page none) (p .approval));
-      shadow = set shadow page (p .entry);
-      map = set map page (p .approval);
+      reply = accepted (differs (getD (t .shadow) page 0) (p .entry)) (differs (getD (t .map) page none) (p .approval));
+      guard = guardOf (g .state) (withShadow (set (t .shadow) page (p .entry)) (withMap (set (t .map) page (p .approval)) t));
     }
 
-unfoldable pub syncPageOf : State → List ℕ → List ℕ → List ℕ → List ℕ → ℕ → Synced
-syncPageOf s kernel shadow map exclusion page =
-    settle (firstNo (syncPageQuestions (seen s shadow map exclusion) (length kernel) page))
-    (pageSynced shadow map page (step (rulesOf s exclusion) (getD kernel page 0) (getD map page none)))
-    (λ n. record { reply = refused n; shadow = shadow; map = map })
-
 -- All pages:
-unfoldable pub allSynced : Run → Synced
-allSynced r = record { reply = accepted (r .changed) (r .joined); shadow = r .shadow; map = r .map }
-
-unfoldable pub syncAllOf : State → List ℕ → List ℕ → List ℕ → List ℕ → Synced
-syncAllOf s kernel shadow map exclusion =
-    settle (firstNo (syncAllQuestions (seen s shadow map exclusion) (length kernel)))
-    (allSynced (runOver (step (rulesOf s exclusion)) kernel shadow map))
-    (λ n. record { reply = refused n; shadow = shadow; map = map })
-
--- "Fetch a page: its frame, twice; that page is now running." The mode stays.
-unfoldable pub fetchOf : State → List ℕ → ℕ → Moved
-fetchOf s shadow page =
-    let frame : ℕ = frameOf (getD shadow page 0) in
-    settle (firstNo (fetchQuestions (seen s shadow [] []) page))
-    (record { reply = accepted frame frame; state = inMode s (modeOf (inUser (s .mode)) page) })
-    (λ n. record { reply = refused n; state = s })
-
--- "Write at an address, 1 to 16 bytes: first and last frame."
-unfoldable pub writeOf : State → List ℕ → List ℕ → ℕ → ℕ → Reply
-writeOf s shadow exclusion address length =
-    settle (firstNo (writeQuestions (seen s shadow [] exclusion) address length))
-    (accepted (frameOf (getD shadow (address / pageBytes) 0)) (frameOf (getD shadow (lastPage address length) 0)))
-    refused
+unfoldable pub allSynced : Guard → Run → Outcome
+allSynced g r =
+    record {
+      reply = accepted (r .changed) (r .joined);
+      guard = guardOf (g .state) (withShadow (r .shadow) (withMap (r .map) (g .tables)));
+    }
 
 -- "Both switch the mode, run that page, and give the count of changed shadow entries and 0."
-unfoldable pub switchTo : State → List ℕ → Mode → Switched
-switchTo s shadow mode =
-    let after : List ℕ = switchedAll (inUser mode) shadow in
-    record { reply = accepted (changes shadow after) 0; state = inMode s mode; shadow = after }
+unfoldable pub switchTo : Guard → Mode → Outcome
+switchTo g mode =
+    let after : List ℕ = switchedAll (inUser mode) (g .tables .shadow) in
+    record {
+      reply = accepted (changes (g .tables .shadow) after) 0;
+      guard = guardOf (inMode (g .state) mode) (withShadow after (g .tables));
+    }
 
-unfoldable pub enterOf : State → List ℕ → ℕ → Switched
-enterOf s shadow index =
-    settle (firstNo (enterQuestions (seen s shadow [] []) index)) (switchTo s shadow (Kernel (getD (s .entry) index 0)))
-    (λ n. record { reply = refused n; state = s; shadow = shadow })
+-- What each call gives where no question refuses it.
+-- "Fetch a page: its frame, twice; that page is now running." The mode stays.
+-- "Write at an address, 1 to 16 bytes: first and last frame." "Device write at an address, 1 to 1,048,576 bytes: first and last frame."
+unfoldable pub effectOf : Guard → Call → Outcome
+effectOf g (syncPage kernel page) =
+    pageSynced g page (step (rulesOf (g .state) (g .tables .exclusion)) (getD kernel page 0) (getD (g .tables .map) page none))
+effectOf g (syncAll kernel) =
+    allSynced g (runOver (step (rulesOf (g .state) (g .tables .exclusion))) kernel (g .tables .shadow) (g .tables .map))
+effectOf g (fetch page) =
+    let frame : ℕ = frameOf (getD (g .tables .shadow) page 0) in
+    record { reply = accepted frame frame; guard = guardOf (inMode (g .state) (modeOf (inUser (g .state .mode)) page)) (g .tables) }
+effectOf g (write address length) =
+    record {
+      reply = accepted (frameOf (getD (g .tables .shadow) (address / pageBytes) 0)) (frameOf (getD (g .tables .shadow) (lastPage address length) 0));
+      guard = g;
+    }
+effectOf g (enter index) = switchTo g (Kernel (getD (g .state .entry) index 0))
+effectOf g (leave page) = switchTo g (User page)
+effectOf g (deviceWrite address length) = record { reply = accepted (address / pageBytes) (lastPage address length); guard = g }
 
-unfoldable pub leaveOf : State → List ℕ → ℕ → Switched
-leaveOf s shadow page =
-    settle (firstNo (leaveQuestions (seen s shadow [] []) page)) (switchTo s shadow (User page))
-    (λ n. record { reply = refused n; state = s; shadow = shadow })
-
--- "Device write at an address, 1 to 1,048,576 bytes: first and last frame."
-unfoldable pub deviceWriteOf : State → List ℕ → ℕ → ℕ → Reply
-deviceWriteOf s exclusion address length =
-    settle (firstNo (deviceWriteQuestions (seen s [] [] exclusion) address length)) (accepted (address / pageBytes) (lastPage address length))
-    refused
+-- What the guard answers to a call, and leaves. "Each call gets these as the last one returned or left them": what a call does not change
+-- stays as it is, and a refused call changes nothing.
+unfoldable pub answer : Guard → Call → Outcome
+answer g call = settle (firstNo (questionsOf (seen g) call)) (effectOf g call) (refusedOf g)

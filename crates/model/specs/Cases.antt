@@ -7,9 +7,9 @@ use lib.ListN.{replicate, set}
 use Rattle.model.specs.declared.State.{State}
 use Rattle.model.specs.declared.Mode.{Mode}
 use Rattle.model.specs.declared.Mode.the-variants.{Kernel, User}
-use Rattle.model.specs.Keeps.{Guard, inMode}
-use Rattle.model.specs.Calls.{Outcome, accepted, refused, startOf}
-use Rattle.model.specs.Lists.{syncPage, write, deviceWrite, answer}
+use Rattle.model.specs.Keeps.{Guard, guardOf, inMode}
+use Rattle.model.specs.Policy.{nothingGiven}
+use Rattle.model.specs.Calls.{Outcome, accepted, refused, startOf, syncPage, write, deviceWrite, answer}
 
 -- "Policy V 4, F 4, n 1, e 1, page 1, frame 2."
 unfoldable pub policyBytes : List ℕ
@@ -17,20 +17,14 @@ policyBytes = 4 ∷ 0 ∷ 4 ∷ 0 ∷ 1 ∷ 0 ∷ 1 ∷ 0 ∷ 1 ∷ 0 ∷ 2 ∷ 
 
 -- The start on that policy, whatever the lent tables held.
 unfoldable pub theStart : Outcome
-theStart = startOf policyBytes (5 ∷ 6 ∷ 7 ∷ 8 ∷ []) (1 ∷ 2 ∷ 3 ∷ 4 ∷ []) (255 ∷ [])
+theStart = startOf nothingGiven policyBytes (record { shadow = 5 ∷ 6 ∷ 7 ∷ 8 ∷ []; map = 1 ∷ 2 ∷ 3 ∷ 4 ∷ []; exclusion = 255 ∷ [] })
 
 -- The started guard, and for a case that names user mode the same guard with the mode replaced.
 unfoldable pub started : Guard
 started = theStart .guard
 
 unfoldable pub startedUser : Guard
-startedUser =
-    record {
-      state = inMode (started .state) (User 1);
-      shadow = started .shadow;
-      map = started .map;
-      exclusion = started .exclusion;
-    }
+startedUser = guardOf (inMode (started .state) (User 1)) (started .tables)
 
 -- A kernel table with one entry, at a page.
 unfoldable pub only : ℕ → ℕ → List ℕ
@@ -46,7 +40,7 @@ stateIn mode = record { pages = 4; frames = 4; entries = 1; entry = 1 ∷ replic
 
 -- A guard of that policy with these contents. No call changes the exclusion vector, whose one byte is 0x04.
 unfoldable pub holding : Mode → List ℕ → List ℕ → Guard
-holding mode shadow map = record { state = stateIn mode; shadow = shadow; map = map; exclusion = 0x04 ∷ [] }
+holding mode shadow map = guardOf (stateIn mode) (record { shadow = shadow; map = map; exclusion = 0x04 ∷ [] })
 
 -- The tables as the start leaves them.
 unfoldable pub shadowStarted : List ℕ

@@ -6,22 +6,21 @@ use mathlib.Core.Path.{_≡_}
 use lib.ListN.{length, getD}
 use lib.Dec.{eqb}
 use Rattle.model.specs.Edges.{pageBytes}
-use Rattle.model.specs.Keeps.{none, Guard, vectorBytes, inUser}
-use Rattle.model.specs.Policy.{Policy, policyOf, named}
+use Rattle.model.specs.Keeps.{none, Tables, Guard, vectorBytes, inUser}
+use Rattle.model.specs.Policy.{Givens, Policy, policyOf, named}
 use Rattle.model.specs.Bits.{frameOf}
-use Rattle.model.specs.Calls.{Reply, Outcome, startOf}
-use Rattle.model.specs.Lists.{Call, syncPage, syncAll, fetch, write, enter, leave, deviceWrite, answer}
+use Rattle.model.specs.Calls.{Reply, Outcome, startOf, Call, syncPage, syncAll, fetch, write, enter, leave, deviceWrite, answer}
 use Rattle.model.specs.OnePage.{Page, firstPage, settled, pagesAfter}
 
 -- After the start and after every call: the tables have their lengths, "the state agrees on kernel or user", and each page's shadow entry
 -- and approval equal those of its one-page guard. Every page below V has its own place, so that no default of getD is compared.
 pub record Agree (policy : Policy) (g : Guard) (ps : ℕ → Page) : Type 0 where
-  pub shadowLength : length (g .shadow) ≡ policy .pages
-  pub mapLength : length (g .map) ≡ policy .pages
-  pub exclusionLength : length (g .exclusion) ≡ vectorBytes (policy .frames)
+  pub shadowLength : length (g .tables .shadow) ≡ policy .pages
+  pub mapLength : length (g .tables .map) ≡ policy .pages
+  pub exclusionLength : length (g .tables .exclusion) ≡ vectorBytes (policy .frames)
   pub mode : (p : ℕ) → p < policy .pages → inUser (g .state .mode) ≡ (ps p) .user
-  pub entry : (p : ℕ) → p < policy .pages → getD (g .shadow) p 0 ≡ (ps p) .entry
-  pub approval : (p : ℕ) → p < policy .pages → getD (g .map) p none ≡ (ps p) .approval
+  pub entry : (p : ℕ) → p < policy .pages → getD (g .tables .shadow) p 0 ≡ (ps p) .entry
+  pub approval : (p : ℕ) → p < policy .pages → getD (g .tables .map) p none ≡ (ps p) .approval
 
 -- The frames that a list carries through its calls: those of which no allowed write or transfer covers a byte, and those that kernel code may be
 -- fetched from. In the base both are the frames named in the policy.
@@ -87,9 +86,9 @@ Always policy carried g ps (call ∷ calls) =
     × (number ≡ 0 → Safe policy carried ps call (outcome .reply))
     × Always policy (carriedAfter number call ps carried) (outcome .guard) (pagesAfter policy number call ps) calls
 
--- For every policy record and lent tables whose start is accepted, and every list of calls: no other premise.
+-- For every policy record, what else the start is given, and lent tables, whose start is accepted, and every list of calls: no other premise.
 abbrev pub Claim : Type 0
 Claim =
-    (bytes shadow map exclusion : List ℕ) (calls : List Call) →
-    (startOf bytes shadow map exclusion) .reply .number ≡ 0 →
-    Always (policyOf bytes) (carriedFirst (policyOf bytes)) ((startOf bytes shadow map exclusion) .guard) (firstPage (policyOf bytes)) calls
+    (given : Givens) (bytes : List ℕ) (t : Tables) (calls : List Call) →
+    (startOf given bytes t) .reply .number ≡ 0 →
+    Always (policyOf bytes) (carriedFirst (policyOf bytes)) ((startOf given bytes t) .guard) (firstPage (policyOf bytes)) calls

@@ -8,10 +8,9 @@ use lib.Dec.{ltb, eqb}
 use Rattle.model.specs.declared.Mode.{Mode}
 use Rattle.model.specs.Edges.{within}
 use Rattle.model.specs.Keeps.{Guard, vectorBytes, excludedIn, inUser, running}
-use Rattle.model.specs.Policy.{Policy, policyOf, numberAt}
+use Rattle.model.specs.Policy.{nothingGiven, Policy, policyOf, numberAt}
 use Rattle.model.specs.Questions.{question, firstNo}
-use Rattle.model.specs.Calls.{Reply, accepted, refused, settle, Outcome, startOf}
-use Rattle.model.specs.Lists.{Call, syncPage, syncAll, fetch, write, enter, leave, deviceWrite, answer}
+use Rattle.model.specs.Calls.{Reply, accepted, refused, settle, Outcome, startOf, Call, syncPage, syncAll, fetch, write, enter, leave, deviceWrite, answer}
 
 -- "It takes 8 bytes, and 4 × n more if n is 1 to 2,048, or as many as there are."
 unfoldable pub policyExtent : List ℕ → ℕ
@@ -26,7 +25,12 @@ pub record Drill : Type 0 where
 unfoldable pub drillStart : List ℕ → Outcome
 drillStart record′ =
     let policy : Policy = policyOf record′ in
-    startOf record′ (replicate (policy .pages) 0) (replicate (policy .pages) 0) (replicate (vectorBytes (policy .frames)) 0)
+    startOf nothingGiven record′
+    (record {
+      shadow = replicate (policy .pages) 0;
+      map = replicate (policy .pages) 0;
+      exclusion = replicate (vectorBytes (policy .frames)) 0;
+    })
 
 -- "The kernel table begins as zeros."
 unfoldable pub begun : Guard → Drill
@@ -142,7 +146,7 @@ unfoldable pub shareLine : ℕ → List ℕ → List ℕ
 shareLine frames exclusion = (115 ∷ 104 ∷ 97 ∷ 114 ∷ 101 ∷ 32 ∷ decimal (share frames exclusion)) ++ (10 ∷ [])
 
 unfoldable pub closing : Guard → List ℕ
-closing g = entryLines (g .shadow) ++ shareLine (g .state .frames) (g .exclusion)
+closing g = entryLines (g .tables .shadow) ++ shareLine (g .state .frames) (g .tables .exclusion)
 
 -- "then at most 1,024 calls"
 unfoldable pub callLimit : ℕ

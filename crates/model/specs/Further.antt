@@ -6,9 +6,9 @@ use lib.ListN.{replicate, set}
 use Rattle.model.specs.declared.State.{State}
 use Rattle.model.specs.declared.Mode.{Mode}
 use Rattle.model.specs.declared.Mode.the-variants.{Kernel, User}
-use Rattle.model.specs.Keeps.{Guard}
-use Rattle.model.specs.Calls.{Reply, Outcome, accepted, refused, startOf}
-use Rattle.model.specs.Lists.{Call, syncPage, syncAll, fetch, write, enter, leave, deviceWrite, answer}
+use Rattle.model.specs.Keeps.{Guard, guardOf}
+use Rattle.model.specs.Policy.{nothingGiven}
+use Rattle.model.specs.Calls.{Reply, Outcome, accepted, refused, startOf, Call, syncPage, syncAll, fetch, write, enter, leave, deviceWrite, answer}
 use Rattle.model.specs.Cases.{Case, row}
 
 -- V 6, F 8, n 3, e 2, pages 1, 2 and 4, frames 5, 3 and 5.
@@ -21,7 +21,8 @@ everyPage = 3 ∷ 0 ∷ 9 ∷ 0 ∷ 3 ∷ 0 ∷ 1 ∷ 0 ∷ 0 ∷ 0 ∷ 1 ∷ 0 
 
 -- A start on tables of these lengths that hold ones.
 unfoldable pub startOn : List ℕ → ℕ → ℕ → ℕ → Outcome
-startOn bytes shadow map exclusion = startOf bytes (replicate shadow 1) (replicate map 1) (replicate exclusion 1)
+startOn bytes shadow map exclusion =
+    startOf nothingGiven bytes (record { shadow = replicate shadow 1; map = replicate map 1; exclusion = replicate exclusion 1 })
 
 -- "answers a state of zeros in user mode on page 0", number by number.
 unfoldable pub zeros : State
@@ -39,7 +40,7 @@ unfoldable pub startRefused : ℕ → ℕ → ℕ → ℕ → Outcome
 startRefused number shadow map exclusion =
     record {
       reply = refused number;
-      guard = record { state = zeros; shadow = replicate shadow 1; map = replicate map 1; exclusion = replicate exclusion 1 };
+      guard = guardOf zeros (record { shadow = replicate shadow 1; map = replicate map 1; exclusion = replicate exclusion 1 });
     }
 
 unfoldable pub sixPages : Mode → State
@@ -48,7 +49,7 @@ sixPages mode = record { pages = 6; frames = 8; entries = 2; entry = 1 ∷ 2 ∷
 -- A guard of that policy in a mode, with these shadow entries; map and vector as the start leaves them.
 unfoldable pub with6 : Mode → List ℕ → Guard
 with6 mode shadow =
-    record { state = sixPages mode; shadow = shadow; map = 65535 ∷ 5 ∷ 3 ∷ 65535 ∷ 5 ∷ 65535 ∷ []; exclusion = 0x28 ∷ [] }
+    guardOf (sixPages mode) (record { shadow = shadow; map = 65535 ∷ 5 ∷ 3 ∷ 65535 ∷ 5 ∷ 65535 ∷ []; exclusion = 0x28 ∷ [] })
 
 unfoldable pub shadow6 : List ℕ
 shadow6 = 0 ∷ 0x5401 ∷ 0x3401 ∷ 0 ∷ 0x5401 ∷ 0 ∷ []
@@ -69,22 +70,18 @@ stays g call reply = row (answer g call) (record { reply = reply; guard = g })
 
 -- A guard whose state is replaced.
 unfoldable pub inState : State → Guard
-inState s = record { state = s; shadow = shadow6; map = started6 .map; exclusion = 0x28 ∷ [] }
+inState s = guardOf s (started6 .tables)
 
 -- A guard of so many pages, none present.
 unfoldable pub manyPages : ℕ → Guard
 manyPages pages =
-    record {
-      state = record { pages = pages; frames = 8; entries = 1; entry = replicate 16 0; mode = Kernel 0 };
-      shadow = replicate pages 0;
-      map = [];
-      exclusion = [];
-    }
+    guardOf (record { pages = pages; frames = 8; entries = 1; entry = replicate 16 0; mode = Kernel 0 })
+    (record { shadow = replicate pages 0; map = []; exclusion = [] })
 
 -- A guard of that policy in a mode, whose tables hold zeros and have these lengths.
 unfoldable pub lent : Mode → ℕ → ℕ → ℕ → Guard
 lent mode shadow map exclusion =
-    record { state = sixPages mode; shadow = replicate shadow 0; map = replicate map 0; exclusion = replicate exclusion 0 }
+    guardOf (sixPages mode) (record { shadow = replicate shadow 0; map = replicate map 0; exclusion = replicate exclusion 0 })
 
 -- A user page of frame 6 and a kernel page of frame 7, as they stand in each mode.
 unfoldable pub leaving : List ℕ
@@ -103,12 +100,8 @@ startCases =
     (record {
       reply = accepted 3 1;
       guard =
-          record {
-            state = record { pages = 3; frames = 9; entries = 1; entry = replicate 16 0; mode = Kernel 0 };
-            shadow = 0x8401 ∷ 0x401 ∷ 0x8401 ∷ [];
-            map = 8 ∷ 0 ∷ 8 ∷ [];
-            exclusion = 1 ∷ 1 ∷ [];
-          };
+          guardOf (record { pages = 3; frames = 9; entries = 1; entry = replicate 16 0; mode = Kernel 0 })
+          (record { shadow = 0x8401 ∷ 0x401 ∷ 0x8401 ∷ []; map = 8 ∷ 0 ∷ 8 ∷ []; exclusion = 1 ∷ 1 ∷ [] });
     })
     -- 1 to 7, each with all before it yes
     ∷ row (startOn (6 ∷ 0 ∷ 8 ∷ 0 ∷ 3 ∷ 0 ∷ 2 ∷ []) 6 6 1) (startRefused 1 6 6 1)
@@ -146,12 +139,12 @@ syncCases =
     (record {
       reply = accepted 3 1;
       guard =
-          record {
-            state = sixPages (Kernel 1);
+          guardOf (sixPages (Kernel 1))
+          (record {
             shadow = 0 ∷ 0x5401 ∷ 0 ∷ 0x5401 ∷ 0x5401 ∷ 0x8000000000006207 ∷ [];
             map = 65535 ∷ 5 ∷ 3 ∷ 5 ∷ 5 ∷ 65535 ∷ [];
             exclusion = 0x28 ∷ [];
-          };
+          });
     })
     -- 7 of the kernel table's length, and of each part of the state; 9 of the page
     ∷ stays started6 (syncAll (replicate 5 0)) (refused 7)

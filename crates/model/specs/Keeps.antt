@@ -13,12 +13,29 @@ use Rattle.model.specs.Edges.{bit, either, table}
 abbrev pub none : ℕ
 none = 65535
 
--- What the guard keeps beside the kernel table, which is not its own.
-pub record Guard : Type 0 where
-  pub state : State
+-- The guard's tables, beside the kernel table, which is not its own.
+pub record Tables : Type 0 where
   pub shadow : List ℕ
   pub map : List ℕ
   pub exclusion : List ℕ
+
+-- The tables with another one in its place.
+abbrev pub withShadow : List ℕ → Tables → Tables
+withShadow shadow t = record { shadow = shadow; map = t .map; exclusion = t .exclusion }
+
+abbrev pub withMap : List ℕ → Tables → Tables
+withMap map t = record { shadow = t .shadow; map = map; exclusion = t .exclusion }
+
+abbrev pub withExclusion : List ℕ → Tables → Tables
+withExclusion exclusion t = record { shadow = t .shadow; map = t .map; exclusion = exclusion }
+
+-- What the guard keeps: the state, and its tables.
+pub record Guard : Type 0 where
+  pub state : State
+  pub tables : Tables
+
+abbrev pub guardOf : State → Tables → Guard
+guardOf s t = record { state = s; tables = t }
 
 -- "The exclusion vector: F/8 bytes rounded up"
 unfoldable pub vectorBytes : ℕ → ℕ

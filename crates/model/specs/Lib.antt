@@ -6,7 +6,6 @@ pub mod Bits
 pub mod Sync
 pub mod Calls
 pub mod Questions
-pub mod Lists
 pub mod OnePage
 pub mod Claim
 pub mod Drill

@@ -3,16 +3,15 @@
 use Prim.Native.Nat.{ℕ, suc}
 use mathlib.Core.Bool.{Bool, true, false, cond}
 use mathlib.Core.List.{List, [], _∷_}
-use lib.ListN.{length, getD}
+use lib.ListN.{getD}
 use lib.Dec.{eqb}
 use Rattle.model.specs.Edges.{member}
 use Rattle.model.specs.Keeps.{none, Guard}
 use Rattle.model.specs.Policy.{Policy, named, entryPages}
 use Rattle.model.specs.Bits.{approved, switched}
 use Rattle.model.specs.Sync.{Place, step}
-use Rattle.model.specs.Questions.{View, firstNo, syncPageQuestions, syncAllQuestions, fetchQuestions, writeQuestions, enterQuestions, leaveQuestions, deviceWriteQuestions}
-use Rattle.model.specs.Calls.{settle}
-use Rattle.model.specs.Lists.{Call, syncPage, syncAll, fetch, write, enter, leave, deviceWrite}
+use Rattle.model.specs.Questions.{View, firstNo}
+use Rattle.model.specs.Calls.{settle, Call, syncPage, syncAll, fetch, write, enter, leave, deviceWrite, questionsOf}
 
 -- "The one-page guard of a page p holds a mode (kernel or user alone, with no running page), an entry and an approval." It keeps its own
 -- set of excluded frames, which are the policy's in the base.
@@ -98,13 +97,7 @@ seenBy policy ps =
 -- entries, approvals and excluded frames of the one-page guards". "Only what else a later request asks about is read from the state and
 -- tables that reach the call": the last guard argument, of which the base reads nothing.
 unfoldable pub settled : Policy → (ℕ → Page) → Guard → Call → ℕ
-settled policy ps reaching (syncPage kernel page) = firstNo (syncPageQuestions (seenBy policy ps) (length kernel) page)
-settled policy ps reaching (syncAll kernel) = firstNo (syncAllQuestions (seenBy policy ps) (length kernel))
-settled policy ps reaching (fetch page) = firstNo (fetchQuestions (seenBy policy ps) page)
-settled policy ps reaching (write address length) = firstNo (writeQuestions (seenBy policy ps) address length)
-settled policy ps reaching (enter index) = firstNo (enterQuestions (seenBy policy ps) index)
-settled policy ps reaching (leave page) = firstNo (leaveQuestions (seenBy policy ps) page)
-settled policy ps reaching (deviceWrite address length) = firstNo (deviceWriteQuestions (seenBy policy ps) address length)
+settled policy ps reaching call = firstNo (questionsOf (seenBy policy ps) call)
 
 -- The one-page guards after a call that was settled with this number: told of it if it was accepted. "any refused call: no change"
 unfoldable pub pagesAfter : Policy → ℕ → Call → (ℕ → Page) → ℕ → Page

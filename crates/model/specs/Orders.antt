@@ -6,16 +6,15 @@ use lib.ListN.{replicate, set}
 use Rattle.model.specs.declared.State.{State}
 use Rattle.model.specs.declared.Mode.{Mode}
 use Rattle.model.specs.declared.Mode.the-variants.{Kernel, User}
-use Rattle.model.specs.Keeps.{Guard}
-use Rattle.model.specs.Calls.{refused}
-use Rattle.model.specs.Lists.{syncPage, fetch, write, enter, leave, deviceWrite}
+use Rattle.model.specs.Keeps.{Guard, guardOf}
+use Rattle.model.specs.Calls.{refused, syncPage, fetch, write, enter, leave, deviceWrite}
 use Rattle.model.specs.Cases.{Case, row}
 use Rattle.model.specs.Further.{twoEntries, startOn, startRefused, sixPages, with6, shadow6, started6, at0, stays, left6}
 
 -- A guard in a mode with these shadow entries and an exclusion vector that is a byte too long. A shadow table of five entries is one too short.
 unfoldable pub misfit : Mode → List ℕ → Guard
 misfit mode shadow =
-    record { state = sixPages mode; shadow = shadow; map = started6 .map; exclusion = 0x28 ∷ 0 ∷ [] }
+    guardOf (sixPages mode) (record { shadow = shadow; map = started6 .tables .map; exclusion = 0x28 ∷ 0 ∷ [] })
 
 unfoldable pub startOrder : List Case
 startOrder =

@@ -7,8 +7,14 @@ use lib.Dec.{ltb, eqb}
 use Rattle.model.specs.declared.Mode.the-variants.{Kernel, User}
 use Rattle.model.specs.declared.State.{State}
 use Rattle.model.specs.Edges.{table, member}
-use Rattle.model.specs.Keeps.{none, vectorOf, Guard}
+use Rattle.model.specs.Keeps.{none, Tables, Guard, guardOf, vectorOf}
 use Rattle.model.specs.Bits.{approved}
+
+-- What the start is given beside the policy record: nothing so far.
+pub record Givens : Type 0 where
+
+abbrev pub nothingGiven : Givens
+nothingGiven = record {}
 
 pub record Policy : Type 0 where
   -- V
@@ -80,14 +86,16 @@ startState policy =
 
 -- "An accepted start sets the map and exclusion bits from the arrays, every other map place to 65535 and every other exclusion bit to 0,
 -- makes the shadow entry of each listed page an approved one, zeroes the others, and stands in kernel mode on the first entry page."
-unfoldable pub startGuard : Policy → Guard
-startGuard policy =
+unfoldable pub startTables : Policy → Tables
+startTables policy =
     record {
-      state = startState policy;
       shadow = table (policy .pages) (λ p. firstEntry (approvalFor policy p));
       map = table (policy .pages) (approvalFor policy);
       exclusion = vectorOf (policy .frames) (named policy);
     }
+
+unfoldable pub startGuard : Policy → Guard
+startGuard policy = guardOf (startState policy) (startTables policy)
 
 -- "A refused start, which has no state to keep, answers a state of zeros in user mode on page 0."
 unfoldable pub zeroState : State

@@ -1,13 +1,13 @@
 -- Document 01, "Questions in order": each question, and the list of them that each call goes down.
 use Prim.Native.Nat.{ℕ, suc, _+_, _*_, _/_, min}
 use mathlib.Core.Bool.{Bool, true, not, cond}
-use mathlib.Core.List.{List, [], _∷_}
+use mathlib.Core.List.{List, [], _∷_, _++_}
 use lib.ListN.{length, getD}
 use lib.Dec.{leb, ltb, eqb}
 use Rattle.model.specs.declared.State.{State}
 use Rattle.model.specs.Edges.{pageBytes, both, either, within, pagesInRange, framesInRange, everyFrom, lastByte, lastPage, touched}
-use Rattle.model.specs.Keeps.{none, vectorBytes, excludedIn, inUser, running}
-use Rattle.model.specs.Policy.{Policy}
+use Rattle.model.specs.Keeps.{none, Tables, Guard, vectorBytes, excludedIn, inUser, running}
+use Rattle.model.specs.Policy.{Policy, Givens}
 use Rattle.model.specs.Bits.{present, writable, userBit, noExecute, kernelNoExecute, approvedMark, frameOf}
 
 -- A question with its number, and whether its answer is yes.
@@ -47,22 +47,22 @@ unfoldable pub stateInOrder : State → Bool
 stateInOrder s =
     both (pagesInRange (s .pages)) (both (framesInRange (s .frames)) (both (within 1 16 (s .entries)) (ltb (running (s .mode)) (s .pages))))
 
--- The guard's view. A call looks only at the tables that it is lent; the others are empty lists there.
-abbrev pub seen : State → List ℕ → List ℕ → List ℕ → View
-seen s shadow map exclusion =
+-- The guard's view. The questions of a call look only at the tables that it is lent.
+abbrev pub seen : Guard → View
+seen g =
     record {
-      pages = s .pages;
-      frames = s .frames;
-      entries = s .entries;
-      entry = λ i. getD (s .entry) i 0;
-      user = inUser (s .mode);
-      shadow = λ p. getD shadow p 0;
-      approval = λ p. getD map p none;
-      excluded = excludedIn exclusion;
-      stateFits = stateInOrder s;
-      shadowFits = eqb (length shadow) (s .pages);
-      mapFits = eqb (length map) (s .pages);
-      exclusionFits = eqb (length exclusion) (vectorBytes (s .frames));
+      pages = g .state .pages;
+      frames = g .state .frames;
+      entries = g .state .entries;
+      entry = λ i. getD (g .state .entry) i 0;
+      user = inUser (g .state .mode);
+      shadow = λ p. getD (g .tables .shadow) p 0;
+      approval = λ p. getD (g .tables .map) p none;
+      excluded = excludedIn (g .tables .exclusion);
+      stateFits = stateInOrder (g .state);
+      shadowFits = eqb (length (g .tables .shadow)) (g .state .pages);
+      mapFits = eqb (length (g .tables .map)) (g .state .pages);
+      exclusionFits = eqb (length (g .tables .exclusion)) (vectorBytes (g .state .frames));
     }
 
 -- Questions 2 to 6, of sizes and lists wherever they come from.
@@ -90,17 +90,45 @@ unfoldable pub inOrder : Bool → List Bool → Bool
 inOrder stateFits [] = stateFits
 inOrder stateFits (fits ∷ lent) = both fits (inOrder stateFits lent)
 
--- The questions of the start. Its question 7 goes "by the record's V and F", and there is no state yet.
-unfoldable pub startQuestions : List ℕ → Policy → ℕ → ℕ → ℕ → List Question
-startQuestions bytes policy shadowLength mapLength exclusionLength =
-    question 1 (leb 8 (length bytes))
+-- Questions 1 to 6, of sizes and lists wherever they come from. Arguments: the answer to 1, what else 3 asks, and the answer to 4.
+unfoldable pub policyQuestions : Bool → Bool → Bool → Policy → List Question
+policyQuestions long more exact policy =
+    question 1 long
     ∷ question 2 (sizesInRange policy)
-    ∷ question 3 (countsInRange policy)
-    ∷ question 4 (eqb (length bytes) (8 + 4 * policy .count))
+    ∷ question 3 (both (countsInRange policy) more)
+    ∷ question 4 exact
     ∷ question 5 (rising (policy .pages) 0 (policy .listed))
     ∷ question 6 (allBelow (policy .frames) (policy .backing))
-    ∷ question 7 (inOrder true (eqb shadowLength (policy .pages) ∷ eqb mapLength (policy .pages) ∷ eqb exclusionLength (vectorBytes (policy .frames)) ∷ []))
     ∷ []
+
+-- What else question 3 asks of what the start is given.
+unfoldable pub givensInRange : Givens → Bool
+givensInRange given = true
+
+-- They are asked of a record's bytes, with its policy and what the start is given.
+unfoldable pub recordQuestions : Givens → List ℕ → Policy → List Question
+recordQuestions given bytes policy =
+    policyQuestions (leb 8 (length bytes)) (givensInRange given) (eqb (length bytes) (8 + 4 * policy .count)) policy
+
+-- How long each of the guard's tables is.
+pub record Lengths : Type 0 where
+  pub shadow : ℕ
+  pub map : ℕ
+  pub exclusion : ℕ
+
+abbrev pub lengths : ℕ → ℕ → ℕ → Lengths
+lengths shadow map exclusion = record { shadow = shadow; map = map; exclusion = exclusion }
+
+abbrev pub lengthsOf : Tables → Lengths
+lengthsOf t = lengths (length (t .shadow)) (length (t .map)) (length (t .exclusion))
+
+-- Question 7 of the start goes "by the record's V and F", and there is no state yet.
+unfoldable pub lengthsFit : Policy → Lengths → Bool
+lengthsFit policy l =
+    inOrder true (eqb (l .shadow) (policy .pages) ∷ eqb (l .map) (policy .pages) ∷ eqb (l .exclusion) (vectorBytes (policy .frames)) ∷ [])
+
+unfoldable pub startQuestions : Givens → List ℕ → Policy → Lengths → List Question
+startQuestions given bytes policy l = recordQuestions given bytes policy ++ (question 7 (lengthsFit policy l) ∷ [])
 
 -- Synchronise all: the kernel table is lent too, and has a length of its own.
 unfoldable pub syncAllQuestions : View → ℕ → List Question
