@@ -6,6 +6,7 @@ use mathlib.Core.Path.{_≡_, refl, sym, subst, _∙_}
 use lib.ListN.{length, getD, length-set, List·getD-eq-default}
 use lib.Seq.{getD-set-same, getD-set-other}
 use lib.Dec.{ltb, eqb}
+use native.Mathlib.Nat.{add-zero}
 use native.Mathlib.Omega.{arith}
 use borrow.Author.Tests.{ltb-true, ltb-false, eqb-true, eqb-false}
 use Rattle.model.specs.declared.Mode.{Mode}
@@ -14,14 +15,14 @@ use Rattle.model.specs.Edges.{bit, framesInRange}
 use Rattle.model.specs.Keeps.{none, withShadow, withMap, Guard, guardOf, inUser, running, modeOf, inMode}
 use Rattle.model.specs.Policy.{Policy}
 use Rattle.model.specs.Bits.{present, takenApart}
-use Rattle.model.specs.Sync.{Rules, Place, place, step, stepOf, Run, switchedAll, runOver}
+use Rattle.model.specs.Sync.{Rules, Place, place, step, stepOf, stepFrom, Run, switchedAll, runFrom}
 use Rattle.model.specs.Questions.{firstNo, syncAllQuestions}
 use Rattle.model.specs.Calls.{Call, syncPage, syncAll, fetch, write, enter, leave, deviceWrite, questionsOf, rulesOf, pageSynced, allSynced, switchTo, effectOf}
 use Rattle.model.specs.OnePage.{synchronised, nothing, seenBy, settled, stepped, turned, told, news}
 use Rattle.model.specs.Claim.{Carried, carriedAfter}
 use Rattle.model.proofs.QuestionLaws.{within-high}
 use Rattle.model.proofs.ClaimPages.{Good, told-good}
-use Rattle.model.proofs.RunLaws.{run-shadow-length, run-map-length, run-shadow-at, run-map-at}
+use Rattle.model.proofs.RunLaws.{run-shadow-length, run-map-length, run-at}
 use Rattle.model.proofs.SwitchLaws.{length-switched, switched-at}
 use Rattle.model.proofs.AcceptedLaws.{syncPage-page, syncAll-kernel, fetch-page, enter-page, leave-page}
 use Rattle.model.proofs.ClaimKept.{Sound, Kept, pageOf}
@@ -61,14 +62,14 @@ module _ (policy : Policy) (carried : Carried) (g : Guard) (sound : Sound policy
   -- The page of a synchronise, and every other page.
   syncPage-here : (kernel : List ℕ) (page : ℕ) → page < policy .pages
       → stepped policy (pageOf g page) (getD kernel page 0) ≡ pageOf ((effectOf g (syncPage kernel page)) .guard) page
-  unfolding effectOf pageSynced
+  unfolding effectOf pageSynced stepFrom
   syncPage-here kernel page below =
       let after : Guard = (effectOf g (syncPage kernel page)) .guard in
       stepped-at (after .tables .shadow) (after .tables .map) page (getD kernel page 0) (getD-set-same (g .tables .shadow) page _ 0 (omega (arith, h .shadowLength)))
       (getD-set-same (g .tables .map) page _ none (omega (arith, h .mapLength)))
 
   syncPage-other : (kernel : List ℕ) (page p : ℕ) → (p ≡ page → ⊥) → pageOf g p ≡ pageOf ((effectOf g (syncPage kernel page)) .guard) p
-  unfolding effectOf pageSynced
+  unfolding effectOf pageSynced stepFrom
   syncPage-other kernel page p other = rw (getD-set-other (g .tables .shadow) page p _ 0 other, getD-set-other (g .tables .map) page p _ none other)
 
   syncPage-commutes : (kernel : List ℕ) (page : ℕ) → page < policy .pages → (p : ℕ)
@@ -83,28 +84,27 @@ module _ (policy : Policy) (carried : Carried) (g : Guard) (sound : Sound policy
 
   syncAll-commutes : (kernel : List ℕ) → firstNo (syncAllQuestions (seenBy policy (pageOf g)) (length kernel)) ≡ 0 → (p : ℕ)
       → told policy (pageOf g p) (news p (syncAll kernel)) ≡ pageOf ((effectOf g (syncAll kernel)) .guard) p
-  unfolding news told effectOf allSynced
+  unfolding news told effectOf allSynced stepFrom
   syncAll-commutes kernel passed p = at (ltb p (policy .pages)) refl
     where
       whole : length kernel ≡ policy .pages
       whole = syncAll-kernel (seenBy policy (pageOf g)) (length kernel) passed
 
-      f : ℕ → ℕ → Place
-      f = step (rulesOf (g .state) (g .tables .exclusion))
+      f : ℕ → ℕ → ℕ → Place
+      f = stepFrom (rulesOf (g .state) (g .tables .exclusion)) kernel
 
       after : Run
-      after = runOver f kernel (g .tables .shadow) (g .tables .map)
+      after = runFrom f 0 (g .tables .shadow) (g .tables .map)
 
       at : (b : Bool) → ltb p (policy .pages) ≡ b → stepped policy (pageOf g p) (getD kernel p 0) ≡ pageOf ((effectOf g (syncAll kernel)) .guard) p
       at true e =
           let below : p < policy .pages = ltb-true p (policy .pages) e in
-          stepped-at (after .shadow) (after .map) p (getD kernel p 0)
-          (run-shadow-at f kernel (g .tables .shadow) (g .tables .map) p 0 0 none (omega (arith, whole)) (omega (arith, h .shadowLength)) (omega (arith, h .mapLength)))
-          (run-map-at f kernel (g .tables .shadow) (g .tables .map) p 0 none (omega (arith, whole)) (omega (arith, h .shadowLength)) (omega (arith, h .mapLength)))
+          let there = rw add-zero at (run-at f 0 (g .tables .shadow) (g .tables .map) p 0 none (omega (arith, h .shadowLength)) (omega (arith, h .mapLength))) in
+          stepped-at (after .shadow) (after .map) p (getD kernel p 0) (there .0) (there .1)
       at false e =
           let past : policy .pages ≤ p = ltb-false p (policy .pages) e in
           stepped-past (after .shadow) (after .map) p (getD kernel p 0) past (List·getD-eq-default kernel 0 (omega (arith, whole)))
-          (run-shadow-length f kernel (g .tables .shadow) (g .tables .map) ∙ h .shadowLength) (run-map-length f kernel (g .tables .shadow) (g .tables .map) ∙ h .mapLength)
+          (run-shadow-length f 0 (g .tables .shadow) (g .tables .map) ∙ h .shadowLength) (run-map-length f 0 (g .tables .shadow) (g .tables .map) ∙ h .mapLength)
 
   -- Each accepted call, as the one-page guards are told of it.
   pub commutes : (call : Call) → settled policy (pageOf g) g call ≡ 0 → (p : ℕ)
@@ -154,8 +154,8 @@ module _ (policy : Policy) (carried : Carried) (g : Guard) (sound : Sound policy
       kept-with (g .state .mode) _ _ (h .runs) (length-set (g .tables .shadow) page _ ∙ h .shadowLength) (length-set (g .tables .map) page _ ∙ h .mapLength)
       (good-after (syncPage kernel page) passed)
   kept (syncAll kernel) passed =
-      kept-with (g .state .mode) _ _ (h .runs) (run-shadow-length _ kernel (g .tables .shadow) (g .tables .map) ∙ h .shadowLength)
-      (run-map-length _ kernel (g .tables .shadow) (g .tables .map) ∙ h .mapLength) (good-after (syncAll kernel) passed)
+      kept-with (g .state .mode) _ _ (h .runs) (run-shadow-length _ 0 (g .tables .shadow) (g .tables .map) ∙ h .shadowLength)
+      (run-map-length _ 0 (g .tables .shadow) (g .tables .map) ∙ h .mapLength) (good-after (syncAll kernel) passed)
   kept (fetch page) passed =
       kept-with (modeOf (inUser (g .state .mode)) page) (g .tables .shadow) (g .tables .map)
       (rw running-modeOf (fetch-page (seenBy policy (pageOf g)) page passed)) (h .shadowLength) (h .mapLength) (good-after (fetch page) passed)

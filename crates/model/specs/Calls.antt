@@ -13,7 +13,7 @@ use Rattle.model.specs.Edges.{pageBytes, lastPage}
 use Rattle.model.specs.Keeps.{none, Tables, withShadow, withMap, Guard, guardOf, excludedIn, inUser, modeOf, inMode}
 use Rattle.model.specs.Policy.{Givens, Policy, policyOf, startGuard, zeroState}
 use Rattle.model.specs.Bits.{frameOf}
-use Rattle.model.specs.Sync.{Rules, Place, step, differs, Run, runOver, switchedAll, changes}
+use Rattle.model.specs.Sync.{Rules, Place, differs, Run, runFrom, stepFrom, switchedAll, changes}
 use Rattle.model.specs.Questions.{Question, firstNo, View, seen, lengthsOf, startQuestions, syncPageQuestions, syncAllQuestions, fetchQuestions, writeQuestions, enterQuestions, leaveQuestions, deviceWriteQuestions}
 
 -- Whether a call was accepted; the number of the question that refused it, or 0; and the call's two numbers.
@@ -121,9 +121,10 @@ switchTo g mode =
 -- "Write at an address, 1 to 16 bytes: first and last frame." "Device write at an address, 1 to 1,048,576 bytes: first and last frame."
 unfoldable pub effectOf : Guard → Call → Outcome
 effectOf g (syncPage kernel page) =
-    pageSynced g page (step (rulesOf (g .state) (g .tables .exclusion)) (getD kernel page 0) (getD (g .tables .map) page none))
+    pageSynced g page
+    (stepFrom (rulesOf (g .state) (g .tables .exclusion)) kernel page (getD (g .tables .shadow) page 0) (getD (g .tables .map) page none))
 effectOf g (syncAll kernel) =
-    allSynced g (runOver (step (rulesOf (g .state) (g .tables .exclusion))) kernel (g .tables .shadow) (g .tables .map))
+    allSynced g (runFrom (stepFrom (rulesOf (g .state) (g .tables .exclusion)) kernel) 0 (g .tables .shadow) (g .tables .map))
 effectOf g (fetch page) =
     let frame : ℕ = frameOf (getD (g .tables .shadow) page 0) in
     record { reply = accepted frame frame; guard = guardOf (inMode (g .state) (modeOf (inUser (g .state .mode)) page)) (g .tables) }

@@ -1,8 +1,9 @@
 -- Document 01, "Synchronising one page", and the same for all pages; the mode switch of a whole table.
-use Prim.Native.Nat.{ℕ, _+_}
+use Prim.Native.Nat.{ℕ, suc, _+_}
 use mathlib.Core.Bool.{Bool, not, cond}
 use mathlib.Core.List.{List, [], _∷_, map}
 use lib.Dec.{leb, eqb}
+use lib.ListN.{getD}
 use Rattle.model.specs.declared.Entry.{Entry}
 use Rattle.model.specs.declared.Entry.the-variants.{Absent, Present}
 use Rattle.model.specs.Keeps.{none}
@@ -65,12 +66,16 @@ before s m p rest =
       joined = differs m (p .approval) + rest .joined;
     }
 
--- "All pages: the same for each, in rising order." What goes past the shortest list stays as it is.
-unfoldable pub runOver : (ℕ → ℕ → Place) → List ℕ → List ℕ → List ℕ → Run
-runOver f [] shadow map = record { shadow = shadow; map = map; changed = 0; joined = 0 }
-runOver f (k ∷ kernel) [] map = record { shadow = []; map = map; changed = 0; joined = 0 }
-runOver f (k ∷ kernel) (s ∷ shadow) [] = record { shadow = s ∷ shadow; map = []; changed = 0; joined = 0 }
-runOver f (k ∷ kernel) (s ∷ shadow) (m ∷ map) = before s m (f k m) (runOver f kernel shadow map)
+-- "All pages: the same for each, in rising order." From a page on, each page gets the place that f makes of its number, its entry and its
+-- approval. What goes past the shorter table stays as it is.
+unfoldable pub runFrom : (ℕ → ℕ → ℕ → Place) → ℕ → List ℕ → List ℕ → Run
+runFrom f page [] map = run [] map 0 0
+runFrom f page (s ∷ shadow) [] = run (s ∷ shadow) [] 0 0
+runFrom f page (s ∷ shadow) (m ∷ map) = before s m (f page s m) (runFrom f (suc page) shadow map)
+
+-- Of a kernel table, the step of a page on its own kernel entry.
+unfoldable pub stepFrom : Rules → List ℕ → ℕ → ℕ → ℕ → Place
+stepFrom rules kernel page entry approval = step rules (getD kernel page 0) approval
 
 -- "A mode switch [..] sets bit 63 of each present shadow entry".
 unfoldable pub switchedAll : Bool → List ℕ → List ℕ
