@@ -6,10 +6,13 @@ use mathlib.Core.Path.{_≡_, refl, sym, _∙_}
 use lib.Dec.{eqb}
 use borrow.Author.Tests.{not-true, not-false, eqb-true}
 use Rattle.model.specs.declared.State.{State}
+use Rattle.model.specs.declared.Answer.the-variants.{Refused}
+use Rattle.model.specs.declared.Called.{Called}
 use Rattle.model.specs.Edges.{pagesInRange, framesInRange}
-use Rattle.model.specs.Questions.{Question, question, firstNo, stateInOrder, inOrder}
-use Rattle.model.specs.Calls.{settle}
-use Rattle.model.proofs.QuestionLaws.{both-first, both-second, within-high, firstNo-yes, firstNo-no}
+use Rattle.model.specs.Keeps.{Guard}
+use Rattle.model.specs.Questions.{Question, question, firstNo, seen, stateInOrder, inOrder}
+use Rattle.model.specs.Calls.{replyOf, settle, Outcome, outcomeBy, Call, questionsOf, effectOf, answer}
+use Rattle.model.proofs.QuestionLaws.{both-first, both-second, within-high, firstNo-yes, firstNo-no, settle-accepted}
 
 -- Down the questions: past a yes, past one that is always answered so, at a no, and at the end.
 pub passed : (n k : ℕ) (r b : Bool) (qs : List Question) → r ≡ b → not r ≡ false → k ≡ firstNo qs → k ≡ firstNo (question n b ∷ qs)
@@ -45,3 +48,26 @@ pub shadow-long : (s : State) (long : ℕ) (r7 : Bool) → r7 ≡ inOrder (state
     → long ≡ s .pages
 unfolding inOrder
 shadow-long s long r7 p q = eqb-true long (s .pages) (both-first _ _ (sym p ∙ not-false r7 q))
+
+-- A call by the number that its questions settle: refused, and accepted.
+module _ (g : Guard) (call : Call) where
+  pub refused-by : (r : Called) (number : ℕ) → firstNo (questionsOf (seen g) call) ≡ number → (number ≡ 0 → ⊥) → r .answer ≡ Refused number
+      → r .state ≡ g .state → outcomeBy r (g .tables) ≡ answer g call
+  unfolding outcomeBy replyOf answer
+  refused-by r number e z a s = rw (a, s) (sym (settle-refused-by number _ _ z e))
+
+  pub accepted-by : (o : Outcome) → firstNo (questionsOf (seen g) call) ≡ 0 → o ≡ effectOf g call → o ≡ answer g call
+  unfolding answer
+  accepted-by o e p = p ∙ sym (settle-accepted _ _ e)
+
+-- Question 7 was answered yes: so was each part of it.
+abbrev pub Fit : List Bool → Type 0
+Fit [] = Unit {0}
+Fit (fits ∷ lent) = (fits ≡ true) × Fit lent
+
+pub in-order : (stateFits : Bool) (lent : List Bool) → inOrder stateFits lent ≡ true → (stateFits ≡ true) × Fit lent
+unfolding inOrder
+in-order stateFits [] p = (p, tt)
+in-order stateFits (fits ∷ lent) p =
+    let rest = in-order stateFits lent (both-second fits (inOrder stateFits lent) p) in
+    (rest .0, (both-first fits (inOrder stateFits lent) p, rest .1))

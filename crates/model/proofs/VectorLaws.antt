@@ -9,8 +9,8 @@ use lib.ListN.{length, getD, length-set}
 use lib.Pow.{mod-pow-add}
 use lib.Seq.{getD-set-same, getD-set-other, ext-getD}
 use borrow.Author.Tests.{eq-eqb, ne-eqb, eqb-true, eqb-false}
-use Rattle.model.specs.Edges.{either, bit}
-use Rattle.model.specs.Keeps.{vectorBytes, flag, byteOf, vectorOf, withExcluded}
+use Rattle.model.specs.Edges.{bit}
+use Rattle.model.specs.Keeps.{vectorBytes, flag, byteOf, vectorOf, withBit}
 use Rattle.model.proofs.TableLaws.{length-table, getD-table}
 
 -- What holds of 0 to 7 holds of every number below 8.
@@ -118,49 +118,49 @@ pub vectorOf-byte : (frames : ℕ) (h : ℕ → Bool) (i d : ℕ) → i < vector
 unfolding vectorOf
 vectorOf-byte frames h i d l = getD-table (vectorBytes frames) (λ i. byteOf (λ j. h (i * 8 + j))) i d l
 
--- A frame excluded too: the length stays, the frame's bit is set, and every other bit stays.
-pub withExcluded-length : (x : List ℕ) (f : ℕ) → length (withExcluded x f) ≡ length x
-unfolding withExcluded
-withExcluded-length x f = simp length-set
+-- A frame's bit set or cleared: the length stays, and every other bit.
+pub withBit-length : (b : Bool) (x : List ℕ) (f : ℕ) → length (withBit b x f) ≡ length x
+unfolding withBit
+withBit-length b x f = simp length-set
 
-pub withExcluded-vectorOf : (frames : ℕ) (h : ℕ → Bool) (f : ℕ) → f < frames
-    → withExcluded (vectorOf frames h) f ≡ vectorOf frames (λ g. either (eqb g f) (h g))
-unfolding withExcluded either
-withExcluded-vectorOf frames h f l =
-    ext-getD 0 (withExcluded v f) w (long ∙ sym (vectorOf-length frames both))
-    (λ i b. at i (rw long at b) (eqb i (f / 8)) refl)
+pub withBit-vectorOf : (b : Bool) (frames : ℕ) (h : ℕ → Bool) (f : ℕ) → f < frames
+    → withBit b (vectorOf frames h) f ≡ vectorOf frames (λ g. cond (eqb g f) b (h g))
+unfolding withBit
+withBit-vectorOf b frames h f l =
+    ext-getD 0 (withBit b v f) w (long ∙ sym (vectorOf-length frames both))
+    (λ i c. at i (rw long at c) (eqb i (f / 8)) refl)
   where
     v : List ℕ
     v = vectorOf frames h
 
     both : ℕ → Bool
-    both g = either (eqb g f) (h g)
+    both g = cond (eqb g f) b (h g)
 
     w : List ℕ
     w = vectorOf frames both
 
-    long : length (withExcluded v f) ≡ vectorBytes frames
-    long = withExcluded-length v f ∙ vectorOf-length frames h
+    long : length (withBit b v f) ≡ vectorBytes frames
+    long = withBit-length b v f ∙ vectorOf-length frames h
 
     new : ℕ → Bool
-    new j = either (eqb j (f % 8)) (bit j (getD v (f / 8) 0))
+    new j = cond (eqb j (f % 8)) b (bit j (getD v (f / 8) 0))
 
     here : f / 8 < vectorBytes frames
     here = byte-below frames f l
 
     bit-same : (i j : ℕ) → i ≡ f / 8 → j < 8 → new j ≡ both (i * 8 + j)
-    bit-same i j q b =
-        rw (eqb-together j (f % 8) (i * 8 + j) f (λ p. omega arith) (λ p. omega arith), vectorOf-byte frames h (f / 8) 0 here, byteOf-bit (λ k. h (f / 8 * 8 + k)) j b, q)
+    bit-same i j q c =
+        rw (eqb-together j (f % 8) (i * 8 + j) f (λ p. omega arith) (λ p. omega arith), vectorOf-byte frames h (f / 8) 0 here, byteOf-bit (λ k. h (f / 8 * 8 + k)) j c, q)
 
     bit-other : (i j : ℕ) → (i ≡ f / 8 → ⊥) → j < 8 → h (i * 8 + j) ≡ both (i * 8 + j)
-    bit-other i j q b = rw (ne-eqb (i * 8 + j) f (λ p. q (omega arith)))
+    bit-other i j q c = rw (ne-eqb (i * 8 + j) f (λ p. q (omega arith)))
 
-    at : (i : ℕ) → i < vectorBytes frames → (t : Bool) → eqb i (f / 8) ≡ t → getD (withExcluded v f) i 0 ≡ getD w i 0
-    at i b true e =
+    at : (i : ℕ) → i < vectorBytes frames → (t : Bool) → eqb i (f / 8) ≡ t → getD (withBit b v f) i 0 ≡ getD w i 0
+    at i c true e =
         let q : i ≡ f / 8 = eqb-true i (f / 8) e in
         rw (q, getD-set-same v (f / 8) (byteOf new) 0 (rw vectorOf-length here), vectorOf-byte frames both (f / 8) 0 here)
         (byteOf-ext new (λ j. both (f / 8 * 8 + j)) (λ j. bit-same (f / 8) j refl))
-    at i b false e =
+    at i c false e =
         let q : i ≡ f / 8 → ⊥ = eqb-false i (f / 8) e in
-        rw (getD-set-other v (f / 8) i (byteOf new) 0 q, vectorOf-byte frames h i 0 b, vectorOf-byte frames both i 0 b)
+        rw (getD-set-other v (f / 8) i (byteOf new) 0 q, vectorOf-byte frames h i 0 c, vectorOf-byte frames both i 0 c)
         (byteOf-ext (λ j. h (i * 8 + j)) (λ j. both (i * 8 + j)) (λ j. bit-other i j q))

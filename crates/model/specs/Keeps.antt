@@ -7,7 +7,7 @@ use lib.Dec.{eqb}
 use Rattle.model.specs.declared.Mode.{Mode}
 use Rattle.model.specs.declared.Mode.the-variants.{Kernel, User}
 use Rattle.model.specs.declared.State.{State}
-use Rattle.model.specs.Edges.{bit, either, table}
+use Rattle.model.specs.Edges.{bit, table}
 
 -- "the frame approved for that page, or 65535 for none"
 abbrev pub none : ℕ
@@ -57,10 +57,10 @@ byteOf h = flag (h 0) 0 + flag (h 1) 1 + flag (h 2) 2 + flag (h 3) 3 + flag (h 4
 unfoldable pub vectorOf : ℕ → (ℕ → Bool) → List ℕ
 vectorOf frames h = table (vectorBytes frames) (λ i. byteOf (λ j. h (i * 8 + j)))
 
--- The vector with frame f excluded too: its byte with bit f mod 8 set. A frame past the vector's end changes nothing.
-unfoldable pub withExcluded : List ℕ → ℕ → List ℕ
-withExcluded exclusion f =
-    set exclusion (f / 8) (byteOf (λ j. either (eqb j (f % 8)) (bit j (getD exclusion (f / 8) 0))))
+-- The vector with the bit of frame f set, or cleared: bit f mod 8 of its byte. A frame past the vector's end changes nothing.
+unfoldable pub withBit : Bool → List ℕ → ℕ → List ℕ
+withBit b vector f =
+    set vector (f / 8) (byteOf (λ j. cond (eqb j (f % 8)) b (bit j (getD vector (f / 8) 0))))
 
 -- "the mode, which is kernel or user together with the page now running"
 unfoldable pub inUser : Mode → Bool
