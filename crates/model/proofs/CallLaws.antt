@@ -11,7 +11,7 @@ use Rattle.model.specs.declared.Called.{Called}
 use Rattle.model.specs.Edges.{pagesInRange, framesInRange}
 use Rattle.model.specs.Keeps.{Guard}
 use Rattle.model.specs.Questions.{Question, question, firstNo, seen, stateInOrder, inOrder}
-use Rattle.model.specs.Calls.{replyOf, settle, Outcome, outcomeBy, Call, questionsOf, effectOf, answer}
+use Rattle.model.specs.Calls.{replyOf, settle, Outcome, outcomeBy, Call, broughtBy, questionsOf, effectOf, answer}
 use Rattle.model.proofs.QuestionLaws.{both-first, both-second, within-high, firstNo-yes, firstNo-no, settle-accepted}
 
 -- Down the questions: past a yes, past one that is always answered so, at a no, and at the end.
@@ -53,7 +53,7 @@ shadow-long s long r7 p q = eqb-true long (s .pages) (both-first _ _ (sym p ∙ 
 module _ (g : Guard) (call : Call) where
   pub refused-by : (r : Called) (number : ℕ) → firstNo (questionsOf (seen g) call) ≡ number → (number ≡ 0 → ⊥) → r .answer ≡ Refused number
       → r .state ≡ g .state → outcomeBy r (g .tables) ≡ answer g call
-  unfolding outcomeBy replyOf answer
+  unfolding outcomeBy replyOf answer broughtBy
   refused-by r number e z a s = rw (a, s) (sym (settle-refused-by number _ _ z e))
 
   pub accepted-by : (o : Outcome) → firstNo (questionsOf (seen g) call) ≡ 0 → o ≡ effectOf g call → o ≡ answer g call

@@ -9,7 +9,7 @@ use Rattle.model.specs.Edges.{within, pagesInRange, framesInRange}
 use Rattle.model.specs.Keeps.{none, Guard, vectorBytes, excludedIn, inUser, running}
 use Rattle.model.specs.Policy.{Policy, named, entryPages}
 use Rattle.model.specs.Questions.{View, firstNo, seen, stateInOrder}
-use Rattle.model.specs.Calls.{settle, refusedOf, Call, questionsOf, effectOf, answer}
+use Rattle.model.specs.Calls.{settle, refusedOf, broughtBy, Call, questionsOf, effectOf, answer}
 use Rattle.model.specs.OnePage.{Page, seenBy, settled}
 use Rattle.model.specs.Claim.{Carried}
 use Rattle.model.proofs.QuestionLaws.{both-yes}
@@ -77,6 +77,6 @@ module _ (policy : Policy) (carried : Carried) (g : Guard) (sound : Sound policy
       }
 
   -- The guard's outcome, by the number that the one-page guards settle.
-  pub answered : (call : Call) → answer g call ≡ settle (settled policy (pageOf g) g call) (effectOf g call) (refusedOf g)
+  pub answered : (call : Call) → answer g call ≡ settle (settled policy (pageOf g) g call) (effectOf g call) (refusedOf g (broughtBy call))
   unfolding answer settled
-  answered call = ap (λ (v : View). settle (firstNo (questionsOf v call)) (effectOf g call) (refusedOf g)) same-view
+  answered call = ap (λ (v : View). settle (firstNo (questionsOf v call)) (effectOf g call) (refusedOf g (broughtBy call))) same-view

@@ -8,7 +8,7 @@ use borrow.Author.Tests.{ne-eqb}
 use Rattle.model.specs.Keeps.{Guard}
 use Rattle.model.specs.Policy.{Policy, policyOf, startGuard}
 use Rattle.model.specs.Questions.{firstNo, lengthsOf, startQuestions}
-use Rattle.model.specs.Calls.{Outcome, refusedOf, startOf, Call, syncPage, syncAll, fetch, write, enter, leave, deviceWrite, pageSynced, allSynced, switchTo, effectOf, answer}
+use Rattle.model.specs.Calls.{Outcome, refusedOf, broughtBy, startOf, Call, syncPage, syncAll, fetch, write, enter, leave, deviceWrite, pageSynced, allSynced, switchTo, effectOf, answer}
 use Rattle.model.specs.OnePage.{Page, firstPage, settled, pagesAfter}
 use Rattle.model.specs.Claim.{Agree, Carried, carriedFirst, carriedAfter, Always, Claim}
 use Rattle.model.proofs.QuestionLaws.{settle-accepted, settle-refused}
@@ -60,7 +60,7 @@ always policy sound (call ∷ calls) carried g h = by-number (settled policy (pa
         → Always policy carried g (pageOf g) (call ∷ calls)
     by-number zero e rest =
         let outcome : answer g call ≡ effectOf g call =
-        answered policy carried g sound h call ∙ settle-accepted (effectOf g call) (refusedOf g) e in
+        answered policy carried g sound h call ∙ settle-accepted (effectOf g call) (refusedOf g (broughtBy call)) e in
         let pages : pagesAfter policy number call (pageOf g) ≡ pageOf ((effectOf g call) .guard) =
         fun-ext (λ p. settle-accepted _ _ e ∙ commutes policy carried g sound h call e p) in (
           agree policy carried g h,
@@ -70,8 +70,8 @@ always policy sound (call ∷ calls) carried g h = by-number (settled policy (pa
           rw (outcome, pages, e) (rest _ _ (kept policy carried g sound h call e)),
         )
     by-number (suc n) e rest =
-        let outcome : answer g call ≡ refusedOf g (suc n) =
-        answered policy carried g sound h call ∙ settle-refused n (effectOf g call) (refusedOf g) e in
+        let outcome : answer g call ≡ refusedOf g (broughtBy call) (suc n) =
+        answered policy carried g sound h call ∙ settle-refused n (effectOf g call) (refusedOf g (broughtBy call)) e in
         let pages : pagesAfter policy number call (pageOf g) ≡ pageOf g = fun-ext (λ p. settle-refused n _ _ e) in (
           agree policy carried g h,
           rw (outcome, e) refl,

@@ -40,30 +40,40 @@ unfoldable pub settle : {A : Type 0} → ℕ → A → (ℕ → A) → A
 settle zero done refusal = done
 settle (suc n) done refusal = refusal (suc n)
 
--- What a call gave: its reply, and the guard after it.
+-- What a call is brought beside the guard's tables and may change: nothing so far.
+pub record Brought : Type 0 where
+
+abbrev pub nothingBrought : Brought
+nothingBrought = record {}
+
+-- What a call gave: its reply, the guard after it, and what it left of what it was brought.
 pub record Outcome : Type 0 where
   pub reply : Reply
   pub guard : Guard
+  pub left : Brought
+
+abbrev pub outcome : Reply → Guard → Outcome
+outcome reply g = record { reply = reply; guard = g; left = nothingBrought }
 
 -- What a call answered, with the tables that it left, in that form.
 unfoldable pub outcomeBy : Called → Tables → Outcome
-outcomeBy r t = record { reply = replyOf (r .answer); guard = guardOf (r .state) t }
+outcomeBy r t = outcome (replyOf (r .answer)) (guardOf (r .state) t)
 
 -- The same of a call that keeps the state.
 abbrev pub keptBy : Answer → State → Tables → Outcome
 keptBy r s t = outcomeBy (record { answer = r; state = s }) t
 
 -- A refused call: its number, and nothing changed.
-abbrev pub refusedOf : Guard → ℕ → Outcome
-refusedOf g n = record { reply = refused n; guard = g }
+abbrev pub refusedOf : Guard → Brought → ℕ → Outcome
+refusedOf g brought n = record { reply = refused n; guard = g; left = brought }
 
 -- "Start: n and e." A refused start leaves every lent table as it was.
 unfoldable pub startOf : Givens → List ℕ → Tables → Outcome
 startOf given bytes t =
     let policy : Policy = policyOf bytes in
     settle (firstNo (startQuestions given bytes policy (lengthsOf t)))
-    (record { reply = accepted (policy .count) (policy .entries); guard = startGuard policy })
-    (refusedOf (guardOf zeroState t))
+    (outcome (accepted (policy .count) (policy .entries)) (startGuard policy))
+    (refusedOf (guardOf zeroState t) nothingBrought)
 
 -- The other calls. "A list has synchronise one, synchronise all, fetch, write, enter, leave and device write calls [..] with any arguments".
 -- "Each synchronising call brings a kernel table of any contents and length."
@@ -75,6 +85,10 @@ pub data Call : Type 0 where
   enter : (index : ℕ) → Call
   leave : (page : ℕ) → Call
   deviceWrite : (address length : ℕ) → Call
+
+-- What a call brings and may change.
+unfoldable pub broughtBy : Call → Brought
+broughtBy call = nothingBrought
 
 -- The questions of each call, of what they look at.
 unfoldable pub questionsOf : View → Call → List Question
@@ -94,27 +108,19 @@ rulesOf s exclusion = record { user = inUser (s .mode); frames = s .frames; excl
 unfoldable pub pageSynced : Guard → ℕ → Place → Outcome
 pageSynced g page p =
     let t : Tables = g .tables in
-    record {
-      reply = accepted (differs (getD (t .shadow) page 0) (p .entry)) (differs (getD (t .map) page none) (p .approval));
-      guard = guardOf (g .state) (withShadow (set (t .shadow) page (p .entry)) (withMap (set (t .map) page (p .approval)) t));
-    }
+    outcome (accepted (differs (getD (t .shadow) page 0) (p .entry)) (differs (getD (t .map) page none) (p .approval)))
+    (guardOf (g .state) (withShadow (set (t .shadow) page (p .entry)) (withMap (set (t .map) page (p .approval)) t)))
 
 -- All pages:
 unfoldable pub allSynced : Guard → Run → Outcome
 allSynced g r =
-    record {
-      reply = accepted (r .changed) (r .joined);
-      guard = guardOf (g .state) (withShadow (r .shadow) (withMap (r .map) (g .tables)));
-    }
+    outcome (accepted (r .changed) (r .joined)) (guardOf (g .state) (withShadow (r .shadow) (withMap (r .map) (g .tables))))
 
 -- "Both switch the mode, run that page, and give the count of changed shadow entries and 0."
 unfoldable pub switchTo : Guard → Mode → Outcome
 switchTo g mode =
     let after : List ℕ = switchedAll (inUser mode) (g .tables .shadow) in
-    record {
-      reply = accepted (changes (g .tables .shadow) after) 0;
-      guard = guardOf (inMode (g .state) mode) (withShadow after (g .tables));
-    }
+    outcome (accepted (changes (g .tables .shadow) after) 0) (guardOf (inMode (g .state) mode) (withShadow after (g .tables)))
 
 -- What each call gives where no question refuses it.
 -- "Fetch a page: its frame, twice; that page is now running." The mode stays.
@@ -127,17 +133,14 @@ effectOf g (syncAll kernel) =
     allSynced g (runFrom (stepFrom (rulesOf (g .state) (g .tables .exclusion)) kernel) 0 (g .tables .shadow) (g .tables .map))
 effectOf g (fetch page) =
     let frame : ℕ = frameOf (getD (g .tables .shadow) page 0) in
-    record { reply = accepted frame frame; guard = guardOf (inMode (g .state) (modeOf (inUser (g .state .mode)) page)) (g .tables) }
+    outcome (accepted frame frame) (guardOf (inMode (g .state) (modeOf (inUser (g .state .mode)) page)) (g .tables))
 effectOf g (write address length) =
-    record {
-      reply = accepted (frameOf (getD (g .tables .shadow) (address / pageBytes) 0)) (frameOf (getD (g .tables .shadow) (lastPage address length) 0));
-      guard = g;
-    }
+    outcome (accepted (frameOf (getD (g .tables .shadow) (address / pageBytes) 0)) (frameOf (getD (g .tables .shadow) (lastPage address length) 0))) g
 effectOf g (enter index) = switchTo g (Kernel (getD (g .state .entry) index 0))
 effectOf g (leave page) = switchTo g (User page)
-effectOf g (deviceWrite address length) = record { reply = accepted (address / pageBytes) (lastPage address length); guard = g }
+effectOf g (deviceWrite address length) = outcome (accepted (address / pageBytes) (lastPage address length)) g
 
 -- What the guard answers to a call, and leaves. "Each call gets these as the last one returned or left them": what a call does not change
 -- stays as it is, and a refused call changes nothing.
 unfoldable pub answer : Guard → Call → Outcome
-answer g call = settle (firstNo (questionsOf (seen g) call)) (effectOf g call) (refusedOf g)
+answer g call = settle (firstNo (questionsOf (seen g) call)) (effectOf g call) (refusedOf g (broughtBy call))

@@ -9,7 +9,7 @@ use Rattle.model.specs.declared.Mode.{Mode}
 use Rattle.model.specs.declared.Mode.the-variants.{Kernel, User}
 use Rattle.model.specs.Keeps.{Guard, guardOf, inMode}
 use Rattle.model.specs.Policy.{nothingGiven}
-use Rattle.model.specs.Calls.{Outcome, accepted, refused, startOf, syncPage, write, deviceWrite, answer}
+use Rattle.model.specs.Calls.{Outcome, outcome, accepted, refused, startOf, syncPage, write, deviceWrite, answer}
 
 -- "Policy V 4, F 4, n 1, e 1, page 1, frame 2."
 unfoldable pub policyBytes : List ℕ
@@ -63,50 +63,50 @@ row given fixed = record { given = given; fixed = fixed }
 unfoldable pub cases : List Case
 cases =
     -- C1 start: shadow of page 1 is 0x2401, exclusion byte 0x04.
-    row theStart (record { reply = accepted 1 1; guard = holding (Kernel 1) shadowStarted mapStarted })
+    row theStart (outcome (accepted 1 1) (holding (Kernel 1) shadowStarted mapStarted))
     -- C2 page 0 from 0x2003: 0x2401, joined.
     ∷ row (answer started (syncPage (only 0 0x2003) 0))
-    (record { reply = accepted 1 1; guard = holding (Kernel 1) (0x2401 ∷ 0x2401 ∷ 0 ∷ 0 ∷ []) (2 ∷ 2 ∷ 65535 ∷ 65535 ∷ []) })
+    (outcome (accepted 1 1) (holding (Kernel 1) (0x2401 ∷ 0x2401 ∷ 0 ∷ 0 ∷ []) (2 ∷ 2 ∷ 65535 ∷ 65535 ∷ [])))
     -- C3 page 1 from 0x3003: 0x2401.
     ∷ row (answer started (syncPage (only 1 0x3003) 1))
-    (record { reply = accepted 0 0; guard = holding (Kernel 1) shadowStarted mapStarted })
+    (outcome (accepted 0 0) (holding (Kernel 1) shadowStarted mapStarted))
     -- C4 page 0 from 0x4003: 0.
     ∷ row (answer started (syncPage (only 0 0x4003) 0))
-    (record { reply = accepted 0 0; guard = holding (Kernel 1) shadowStarted mapStarted })
+    (outcome (accepted 0 0) (holding (Kernel 1) shadowStarted mapStarted))
     -- C5 page 0 from 0x3003: 0x8000000000003003.
     ∷ row (answer started (syncPage (only 0 0x3003) 0))
-    (record { reply = accepted 1 0; guard = holding (Kernel 1) (0x8000000000003003 ∷ 0x2401 ∷ 0 ∷ 0 ∷ []) mapStarted })
+    (outcome (accepted 1 0) (holding (Kernel 1) (0x8000000000003003 ∷ 0x2401 ∷ 0 ∷ 0 ∷ []) mapStarted))
     -- C6 user mode, page 3 from 0x3007: 0x3007.
     ∷ row (answer startedUser (syncPage (only 3 0x3007) 3))
-    (record { reply = accepted 1 0; guard = holding (User 1) (0 ∷ 0x2401 ∷ 0 ∷ 0x3007 ∷ []) mapStarted })
+    (outcome (accepted 1 0) (holding (User 1) (0 ∷ 0x2401 ∷ 0 ∷ 0x3007 ∷ []) mapStarted))
     -- C7 user mode, page 3 from 0x8000000000003007: 0x8000000000003207.
     ∷ row (answer startedUser (syncPage (only 3 0x8000000000003007) 3))
-    (record { reply = accepted 1 0; guard = holding (User 1) (0 ∷ 0x2401 ∷ 0 ∷ 0x8000000000003207 ∷ []) mapStarted })
+    (outcome (accepted 1 0) (holding (User 1) (0 ∷ 0x2401 ∷ 0 ∷ 0x8000000000003207 ∷ []) mapStarted))
     -- C8 user mode, page 0 from 0x3003: 0x8000000000003003.
     ∷ row (answer startedUser (syncPage (only 0 0x3003) 0))
-    (record { reply = accepted 1 0; guard = holding (User 1) (0x8000000000003003 ∷ 0x2401 ∷ 0 ∷ 0 ∷ []) mapStarted })
+    (outcome (accepted 1 0) (holding (User 1) (0x8000000000003003 ∷ 0x2401 ∷ 0 ∷ 0 ∷ []) mapStarted))
     -- C9 device write at 16383: 1 byte gives 3 and 3; 2 bytes give 9.
     ∷ row (answer started (deviceWrite 16383 1))
-    (record { reply = accepted 3 3; guard = holding (Kernel 1) shadowStarted mapStarted })
+    (outcome (accepted 3 3) (holding (Kernel 1) shadowStarted mapStarted))
     ∷ row (answer started (deviceWrite 16383 2))
-    (record { reply = refused 9; guard = holding (Kernel 1) shadowStarted mapStarted })
+    (outcome (refused 9) (holding (Kernel 1) shadowStarted mapStarted))
     -- C10 device write at 4096: 4,096 bytes give 1 and 1; 4,097 give 13.
     ∷ row (answer started (deviceWrite 4096 4096))
-    (record { reply = accepted 1 1; guard = holding (Kernel 1) shadowStarted mapStarted })
+    (outcome (accepted 1 1) (holding (Kernel 1) shadowStarted mapStarted))
     ∷ row (answer started (deviceWrite 4096 4097))
-    (record { reply = refused 13; guard = holding (Kernel 1) shadowStarted mapStarted })
+    (outcome (refused 13) (holding (Kernel 1) shadowStarted mapStarted))
     -- C11 write of 0 or 17 bytes: 8. (1 and 16 bytes at that address are allowed: nothing else refuses there.)
     ∷ row (answer startedWritable (write 0 0))
-    (record { reply = refused 8; guard = holding (Kernel 1) (0x8000000000003003 ∷ 0x2401 ∷ 0 ∷ 0 ∷ []) mapStarted })
+    (outcome (refused 8) (holding (Kernel 1) (0x8000000000003003 ∷ 0x2401 ∷ 0 ∷ 0 ∷ []) mapStarted))
     ∷ row (answer startedWritable (write 0 17))
-    (record { reply = refused 8; guard = holding (Kernel 1) (0x8000000000003003 ∷ 0x2401 ∷ 0 ∷ 0 ∷ []) mapStarted })
+    (outcome (refused 8) (holding (Kernel 1) (0x8000000000003003 ∷ 0x2401 ∷ 0 ∷ 0 ∷ []) mapStarted))
     ∷ row (answer startedWritable (write 0 1))
-    (record { reply = accepted 3 3; guard = holding (Kernel 1) (0x8000000000003003 ∷ 0x2401 ∷ 0 ∷ 0 ∷ []) mapStarted })
+    (outcome (accepted 3 3) (holding (Kernel 1) (0x8000000000003003 ∷ 0x2401 ∷ 0 ∷ 0 ∷ []) mapStarted))
     ∷ row (answer startedWritable (write 0 16))
-    (record { reply = accepted 3 3; guard = holding (Kernel 1) (0x8000000000003003 ∷ 0x2401 ∷ 0 ∷ 0 ∷ []) mapStarted })
+    (outcome (accepted 3 3) (holding (Kernel 1) (0x8000000000003003 ∷ 0x2401 ∷ 0 ∷ 0 ∷ []) mapStarted))
     -- C12 page 1 from 0x2000: shadow 0, map still 2.
     ∷ row (answer started (syncPage (only 1 0x2000) 1))
-    (record { reply = accepted 1 0; guard = holding (Kernel 1) (0 ∷ 0 ∷ 0 ∷ 0 ∷ []) mapStarted })
+    (outcome (accepted 1 0) (holding (Kernel 1) (0 ∷ 0 ∷ 0 ∷ 0 ∷ []) mapStarted))
     ∷ []
 
 -- Every row gives what is fixed.

@@ -8,7 +8,7 @@ use Rattle.model.specs.declared.Mode.{Mode}
 use Rattle.model.specs.declared.Mode.the-variants.{Kernel, User}
 use Rattle.model.specs.Keeps.{Guard, guardOf}
 use Rattle.model.specs.Policy.{nothingGiven}
-use Rattle.model.specs.Calls.{Reply, Outcome, accepted, refused, startOf, Call, syncPage, syncAll, fetch, write, enter, leave, deviceWrite, answer}
+use Rattle.model.specs.Calls.{Reply, Outcome, outcome, accepted, refused, startOf, Call, syncPage, syncAll, fetch, write, enter, leave, deviceWrite, answer}
 use Rattle.model.specs.Cases.{Case, row}
 
 -- V 6, F 8, n 3, e 2, pages 1, 2 and 4, frames 5, 3 and 5.
@@ -38,10 +38,7 @@ zeros =
 -- A refused start leaves those tables, and answers the state of zeros.
 unfoldable pub startRefused : ℕ → ℕ → ℕ → ℕ → Outcome
 startRefused number shadow map exclusion =
-    record {
-      reply = refused number;
-      guard = guardOf zeros (record { shadow = replicate shadow 1; map = replicate map 1; exclusion = replicate exclusion 1 });
-    }
+    outcome (refused number) (guardOf zeros (record { shadow = replicate shadow 1; map = replicate map 1; exclusion = replicate exclusion 1 }))
 
 unfoldable pub sixPages : Mode → State
 sixPages mode = record { pages = 6; frames = 8; entries = 2; entry = 1 ∷ 2 ∷ replicate 14 0; mode = mode }
@@ -66,7 +63,7 @@ at01 mode entry next = with6 mode (set (set shadow6 0 entry) 1 next)
 
 -- A call that leaves the guard as it was: every refused one, every write.
 unfoldable pub stays : Guard → Call → Reply → Case
-stays g call reply = row (answer g call) (record { reply = reply; guard = g })
+stays g call reply = row (answer g call) (outcome reply g)
 
 -- A guard whose state is replaced.
 unfoldable pub inState : State → Guard
@@ -94,15 +91,12 @@ left6 =
 unfoldable pub startCases : List Case
 startCases =
     -- "two parallel arrays"; "frames, which may repeat"; "The first e pages are the entry pages"
-    row (startOn twoEntries 6 6 1) (record { reply = accepted 3 2; guard = started6 })
+    row (startOn twoEntries 6 6 1) (outcome (accepted 3 2) started6)
     -- Page 0 first, every page listed up to V - 1, frame F - 1, and a vector of two bytes.
     ∷ row (startOn everyPage 3 3 2)
-    (record {
-      reply = accepted 3 1;
-      guard =
-          guardOf (record { pages = 3; frames = 9; entries = 1; entry = replicate 16 0; mode = Kernel 0 })
-          (record { shadow = 0x8401 ∷ 0x401 ∷ 0x8401 ∷ []; map = 8 ∷ 0 ∷ 8 ∷ []; exclusion = 1 ∷ 1 ∷ [] });
-    })
+    (outcome (accepted 3 1)
+    (guardOf (record { pages = 3; frames = 9; entries = 1; entry = replicate 16 0; mode = Kernel 0 })
+          (record { shadow = 0x8401 ∷ 0x401 ∷ 0x8401 ∷ []; map = 8 ∷ 0 ∷ 8 ∷ []; exclusion = 1 ∷ 1 ∷ [] })))
     -- 1 to 7, each with all before it yes
     ∷ row (startOn (6 ∷ 0 ∷ 8 ∷ 0 ∷ 3 ∷ 0 ∷ 2 ∷ []) 6 6 1) (startRefused 1 6 6 1)
     ∷ row (startOn (set twoEntries 1 8) 6 6 1) (startRefused 2 6 6 1)
@@ -136,16 +130,13 @@ unfoldable pub syncCases : List Case
 syncCases =
     -- All pages: absent, approved from another frame, approved and absent, an alias that joins, approved from a frame at F, ordinary.
     row (answer started6 (syncAll (0 ∷ 0x7003 ∷ 0x2 ∷ 0x5007 ∷ 0x8003 ∷ 0x8000000000006007 ∷ [])))
-    (record {
-      reply = accepted 3 1;
-      guard =
-          guardOf (sixPages (Kernel 1))
+    (outcome (accepted 3 1)
+    (guardOf (sixPages (Kernel 1))
           (record {
             shadow = 0 ∷ 0x5401 ∷ 0 ∷ 0x5401 ∷ 0x5401 ∷ 0x8000000000006207 ∷ [];
             map = 65535 ∷ 5 ∷ 3 ∷ 5 ∷ 5 ∷ 65535 ∷ [];
             exclusion = 0x28 ∷ [];
-          });
-    })
+          })))
     -- 7 of the kernel table's length, and of each part of the state; 9 of the page
     ∷ stays started6 (syncAll (replicate 5 0)) (refused 7)
     ∷ stays started6 (syncPage (replicate 7 0) 0) (refused 7)
@@ -196,8 +187,8 @@ orderCases =
 unfoldable pub accessCases : List Case
 accessCases =
     -- "Fetch a page: its frame, twice; that page is now running. Needs bit 63 clear and, in user mode, bit 2."
-    row (answer started6 (fetch 2)) (record { reply = accepted 3 3; guard = with6 (Kernel 2) shadow6 })
-    ∷ row (answer (at0 (User 1) 0x4005) (fetch 0)) (record { reply = accepted 4 4; guard = at0 (User 0) 0x4005 })
+    row (answer started6 (fetch 2)) (outcome (accepted 3 3) (with6 (Kernel 2) shadow6))
+    ∷ row (answer (at0 (User 1) 0x4005) (fetch 0)) (outcome (accepted 4 4) (at0 (User 0) 0x4005))
     ∷ stays started6 (fetch 6) (refused 9)
     ∷ stays started6 (fetch 0) (refused 11)
     ∷ stays (at0 (User 1) 0x4001) (fetch 0) (refused 12)
@@ -226,7 +217,7 @@ unfoldable pub switchCases : List Case
 switchCases =
     -- "Leave to a page: it needs bit 2 set and bit 9 clear." "Both switch the mode, run that page, and give the count of changed shadow
     -- entries and 0."
-    row (answer (with6 (Kernel 1) leaving) (leave 5)) (record { reply = accepted 4 0; guard = with6 (User 5) left6 })
+    row (answer (with6 (Kernel 1) leaving) (leave 5)) (outcome (accepted 4 0) (with6 (User 5) left6))
     ∷ stays (with6 (Kernel 1) leaving) (leave 6) (refused 9)
     ∷ stays (with6 (User 5) left6) (leave 6) (refused 9)
     ∷ stays (with6 (User 5) left6) (leave 5) (refused 10)
@@ -234,7 +225,7 @@ switchCases =
     ∷ stays (with6 (Kernel 1) leaving) (leave 3) (refused 12)
     ∷ stays (at0 (Kernel 1) 0x8000000000006207) (leave 0) (refused 12)
     -- "Enter by entry index: the page needs bit 10."
-    ∷ row (answer (with6 (User 5) left6) (enter 1)) (record { reply = accepted 4 0; guard = with6 (Kernel 2) leaving })
+    ∷ row (answer (with6 (User 5) left6) (enter 1)) (outcome (accepted 4 0) (with6 (Kernel 2) leaving))
     ∷ stays (with6 (User 5) left6) (enter 2) (refused 9)
     ∷ stays started6 (enter 2) (refused 9)
     -- "entry index below e with its page below V"
@@ -244,5 +235,5 @@ switchCases =
     ∷ stays (with6 (User 5) (set left6 2 0x8000000000003001)) (enter 1) (refused 12)
     -- "sets bit 63 of each present shadow entry [..], approved mark and bits 2 and 9 as found, other bits kept": an absent entry keeps all bits
     ∷ row (answer (with6 (User 5) (set (set left6 0 0x8000000000006006) 3 0x8000000000007e1f)) (enter 1))
-    (record { reply = accepted 5 0; guard = with6 (Kernel 2) (set (set leaving 0 0x8000000000006006) 3 0x7e1f) })
+    (outcome (accepted 5 0) (with6 (Kernel 2) (set (set leaving 0 0x8000000000006006) 3 0x7e1f)))
     ∷ []
