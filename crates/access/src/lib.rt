@@ -7,10 +7,11 @@ ghost use mathlib.Core.List.{[]};
 ghost use Prim.Native.Nat.{_≤_, _<_};
 ghost use lib.ListN.{length};
 ghost use Rattle.model.specs.Edges.{either, lastPage};
-ghost use Rattle.model.specs.Keeps.{vectorBytes};
+ghost use Rattle.model.specs.Keeps.{Tables, withShadow, withExclusion, guardOf, vectorBytes};
 ghost use Rattle.model.specs.Bits.{userBit};
 ghost use Rattle.model.specs.Questions.{firstNo, fetchPermitted, writePermitted, fetchQuestions, writeQuestions, deviceWriteQuestions};
-ghost use Rattle.model.specs.Calls.{replyOf, movedBy, fetchOf, writeOf, deviceWriteOf};
+ghost use Rattle.model.specs.Calls;
+ghost use Rattle.model.specs.Calls.{outcomeBy, keptBy, deviceWrite, answer};
 ghost use Rattle.access.specs.Lent.{lent, freeIn, entryQuestions};
 use model::Answer;
 use model::Called;
@@ -53,7 +54,8 @@ fn fetch_refusal(user: bool, pages: u16, shadow: &[u64], page: u64) -> u64
 }
 
 pub fn fetch(s: State, shadow: &[u64], page: u64) -> Called
-    ensures { λ r. ⌜ movedBy r ≡ fetchOf s (now (shadow .entry)) page ⌝ }
+    ensures { λ r. ⌜ ((t : Tables) → outcomeBy r (withShadow (now (shadow .entry)) t)
+        ≡ answer (guardOf s (withShadow (now (shadow .entry)) t)) (Calls.fetch page)) ⌝ }
 {
     if !questions::shadow_in_order(s, shadow.len()) {
         return questions::refused(s, 7);
@@ -152,7 +154,8 @@ fn write_refusal(
 }
 
 pub fn write(s: State, shadow: &[u64], exclusion: &[u8], address: u64, length: u64) -> Answer
-    ensures { λ r. ⌜ replyOf r ≡ writeOf s (now (shadow .entry)) (now (exclusion .entry)) address length ⌝ }
+    ensures { λ r. ⌜ ((t : Tables) → keptBy r s (withShadow (now (shadow .entry)) (withExclusion (now (exclusion .entry)) t))
+        ≡ answer (guardOf s (withShadow (now (shadow .entry)) (withExclusion (now (exclusion .entry)) t))) (Calls.write address length)) ⌝ }
 {
     if !questions::write_in_order(s, shadow.len(), exclusion.len()) {
         return Answer::Refused(7);
@@ -189,7 +192,8 @@ fn device_write_refusal(frames: u16, exclusion: &[u8], address: u64, length: u64
 }
 
 pub fn device_write(s: State, exclusion: &[u8], address: u64, length: u64) -> Answer
-    ensures { λ r. ⌜ replyOf r ≡ deviceWriteOf s (now (exclusion .entry)) address length ⌝ }
+    ensures { λ r. ⌜ ((t : Tables) → keptBy r s (withExclusion (now (exclusion .entry)) t)
+        ≡ answer (guardOf s (withExclusion (now (exclusion .entry)) t)) (deviceWrite address length)) ⌝ }
 {
     if !questions::device_write_in_order(s, exclusion.len()) {
         return Answer::Refused(7);

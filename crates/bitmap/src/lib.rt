@@ -2,11 +2,11 @@
 // `excluded` and `exclude` are total: a byte past the vector's end counts as 0 and is not written.
 
 ghost use mathlib.Core.Path.{_≡_};
-ghost use mathlib.Core.Bool.{not};
+ghost use mathlib.Core.Bool.{true, not};
 ghost use Prim.Native.Nat.{suc, _-_, _*_, _/_, _≤_, _<_};
 ghost use lib.ListN.{length};
 ghost use Rattle.model.specs.Edges.{bit, everyFrom};
-ghost use Rattle.model.specs.Keeps.{excludedIn, withExcluded};
+ghost use Rattle.model.specs.Keeps.{excludedIn, withBit};
 
 // The bit of a frame that has a byte in the vector, so that no length is tested: question 7 and the limit at F have settled that.
 pub fn excluded_within(exclusion: &[u8], frame: u64) -> bool
@@ -28,7 +28,7 @@ pub fn excluded(exclusion: &[u8], frame: u64) -> bool
 }
 
 pub fn exclude(exclusion: &mut [u8], frame: u64)
-    ensures { λ _. ⌜ now (exclusion .exit) ≡ withExcluded (now (exclusion .entry)) frame ⌝ }
+    ensures { λ _. ⌜ now (exclusion .exit) ≡ withBit true (now (exclusion .entry)) frame ⌝ }
 {
     let at = (frame / 8) as usize;
     if at < exclusion.len() {

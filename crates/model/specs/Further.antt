@@ -96,7 +96,7 @@ startCases =
     ∷ row (startOn everyPage 3 3 2)
     (outcome (accepted 3 1)
     (guardOf (record { pages = 3; frames = 9; entries = 1; entry = replicate 16 0; mode = Kernel 0 })
-          (record { shadow = 0x8401 ∷ 0x401 ∷ 0x8401 ∷ []; map = 8 ∷ 0 ∷ 8 ∷ []; exclusion = 1 ∷ 1 ∷ [] })))
+    (record { shadow = 0x8401 ∷ 0x401 ∷ 0x8401 ∷ []; map = 8 ∷ 0 ∷ 8 ∷ []; exclusion = 1 ∷ 1 ∷ [] })))
     -- 1 to 7, each with all before it yes
     ∷ row (startOn (6 ∷ 0 ∷ 8 ∷ 0 ∷ 3 ∷ 0 ∷ 2 ∷ []) 6 6 1) (startRefused 1 6 6 1)
     ∷ row (startOn (set twoEntries 1 8) 6 6 1) (startRefused 2 6 6 1)
@@ -132,11 +132,11 @@ syncCases =
     row (answer started6 (syncAll (0 ∷ 0x7003 ∷ 0x2 ∷ 0x5007 ∷ 0x8003 ∷ 0x8000000000006007 ∷ [])))
     (outcome (accepted 3 1)
     (guardOf (sixPages (Kernel 1))
-          (record {
-            shadow = 0 ∷ 0x5401 ∷ 0 ∷ 0x5401 ∷ 0x5401 ∷ 0x8000000000006207 ∷ [];
-            map = 65535 ∷ 5 ∷ 3 ∷ 5 ∷ 5 ∷ 65535 ∷ [];
-            exclusion = 0x28 ∷ [];
-          })))
+    (record {
+      shadow = 0 ∷ 0x5401 ∷ 0 ∷ 0x5401 ∷ 0x5401 ∷ 0x8000000000006207 ∷ [];
+      map = 65535 ∷ 5 ∷ 3 ∷ 5 ∷ 5 ∷ 65535 ∷ [];
+      exclusion = 0x28 ∷ [];
+    })))
     -- 7 of the kernel table's length, and of each part of the state; 9 of the page
     ∷ stays started6 (syncAll (replicate 5 0)) (refused 7)
     ∷ stays started6 (syncPage (replicate 7 0) 0) (refused 7)

@@ -19,6 +19,9 @@ pub record Tables : Type 0 where
   pub map : List ℕ
   pub exclusion : List ℕ
 
+abbrev pub tables : List ℕ → List ℕ → List ℕ → Tables
+tables shadow map exclusion = record { shadow = shadow; map = map; exclusion = exclusion }
+
 -- The tables with another one in its place.
 abbrev pub withShadow : List ℕ → Tables → Tables
 withShadow shadow t = record { shadow = shadow; map = t .map; exclusion = t .exclusion }

@@ -5,10 +5,12 @@ ghost use mathlib.Core.Path.{_≡_};
 ghost use mathlib.Core.Bool.{true};
 ghost use Prim.Native.Nat.{_<_};
 ghost use lib.ListN.{length, getD};
+ghost use Rattle.model.specs.Keeps.{Tables, withShadow, guardOf};
 ghost use Rattle.model.specs.Sync;
 ghost use Rattle.model.specs.Sync.{switchedAll};
 ghost use Rattle.model.specs.Questions.{firstNo, leavePermitted};
-ghost use Rattle.model.specs.Calls.{switchedBy, switchTo, enterOf, leaveOf};
+ghost use Rattle.model.specs.Calls;
+ghost use Rattle.model.specs.Calls.{outcomeBy, switchTo, answer};
 ghost use Rattle.modes.specs.Switches.{switchPermitted, switchQuestions};
 use model::Answer;
 use model::Called;
@@ -34,7 +36,8 @@ fn switch_table(user: bool, shadow: &mut [u64]) -> u64
 
 // "Both switch the mode, run that page, and give the count of changed shadow entries and 0."
 fn switch_to(s: State, shadow: &mut [u64], mode: Mode) -> Called
-    ensures { λ r. ⌜ switchedBy r (now (shadow .exit)) ≡ switchTo s (now (shadow .entry)) mode ⌝ }
+    ensures { λ r. ⌜ ((t : Tables) → outcomeBy r (withShadow (now (shadow .exit)) t)
+        ≡ switchTo (guardOf s (withShadow (now (shadow .entry)) t)) mode) ⌝ }
 {
     let changed = switch_table(questions::in_user(mode), shadow);
     let state = questions::in_mode(s, mode);
@@ -85,7 +88,8 @@ fn refusal(exists: bool, suits: bool, enters: bool, shadow: &[u64], page: u64) -
 }
 
 pub fn enter(s: State, shadow: &mut [u64], index: u64) -> Called
-    ensures { λ r. ⌜ switchedBy r (now (shadow .exit)) ≡ enterOf s (now (shadow .entry)) index ⌝ }
+    ensures { λ r. ⌜ ((t : Tables) → outcomeBy r (withShadow (now (shadow .exit)) t)
+        ≡ answer (guardOf s (withShadow (now (shadow .entry)) t)) (Calls.enter index)) ⌝ }
 {
     if !questions::shadow_in_order(s, shadow.len()) {
         return questions::refused(s, 7);
@@ -102,7 +106,8 @@ pub fn enter(s: State, shadow: &mut [u64], index: u64) -> Called
 }
 
 pub fn leave(s: State, shadow: &mut [u64], page: u64) -> Called
-    ensures { λ r. ⌜ switchedBy r (now (shadow .exit)) ≡ leaveOf s (now (shadow .entry)) page ⌝ }
+    ensures { λ r. ⌜ ((t : Tables) → outcomeBy r (withShadow (now (shadow .exit)) t)
+        ≡ answer (guardOf s (withShadow (now (shadow .entry)) t)) (Calls.leave page)) ⌝ }
 {
     if !questions::shadow_in_order(s, shadow.len()) {
         return questions::refused(s, 7);

@@ -6,9 +6,8 @@ ghost use mathlib.Core.Path.{_≡_};
 ghost use Prim.Native.Nat.{_+_, _*_, _<_, _≤_, _^_, min};
 ghost use lib.ListN.{length};
 ghost use Rattle.model.specs.Edges.{both, within, pagesInRange, framesInRange};
-ghost use Rattle.model.specs.Policy.{numberAt, numbersAt};
-ghost use Rattle.model.specs.Questions.{firstNo, rising, allBelow};
-ghost use Rattle.policy.specs.Record.{recordQuestions};
+ghost use Rattle.model.specs.Policy.{nothingGiven, numberAt, numbersAt, policyOf};
+ghost use Rattle.model.specs.Questions.{firstNo, rising, allBelow, recordQuestions};
 
 // Two bytes as a number, the lower one first.
 fn joined(low: u8, high: u8) -> u16
@@ -149,7 +148,7 @@ fn frames_below(bytes: &[u8], frames: u16, count: u16) -> bool
 
 // The first no among questions 1 to 6, or 0.
 pub fn record_question(bytes: &[u8]) -> u64
-    ensures { λ r. ⌜ r ≡ firstNo (recordQuestions (now (bytes .entry))) ⌝ }
+    ensures { λ r. ⌜ r ≡ firstNo (recordQuestions nothingGiven (now (bytes .entry)) (policyOf (now (bytes .entry)))) ⌝ }
 {
     if bytes.len() < 8 {
         return 1;

@@ -5,9 +5,9 @@ ghost use mathlib.Core.Path.{_≡_};
 ghost use mathlib.Core.Bool.{true};
 ghost use Prim.Native.Nat.{_+_, _*_, _≤_};
 ghost use lib.ListN.{length, take, replicate};
-ghost use Rattle.model.specs.Keeps.{vectorBytes};
-ghost use Rattle.model.specs.Policy.{numbersAt, policyOf, startGuard};
-ghost use Rattle.model.specs.Questions.{firstNo, allBelow, startQuestions};
+ghost use Rattle.model.specs.Keeps.{tables, vectorBytes};
+ghost use Rattle.model.specs.Policy.{nothingGiven, numbersAt, policyOf, startTables};
+ghost use Rattle.model.specs.Questions.{firstNo, allBelow, lengths, startQuestions};
 ghost use Rattle.model.specs.Calls.{outcomeBy, startOf};
 ghost use Rattle.start.specs.Start.{refusedWith, acceptedOn, placed, approvedEach, withEach, entryTable};
 use model::Answer;
@@ -90,7 +90,7 @@ fn copy_front(from: &[u8], to: &mut [u8])
 // Shadow table and map. Questions 4 to 7 have shown what is required.
 fn set_pages(bytes: &[u8], shadow: &mut [u64], map: &mut [u16])
     requires { ⌜ (length (now bytes) ≡ 8 + 4 * policyOf (now bytes) .count) × (length (now shadow) ≡ policyOf (now bytes) .pages) × (length (now map) ≡ policyOf (now bytes) .pages) × (allBelow (policyOf (now bytes) .pages) (policyOf (now bytes) .listed) ≡ true) × (allBelow 4096 (policyOf (now bytes) .backing) ≡ true) ⌝ }
-    ensures { λ _. ⌜ (now (shadow .exit) ≡ startGuard (policyOf (now (bytes .entry))) .shadow) × (now (map .exit) ≡ startGuard (policyOf (now (bytes .entry))) .map) ⌝ }
+    ensures { λ _. ⌜ (now (shadow .exit) ≡ startTables (policyOf (now (bytes .entry))) .shadow) × (now (map .exit) ≡ startTables (policyOf (now (bytes .entry))) .map) ⌝ }
 {
     clear_shadow(shadow);
     clear_map(map);
@@ -101,7 +101,7 @@ fn set_pages(bytes: &[u8], shadow: &mut [u64], map: &mut [u16])
 // Questions 2, 4, 6 and 7 have shown what is required.
 fn set_vector(bytes: &[u8], exclusion: &mut [u8])
     requires { ⌜ (length (now bytes) ≡ 8 + 4 * policyOf (now bytes) .count) × (length (now exclusion) ≡ vectorBytes (policyOf (now bytes) .frames)) × (policyOf (now bytes) .frames ≤ 4096) × (allBelow 4096 (policyOf (now bytes) .backing) ≡ true) ⌝ }
-    ensures { λ _. ⌜ now (exclusion .exit) ≡ startGuard (policyOf (now (bytes .entry))) .exclusion ⌝ }
+    ensures { λ _. ⌜ now (exclusion .exit) ≡ startTables (policyOf (now (bytes .entry))) .exclusion ⌝ }
 {
     let mut buffer = [0u8; 512];
     gather(bytes, policy::number_from(bytes, 4), &mut buffer);
@@ -160,7 +160,7 @@ fn accepted(bytes: &[u8]) -> Called
 
 // The first no of the start's questions, or 0. Its arguments are the lengths of the tables. Past the record's questions V and F are there.
 fn start_question(bytes: &[u8], shadow: usize, map: usize, exclusion: usize) -> u64
-    ensures { λ r. ⌜ r ≡ firstNo (startQuestions (now (bytes .entry)) (policyOf (now (bytes .entry))) shadow map exclusion) ⌝ }
+    ensures { λ r. ⌜ r ≡ firstNo (startQuestions nothingGiven (now (bytes .entry)) (policyOf (now (bytes .entry))) (lengths shadow map exclusion)) ⌝ }
 {
     let question = policy::record_question(bytes);
     if question != 0 {
@@ -175,7 +175,8 @@ fn start_question(bytes: &[u8], shadow: usize, map: usize, exclusion: usize) -> 
 }
 
 pub fn start(bytes: &[u8], shadow: &mut [u64], map: &mut [u16], exclusion: &mut [u8]) -> Called
-    ensures { λ r. ⌜ outcomeBy r (now (shadow .exit)) (now (map .exit)) (now (exclusion .exit)) ≡ startOf (now (bytes .entry)) (now (shadow .entry)) (now (map .entry)) (now (exclusion .entry)) ⌝ }
+    ensures { λ r. ⌜ outcomeBy r (tables (now (shadow .exit)) (now (map .exit)) (now (exclusion .exit)))
+        ≡ startOf nothingGiven (now (bytes .entry)) (tables (now (shadow .entry)) (now (map .entry)) (now (exclusion .entry))) ⌝ }
 {
     let refusal = start_question(bytes, shadow.len(), map.len(), exclusion.len());
     if refusal != 0 {

@@ -7,10 +7,10 @@ use model::State;
 ghost use mathlib.Core.Path.{_≡_};
 ghost use Prim.Native.Nat.{_+_, _<_, _≤_};
 ghost use lib.ListN.{length, getD, set};
-ghost use Rattle.model.specs.Keeps.{vectorBytes};
+ghost use Rattle.model.specs.Keeps.{Tables, withShadow, withMap, withExclusion, guardOf, vectorBytes};
 ghost use Rattle.model.specs.Sync;
-ghost use Rattle.model.specs.Sync.{place, differs, run, runOver};
-ghost use Rattle.model.specs.Calls.{syncedBy, syncPageOf, syncAllOf};
+ghost use Rattle.model.specs.Sync.{place, differs, run, runFrom, stepFrom};
+ghost use Rattle.model.specs.Calls.{keptBy, syncPage, syncAll, answer};
 ghost use Rattle.sync.specs.Steps.{rules, stepAt};
 
 // The map's number for a page that has no frame approved.
@@ -115,7 +115,8 @@ fn sync_pages(
     map: &mut [u16],
 ) -> Counts
     requires { ⌜ (length (now shadow) ≡ length (now kernel)) × (length (now map) ≡ length (now kernel)) × (length (now exclusion) ≡ vectorBytes frames) ⌝ }
-    ensures { λ r. ⌜ run (now (shadow .exit)) (now (map .exit)) (r .changed) (r .joined) ≡ runOver (Sync.step (rules user frames (now (exclusion .entry)))) (now (kernel .entry)) (now (shadow .entry)) (now (map .entry)) ⌝ }
+    ensures { λ r. ⌜ run (now (shadow .exit)) (now (map .exit)) (r .changed) (r .joined)
+        ≡ runFrom (stepFrom (rules user frames (now (exclusion .entry))) (now (kernel .entry))) 0 (now (shadow .entry)) (now (map .entry)) ⌝ }
 {
     let mut counts = Counts {
         changed: 0,
@@ -138,7 +139,8 @@ pub fn sync_page(
     exclusion: &[u8],
     page: u64,
 ) -> Answer
-    ensures { λ r. ⌜ syncedBy r (now (shadow .exit)) (now (map .exit)) ≡ syncPageOf s (now (kernel .entry)) (now (shadow .entry)) (now (map .entry)) (now (exclusion .entry)) page ⌝ }
+    ensures { λ r. ⌜ ((t : Tables) → keptBy r s (withShadow (now (shadow .exit)) (withMap (now (map .exit)) (withExclusion (now (exclusion .entry)) t)))
+        ≡ answer (guardOf s (withShadow (now (shadow .entry)) (withMap (now (map .entry)) (withExclusion (now (exclusion .entry)) t)))) (syncPage (now (kernel .entry)) page)) ⌝ }
 {
     if !questions::sync_in_order(s, kernel.len(), shadow.len(), map.len(), exclusion.len()) {
         return Answer::Refused(7);
@@ -173,7 +175,8 @@ pub fn sync_all(
     map: &mut [u16],
     exclusion: &[u8],
 ) -> Answer
-    ensures { λ r. ⌜ syncedBy r (now (shadow .exit)) (now (map .exit)) ≡ syncAllOf s (now (kernel .entry)) (now (shadow .entry)) (now (map .entry)) (now (exclusion .entry)) ⌝ }
+    ensures { λ r. ⌜ ((t : Tables) → keptBy r s (withShadow (now (shadow .exit)) (withMap (now (map .exit)) (withExclusion (now (exclusion .entry)) t)))
+        ≡ answer (guardOf s (withShadow (now (shadow .entry)) (withMap (now (map .entry)) (withExclusion (now (exclusion .entry)) t)))) (syncAll (now (kernel .entry)))) ⌝ }
 {
     if !questions::sync_in_order(s, kernel.len(), shadow.len(), map.len(), exclusion.len()) {
         return Answer::Refused(7);
