@@ -1,18 +1,21 @@
 -- Laws that settle a call from the answers that its code has in hand: r is what a test gave, and the code goes by `!r`.
-use Prim.Native.Nat.{ℕ, zero, suc, _≤_}
+use Prim.Native.Nat.{ℕ, zero, suc, _≤_, _<_}
 use mathlib.Core.Bool.{Bool, true, false, not}
 use mathlib.Core.List.{List, [], _∷_}
 use mathlib.Core.Path.{_≡_, refl, sym, _∙_}
 use lib.Dec.{eqb}
+use lib.ListN.{getD}
+use native.Mathlib.Omega.{arith}
 use borrow.Author.Tests.{not-true, not-false, eqb-true}
 use Rattle.model.specs.declared.State.{State}
 use Rattle.model.specs.declared.Answer.the-variants.{Refused}
 use Rattle.model.specs.declared.Called.{Called}
 use Rattle.model.specs.Edges.{pagesInRange, framesInRange}
-use Rattle.model.specs.Keeps.{Guard}
-use Rattle.model.specs.Questions.{Question, question, firstNo, seen, stateInOrder, inOrder}
-use Rattle.model.specs.Calls.{replyOf, settle, Outcome, outcomeBy, Call, broughtBy, questionsOf, effectOf, answer}
-use Rattle.model.proofs.QuestionLaws.{both-first, both-second, within-high, firstNo-yes, firstNo-no, settle-accepted}
+use Rattle.model.specs.Keeps.{Guard, running, modeOf, inMode}
+use Rattle.model.specs.Questions.{Question, question, firstNo, View, seen, stateInOrder, inOrder, syncPageQuestions, syncAllQuestions, fetchQuestions, writeQuestions, enterQuestions, leaveQuestions, deviceWriteQuestions}
+use Rattle.model.specs.Calls.{replyOf, settle, Outcome, outcomeBy, Call, syncPage, syncAll, fetch, write, enter, leave, deviceWrite, broughtBy, questionsOf, pageSynced, allSynced, switchTo, effectOf, answer}
+use Rattle.model.proofs.QuestionLaws.{both-first, both-second, both-no-after, within-high, firstNo-yes, firstNo-no, settle-accepted}
+use Rattle.model.proofs.AcceptedLaws.{fetch-page, enter-page, leave-page}
 
 -- Down the questions: past a yes, past one that is always answered so, at a no, and at the end.
 pub passed : (n k : ℕ) (r b : Bool) (qs : List Question) → r ≡ b → not r ≡ false → k ≡ firstNo qs → k ≡ firstNo (question n b ∷ qs)
@@ -71,3 +74,46 @@ in-order stateFits [] p = (p, tt)
 in-order stateFits (fits ∷ lent) p =
     let rest = in-order stateFits lent (both-second fits (inOrder stateFits lent) p) in
     (rest .0, (both-first fits (inOrder stateFits lent) p, rest .1))
+
+-- A state that is not in order: every call refuses it with 7, whatever else it asks.
+state-no : (stateFits : Bool) (lent : List Bool) → stateFits ≡ false → inOrder stateFits lent ≡ false
+unfolding inOrder
+state-no stateFits [] p = p
+state-no stateFits (fits ∷ lent) p = both-no-after fits (state-no stateFits lent p)
+
+pub state-refused : (v : View) (call : Call) → v .stateFits ≡ false → firstNo (questionsOf v call) ≡ 7
+unfolding questionsOf syncPageQuestions syncAllQuestions fetchQuestions writeQuestions enterQuestions leaveQuestions deviceWriteQuestions
+state-refused v (syncPage kernel page) p = firstNo-no 7 _ (state-no _ _ p)
+state-refused v (syncAll kernel) p = firstNo-no 7 _ (state-no _ _ p)
+state-refused v (fetch page) p = firstNo-no 7 _ (state-no _ _ p)
+state-refused v (write address length) p = firstNo-no 7 _ (state-no _ _ p)
+state-refused v (enter index) p = firstNo-no 7 _ (state-no _ _ p)
+state-refused v (leave page) p = firstNo-no 7 _ (state-no _ _ p)
+state-refused v (deviceWrite address length) p = firstNo-no 7 _ (state-no _ _ p)
+
+-- An accepted call changes the mode of the state alone, and a page that runs then is below V, where one ran below V before.
+pub effect-state : (g : Guard) (call : Call) → effectOf g call .guard .state ≡ inMode (g .state) (effectOf g call .guard .state .mode)
+unfolding effectOf pageSynced allSynced switchTo inMode
+effect-state g (syncPage kernel page) = refl
+effect-state g (syncAll kernel) = refl
+effect-state g (fetch page) = refl
+effect-state g (write address length) = refl
+effect-state g (enter index) = refl
+effect-state g (leave page) = refl
+effect-state g (deviceWrite address length) = refl
+
+running-modeOf : (user : Bool) (page : ℕ) → running (modeOf user page) ≡ page
+unfolding running modeOf
+running-modeOf true page = refl
+running-modeOf false page = refl
+
+pub effect-runs : (g : Guard) (call : Call) (limit : ℕ) → g .state .pages ≤ limit → running (g .state .mode) < limit
+    → firstNo (questionsOf (seen g) call) ≡ 0 → running (effectOf g call .guard .state .mode) < limit
+unfolding questionsOf effectOf pageSynced allSynced switchTo inMode running
+effect-runs g (syncPage kernel page) limit few now passed = now
+effect-runs g (syncAll kernel) limit few now passed = now
+effect-runs g (fetch page) limit few now passed = rw running-modeOf (let b : page < g .state .pages = fetch-page (seen g) page passed in omega arith)
+effect-runs g (write address length) limit few now passed = now
+effect-runs g (enter index) limit few now passed = let b : getD (g .state .entry) index 0 < g .state .pages = enter-page (seen g) index passed in omega arith
+effect-runs g (leave page) limit few now passed = let b : page < g .state .pages = leave-page (seen g) page passed in omega arith
+effect-runs g (deviceWrite address length) limit few now passed = now
