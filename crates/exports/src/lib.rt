@@ -2,16 +2,16 @@
 // Each promises what the model answers on the decoded state, by one equation on all inputs.
 
 ghost use mathlib.Core.Path.{_≡_};
-ghost use mathlib.Core.List.{[], _∷_};
-ghost use Rattle.model.specs.Calls.{settle};
-ghost use Rattle.model.specs.Questions.{firstNo};
-ghost use Rattle.policy.specs.Record.{recordQuestions};
-ghost use Rattle.exports.specs.Boundary.{left, startAt, syncPageAt, syncAllAt, fetchAt, writeAt, enterAt, leaveAt, deviceWriteAt, StateHeld};
+ghost use Rattle.model.specs.Keeps.{Tables, tables, withShadow, withMap, withExclusion};
+ghost use Rattle.model.specs.Policy.{nothingGiven, policyOf};
+ghost use Rattle.model.specs.Questions.{firstNo, recordQuestions};
+ghost use Rattle.model.specs.Calls.{settle, syncPage, syncAll, fetch, write, enter, leave, deviceWrite};
+ghost use Rattle.exports.specs.Boundary.{left, startAt, callAt, StateHeld};
 use model::Answer;
 
 // The refusal of a start whose runs do not fit: the record's questions come first.
 fn start_refusal(policy: &[u8]) -> u64
-    ensures { λ r. ⌜ r ≡ settle (firstNo (recordQuestions (now (policy .entry)))) 7 (λ n. n) ⌝ }
+    ensures { λ r. ⌜ r ≡ settle (firstNo (recordQuestions nothingGiven (now (policy .entry)) (policyOf (now (policy .entry))))) 7 (λ n. n) ⌝ }
 {
     let number = policy::record_question(policy);
     if number == 0 { 7 } else { number }
@@ -26,7 +26,8 @@ pub extern "C" fn guard_start(
     exclusion: &mut [u8],
     numbers: &mut [u64],
 ) -> u64
-    ensures { λ r. ⌜ left r (now (state .exit)) (now (numbers .exit)) (now (shadow .exit) ∷ now (map .exit) ∷ now (exclusion .exit) ∷ []) ≡ startAt (now (policy .entry)) (now (state .entry)) (now (shadow .entry)) (now (map .entry)) (now (exclusion .entry)) (now (numbers .entry)) ⌝ }
+    ensures { λ r. ⌜ left r (now (state .exit)) (now (numbers .exit)) (tables (now (shadow .exit)) (now (map .exit)) (now (exclusion .exit)))
+        ≡ startAt nothingGiven (now (policy .entry)) (now (state .entry)) (now (numbers .entry)) (tables (now (shadow .entry)) (now (map .entry)) (now (exclusion .entry))) ⌝ }
 {
     if !runs::runs_fit(state, numbers) {
         let number = start_refusal(policy);
@@ -47,7 +48,8 @@ pub extern "C" fn guard_sync_page(
     page: u64,
     numbers: &mut [u64],
 ) -> u64
-    ensures { λ r. ⌜ left r (now (state .entry)) (now (numbers .exit)) (now (shadow .exit) ∷ now (map .exit) ∷ []) ≡ syncPageAt (now (state .entry)) (now (kernel .entry)) (now (shadow .entry)) (now (map .entry)) (now (exclusion .entry)) page (now (numbers .entry)) ⌝ }
+    ensures { λ r. ⌜ ((t : Tables) → left r (now (state .entry)) (now (numbers .exit)) (withShadow (now (shadow .exit)) (withMap (now (map .exit)) (withExclusion (now (exclusion .entry)) t)))
+        ≡ callAt (now (state .entry)) (now (numbers .entry)) (withShadow (now (shadow .entry)) (withMap (now (map .entry)) (withExclusion (now (exclusion .entry)) t))) (syncPage (now (kernel .entry)) page)) ⌝ }
 {
     if !runs::usable(state, numbers) {
         return runs::reply(numbers, Answer::Refused(7));
@@ -66,7 +68,8 @@ pub extern "C" fn guard_sync_all(
     exclusion: &[u8],
     numbers: &mut [u64],
 ) -> u64
-    ensures { λ r. ⌜ left r (now (state .entry)) (now (numbers .exit)) (now (shadow .exit) ∷ now (map .exit) ∷ []) ≡ syncAllAt (now (state .entry)) (now (kernel .entry)) (now (shadow .entry)) (now (map .entry)) (now (exclusion .entry)) (now (numbers .entry)) ⌝ }
+    ensures { λ r. ⌜ ((t : Tables) → left r (now (state .entry)) (now (numbers .exit)) (withShadow (now (shadow .exit)) (withMap (now (map .exit)) (withExclusion (now (exclusion .entry)) t)))
+        ≡ callAt (now (state .entry)) (now (numbers .entry)) (withShadow (now (shadow .entry)) (withMap (now (map .entry)) (withExclusion (now (exclusion .entry)) t))) (syncAll (now (kernel .entry)))) ⌝ }
 {
     if !runs::usable(state, numbers) {
         return runs::reply(numbers, Answer::Refused(7));
@@ -82,7 +85,8 @@ pub extern "C" fn guard_fetch(
     page: u64,
     numbers: &mut [u64],
 ) -> u64
-    ensures { λ r. ⌜ left r (now (state .exit)) (now (numbers .exit)) [] ≡ fetchAt (now (state .entry)) (now (shadow .entry)) page (now (numbers .entry)) ⌝ }
+    ensures { λ r. ⌜ ((t : Tables) → left r (now (state .exit)) (now (numbers .exit)) (withShadow (now (shadow .entry)) t)
+        ≡ callAt (now (state .entry)) (now (numbers .entry)) (withShadow (now (shadow .entry)) t) (fetch page)) ⌝ }
 {
     if !runs::usable(state, numbers) {
         return runs::reply(numbers, Answer::Refused(7));
@@ -100,7 +104,8 @@ pub extern "C" fn guard_write(
     length: u64,
     numbers: &mut [u64],
 ) -> u64
-    ensures { λ r. ⌜ left r (now (state .entry)) (now (numbers .exit)) [] ≡ writeAt (now (state .entry)) (now (shadow .entry)) (now (exclusion .entry)) address length (now (numbers .entry)) ⌝ }
+    ensures { λ r. ⌜ ((t : Tables) → left r (now (state .entry)) (now (numbers .exit)) (withShadow (now (shadow .entry)) (withExclusion (now (exclusion .entry)) t))
+        ≡ callAt (now (state .entry)) (now (numbers .entry)) (withShadow (now (shadow .entry)) (withExclusion (now (exclusion .entry)) t)) (write address length)) ⌝ }
 {
     if !runs::usable(state, numbers) {
         return runs::reply(numbers, Answer::Refused(7));
@@ -116,7 +121,8 @@ pub extern "C" fn guard_enter(
     index: u64,
     numbers: &mut [u64],
 ) -> u64
-    ensures { λ r. ⌜ left r (now (state .exit)) (now (numbers .exit)) (now (shadow .exit) ∷ []) ≡ enterAt (now (state .entry)) (now (shadow .entry)) index (now (numbers .entry)) ⌝ }
+    ensures { λ r. ⌜ ((t : Tables) → left r (now (state .exit)) (now (numbers .exit)) (withShadow (now (shadow .exit)) t)
+        ≡ callAt (now (state .entry)) (now (numbers .entry)) (withShadow (now (shadow .entry)) t) (enter index)) ⌝ }
 {
     if !runs::usable(state, numbers) {
         return runs::reply(numbers, Answer::Refused(7));
@@ -132,7 +138,8 @@ pub extern "C" fn guard_leave(
     page: u64,
     numbers: &mut [u64],
 ) -> u64
-    ensures { λ r. ⌜ left r (now (state .exit)) (now (numbers .exit)) (now (shadow .exit) ∷ []) ≡ leaveAt (now (state .entry)) (now (shadow .entry)) page (now (numbers .entry)) ⌝ }
+    ensures { λ r. ⌜ ((t : Tables) → left r (now (state .exit)) (now (numbers .exit)) (withShadow (now (shadow .exit)) t)
+        ≡ callAt (now (state .entry)) (now (numbers .entry)) (withShadow (now (shadow .entry)) t) (leave page)) ⌝ }
 {
     if !runs::usable(state, numbers) {
         return runs::reply(numbers, Answer::Refused(7));
@@ -149,7 +156,8 @@ pub extern "C" fn guard_device_write(
     length: u64,
     numbers: &mut [u64],
 ) -> u64
-    ensures { λ r. ⌜ left r (now (state .entry)) (now (numbers .exit)) [] ≡ deviceWriteAt (now (state .entry)) (now (exclusion .entry)) address length (now (numbers .entry)) ⌝ }
+    ensures { λ r. ⌜ ((t : Tables) → left r (now (state .entry)) (now (numbers .exit)) (withExclusion (now (exclusion .entry)) t)
+        ≡ callAt (now (state .entry)) (now (numbers .entry)) (withExclusion (now (exclusion .entry)) t) (deviceWrite address length)) ⌝ }
 {
     if !runs::usable(state, numbers) {
         return runs::reply(numbers, Answer::Refused(7));

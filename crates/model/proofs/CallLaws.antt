@@ -13,7 +13,7 @@ use Rattle.model.specs.declared.Called.{Called}
 use Rattle.model.specs.Edges.{pagesInRange, framesInRange}
 use Rattle.model.specs.Keeps.{Guard, running, modeOf, inMode}
 use Rattle.model.specs.Questions.{Question, question, firstNo, View, seen, stateInOrder, inOrder, syncPageQuestions, syncAllQuestions, fetchQuestions, writeQuestions, enterQuestions, leaveQuestions, deviceWriteQuestions}
-use Rattle.model.specs.Calls.{replyOf, settle, Outcome, outcomeBy, Call, syncPage, syncAll, fetch, write, enter, leave, deviceWrite, broughtBy, questionsOf, pageSynced, allSynced, switchTo, effectOf, answer}
+use Rattle.model.specs.Calls.{replyOf, settle, Outcome, outcomeBy, refusedOf, Call, syncPage, syncAll, fetch, write, enter, leave, deviceWrite, broughtBy, questionsOf, pageSynced, allSynced, switchTo, effectOf, answer}
 use Rattle.model.proofs.QuestionLaws.{both-first, both-second, both-no-after, within-high, firstNo-yes, firstNo-no, settle-accepted}
 use Rattle.model.proofs.AcceptedLaws.{fetch-page, enter-page, leave-page}
 
@@ -117,3 +117,7 @@ effect-runs g (write address length) limit few now passed = now
 effect-runs g (enter index) limit few now passed = let b : getD (g .state .entry) index 0 < g .state .pages = enter-page (seen g) index passed in omega arith
 effect-runs g (leave page) limit few now passed = let b : page < g .state .pages = leave-page (seen g) page passed in omega arith
 effect-runs g (deviceWrite address length) limit few now passed = now
+
+pub answer-unfit : (g : Guard) (call : Call) → stateInOrder (g .state) ≡ false → answer g call ≡ refusedOf g (broughtBy call) 7
+unfolding answer
+answer-unfit g call p = settle-refused-by 7 _ _ (λ z. omega arith) (state-refused (seen g) call p)

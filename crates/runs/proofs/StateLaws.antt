@@ -1,12 +1,12 @@
 -- Laws of a state in a run: all words written, what was written decodes to the same state, and question 7 on the words.
-use Prim.Native.Nat.{ℕ, _+_, _≤_, _<_}
+use Prim.Native.Nat.{ℕ, zero, suc, _+_, _≤_, _<_}
 use mathlib.Core.Bool.{Bool, true, false}
 use mathlib.Core.List.{List, [], _∷_, _++_}
 use mathlib.Core.Path.{_≡_, refl, sym, ap, _∙_}
 use lib.ListN.{length, getD, set, drop, length-append, length-drop, length-set, List·getD-append}
-use lib.Seq.{paste, take-all, set-at, getD-at, getD-drop, getD-set-same, getD-set-other, append-snoc}
+use lib.Seq.{paste, take-all, set-at, getD-at, getD-drop, getD-set-same, getD-set-other, set-getD, append-snoc}
 use lib.Dec.{leb, ltb, eqb}
-use borrow.Author.Tests.{le-leb, ltb-true}
+use borrow.Author.Tests.{le-leb, leb-true, leb-false, ltb-true, eqb-true, eqb-false}
 use native.Mathlib.Omega.{arith}
 use mir.Syntax.{w16}
 use mir.Val.{Fits}
@@ -16,10 +16,10 @@ use Rattle.model.specs.declared.State.{State}
 use Rattle.model.specs.Edges.{both, within, pagesInRange, framesInRange}
 use Rattle.model.specs.Keeps.{inUser, running, modeOf, inMode}
 use Rattle.model.specs.Questions.{stateInOrder}
-use Rattle.model.proofs.QuestionLaws.{both-yes, both-no-after, within-high}
+use Rattle.model.proofs.QuestionLaws.{both-first, both-second, both-yes, both-no-after, within-high}
 use Rattle.model.proofs.TableLaws.{is-table, table-same}
 use Rattle.runs.specs.Runs.{narrow, field, entryPages, stateIn, modeWord, wordsOf, withMode}
-use Rattle.runs.proofs.WordLaws.{narrow-fits, narrow-within, narrow-ltb}
+use Rattle.runs.proofs.WordLaws.{narrow-fits, narrow-wide, narrow-within, narrow-ltb}
 
 -- The two words behind the entry pages.
 tail-written : (e d : List ℕ) (m r : ℕ) → length e ≡ 16 → length d ≡ 2 → set (set (e ++ d) 16 m) 17 r ≡ e ++ (m ∷ r ∷ [])
@@ -175,3 +175,33 @@ pub words-in-order : (run : List ℕ) (a b d q w y r : Bool) → r ≡ both q y 
     → w ≡ both (leb (getD run 20 0) 2047) (ltb (getD run 20 0) (getD run 0 0))
     → a ≡ within 1 2048 (getD run 0 0) → b ≡ within 1 4096 (getD run 1 0) → d ≡ within 1 16 (getD run 2 0) → r ≡ stateInOrder (stateIn run)
 words-in-order run a b d q w y r e1 e2 e3 e4 e5 e6 e7 = cc (words-asked run)
+
+-- A mode that stays: its words are as they were, where the mode word is 0 or 1 and the running page is in order.
+mode-word-of : (word page : ℕ) → word ≤ 1 → (b : Bool) → eqb word 1 ≡ b → modeWord (modeOf b page) ≡ word
+unfolding modeWord modeOf inUser
+mode-word-of word page h true e = sym (eqb-true word 1 e)
+mode-word-of word page h false e = by word h (eqb-false word 1 e)
+  where
+    by : (n : ℕ) → n ≤ 1 → (n ≡ 1 → ⊥) → 0 ≡ n
+    by zero l q = refl
+    by (suc zero) l q = absurd (q refl)
+    by (suc (suc n)) l q = absurd (omega arith)
+
+narrow-small : (word : ℕ) → narrow word < 65535 → narrow word ≡ word
+narrow-small word h = by (leb word 65535) refl
+  where
+    by : (b : Bool) → leb word 65535 ≡ b → narrow word ≡ word
+    by true e = sym (narrow-fits word (leb-true word 65535 e))
+    by false e = absurd (let q : 65535 ≡ narrow word = narrow-wide word (leb-false word 65535 e) in omega arith)
+
+pub mode-kept : (run : List ℕ) → leb (getD run 19 0) 1 ≡ true → stateInOrder (stateIn run) ≡ true → withMode run (stateIn run .mode) ≡ run
+unfolding withMode stateIn field stateInOrder pagesInRange
+mode-kept run h p =
+    let few : field run 0 ≤ 2048 = within-high 1 2048 (field run 0) (both-first _ _ p) in
+    let below : field run 20 < field run 0 = ltb-true _ _ (rw running-mode at (both-second _ _ (both-second _ _ (both-second _ _ p)))) in
+    let same : field run 20 ≡ getD run 20 0 = running-same below few in
+    rw (mode-word-of (getD run 19 0) (field run 20) (leb-true _ _ h) (eqb (getD run 19 0) 1) refl, running-mode, same, set-getD run 19 0)
+    (set-getD run 20 0)
+  where
+    running-same : field run 20 < field run 0 → field run 0 ≤ 2048 → field run 20 ≡ getD run 20 0
+    running-same below few = narrow-small (getD run 20 0) (omega arith)
