@@ -1,6 +1,6 @@
 -- A law for each answer of this crate's functions: a frame's bit read and set, in a byte of the vector and past its end.
 use Prim.Native.Nat.{ℕ, _+_, _-_, _*_, _/_, _%_, _^_, _≤_, _<_}
-use mathlib.Core.Bool.{Bool, false}
+use mathlib.Core.Bool.{Bool, true, false, cond}
 use mathlib.Core.List.{List}
 use mathlib.Core.Path.{_≡_, refl, sym, ap}
 use native.Mathlib.Nat.{zero-div}
@@ -9,28 +9,28 @@ use lib.Bits.{bitOr, or-add-and, and-high}
 use lib.Dec.{eqb}
 use lib.ListN.{length, getD, set, List·getD-eq-default}
 use lib.Seq.{set-out}
-use Rattle.model.specs.Edges.{either, bit}
-use Rattle.model.specs.Keeps.{excludedIn, flag, byteOf, withExcluded}
+use Rattle.model.specs.Edges.{bit}
+use Rattle.model.specs.Keeps.{excludedIn, flag, byteOf, withBit}
 use Rattle.model.proofs.VectorLaws.{below8, flag-bit, byteOf-sum, byteOf-bits}
 
 -- The or of a byte with the weight of bit k sets bit k and keeps the others.
 module _ (b : ℕ) (small : b < 256) where
-  withBit : ℕ → ℕ → Bool
-  withBit k j = either (eqb j k) (bit j b)
+  setBit : ℕ → ℕ → Bool
+  setBit k j = cond (eqb j k) true (bit j b)
 
   or-sum : (k : ℕ) → bitOr b (2 ^ (1 + k) - 2 ^ k) + flag (bit k b) 0 * 2 ^ k ≡ b + (2 ^ (1 + k) - 2 ^ k)
   or-sum k = rw (flag-bit, ← and-high b 1 k) (or-add-and b (2 ^ (1 + k) - 2 ^ k))
 
-  pub or-bit : (k : ℕ) → k < 8 → bitOr b (1 * 2 ^ k % 256) ≡ byteOf (λ j. either (eqb j k) (bit j b))
-  unfolding withBit either flag
+  pub or-bit : (k : ℕ) → k < 8 → bitOr b (1 * 2 ^ k % 256) ≡ byteOf (λ j. cond (eqb j k) true (bit j b))
+  unfolding setBit flag
   or-bit =
       let whole : byteOf (λ j. bit j b) ≡ b = byteOf-bits b small in
       let old = byteOf-sum (λ j. bit j b) .0 in
-      below8 (λ k. bitOr b (1 * 2 ^ k % 256) ≡ byteOf (withBit k))
-      (omega (arith, or-sum 0, byteOf-sum (withBit 0) .0)) (omega (arith, or-sum 1, byteOf-sum (withBit 1) .0))
-      (omega (arith, or-sum 2, byteOf-sum (withBit 2) .0)) (omega (arith, or-sum 3, byteOf-sum (withBit 3) .0))
-      (omega (arith, or-sum 4, byteOf-sum (withBit 4) .0)) (omega (arith, or-sum 5, byteOf-sum (withBit 5) .0))
-      (omega (arith, or-sum 6, byteOf-sum (withBit 6) .0)) (omega (arith, or-sum 7, byteOf-sum (withBit 7) .0))
+      below8 (λ k. bitOr b (1 * 2 ^ k % 256) ≡ byteOf (setBit k))
+      (omega (arith, or-sum 0, byteOf-sum (setBit 0) .0)) (omega (arith, or-sum 1, byteOf-sum (setBit 1) .0))
+      (omega (arith, or-sum 2, byteOf-sum (setBit 2) .0)) (omega (arith, or-sum 3, byteOf-sum (setBit 3) .0))
+      (omega (arith, or-sum 4, byteOf-sum (setBit 4) .0)) (omega (arith, or-sum 5, byteOf-sum (setBit 5) .0))
+      (omega (arith, or-sum 6, byteOf-sum (setBit 6) .0)) (omega (arith, or-sum 7, byteOf-sum (setBit 7) .0))
 
 -- A frame's bit, in a byte of the vector and past its end.
 pub excluded-in : (x : List ℕ) (f : ℕ) → eqb (getD x (f / 8) 0 / 2 ^ (f % 8) % 2) 1 ≡ excludedIn x f
@@ -41,10 +41,10 @@ pub excluded-past : (x : List ℕ) (f : ℕ) → length x ≤ f / 8 → false �
 unfolding excludedIn bit
 excluded-past x f past = rw (List·getD-eq-default x 0 past, zero-div)
 
-pub exclude-in : (x : List ℕ) (f : ℕ) → getD x (f / 8) 0 < 256 → set x (f / 8) (bitOr (getD x (f / 8) 0) (1 * 2 ^ (f % 8) % 256)) ≡ withExcluded x f
-unfolding withExcluded
+pub exclude-in : (x : List ℕ) (f : ℕ) → getD x (f / 8) 0 < 256 → set x (f / 8) (bitOr (getD x (f / 8) 0) (1 * 2 ^ (f % 8) % 256)) ≡ withBit true x f
+unfolding withBit
 exclude-in x f small = ap (set x (f / 8)) (or-bit (getD x (f / 8) 0) small (f % 8) (omega arith))
 
-pub exclude-past : (x : List ℕ) (f : ℕ) → length x ≤ f / 8 → x ≡ withExcluded x f
-unfolding withExcluded
+pub exclude-past : (x : List ℕ) (f : ℕ) → length x ≤ f / 8 → x ≡ withBit true x f
+unfolding withBit
 exclude-past x f past = sym (set-out x (f / 8) _ past)
