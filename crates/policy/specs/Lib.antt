@@ -1,2 +1,0 @@
--- What the policy record is asked.
-pub mod Record
