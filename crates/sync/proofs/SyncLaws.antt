@@ -8,19 +8,19 @@ use native.Mathlib.Omega.{arith}
 use lib.Dec.{ltb, eqb}
 use lib.ListN.{length, getD, set}
 use lib.Seq.{set-getD}
-use borrow.Author.Tests.{eq-eqb, ne-eqb, eqb-true, le-leb, lt-leb, ltb-true, not-true, not-false}
+use borrow.Author.Tests.{eq-eqb, ne-eqb, eqb-true, le-leb, lt-leb, ltb-true, not-false}
 use Rattle.model.specs.declared.Entry.{Entry}
 use Rattle.model.specs.declared.Entry.the-variants.{Absent, Present}
 use Rattle.model.specs.declared.Fields.{Fields}
 use Rattle.model.specs.declared.State.{State}
 use Rattle.model.specs.declared.Answer.the-variants.{Done, Refused}
-use Rattle.model.specs.Keeps.{none, vectorBytes, inUser}
+use Rattle.model.specs.Keeps.{none, Tables, withShadow, withMap, withExclusion, Guard, guardOf, vectorBytes, inUser}
 use Rattle.model.specs.Bits.{present, fieldsOf, takenApart, approved, ordinary}
-use Rattle.model.specs.Sync.{Rules, Place, place, stepOf, step, differs, Run, run, runOver}
-use Rattle.model.specs.Questions.{firstNo, stateInOrder, inOrder, syncAllQuestions, syncPageQuestions}
-use Rattle.model.specs.Calls.{replyOf, syncedBy, rulesOf, pageSynced, syncPageOf, allSynced, syncAllOf}
-use Rattle.model.proofs.QuestionLaws.{both-first, both-second, firstNo-no, firstNo-yes, settle-accepted, settle-refused}
-use Rattle.model.proofs.RunLaws.{getD-inside, whole, whole-more}
+use Rattle.model.specs.Sync.{Rules, Place, place, stepOf, step, differs, Run, run, runFrom, stepFrom}
+use Rattle.model.specs.Questions.{stateInOrder, inOrder, syncAllQuestions, syncPageQuestions}
+use Rattle.model.specs.Calls.{replyOf, outcomeBy, keptBy, rulesOf, pageSynced, allSynced, syncPage, syncAll, questionsOf, effectOf, answer}
+use Rattle.model.proofs.CallLaws.{passed, stopped, none-left, refused-by, accepted-by, in-order}
+use Rattle.model.proofs.RunLaws.{getD-inside, whole, whole-more, whole-over}
 use Rattle.sync.specs.Steps.{rules, stepAt}
 
 -- The fields of a present entry.
@@ -85,31 +85,33 @@ pub stored-step : (f : ℕ → ℕ → Place) (k i e a changed joined x y : ℕ)
 unfolding stepAt
 stored-step f k i e a changed joined x y shadow map shadow′ map′ p ps pm px py = rw (← p, ps, pm, px, py)
 
--- A run page by page: after page i.
-pub run-more : (f : ℕ → ℕ → Place) (kernel : List ℕ) (i : ℕ) (shadow map shadow′ map′ : List ℕ) (changed joined x y : ℕ) (all : Run)
-    → whole f kernel i (run shadow map changed joined) ≡ all → i < length kernel → length shadow ≡ length kernel → length map ≡ length kernel
-    → run shadow′ map′ x y ≡ stepAt f (getD kernel i 0) i (run shadow map changed joined)
-    → whole f kernel (i + 1) (run shadow′ map′ x y) ≡ all
-unfolding stepAt
-run-more f kernel i shadow map shadow′ map′ changed joined x y all inv l ls lm p =
-    let q : Place = f (getD kernel i 0) (getD map i 0) in
-    rw p (whole-more f kernel i shadow map changed joined (q .entry) (q .approval) _ _ all inv l (omega arith) (omega arith) refl refl refl)
+-- A run page by page: after page i, and after the last.
+pub run-more : (r : Rules) (kernel : List ℕ) (i : ℕ) (shadow map shadow′ map′ : List ℕ) (changed joined x y : ℕ) (all : Run)
+    → whole (stepFrom r kernel) i (run shadow map changed joined) ≡ all → i < length kernel → length shadow ≡ length kernel → length map ≡ length kernel
+    → run shadow′ map′ x y ≡ stepAt (step r) (getD kernel i 0) i (run shadow map changed joined)
+    → whole (stepFrom r kernel) (i + 1) (run shadow′ map′ x y) ≡ all
+unfolding stepAt stepFrom
+run-more r kernel i shadow map shadow′ map′ changed joined x y all inv l ls lm p =
+    let q : Place = step r (getD kernel i 0) (getD map i 0) in
+    rw p (whole-more (stepFrom r kernel) i shadow map changed joined (q .entry) (q .approval) _ _ all inv (omega arith) (omega arith) refl refl refl)
 
--- What question 7 looks at, of lengths that may be any numbers.
-abbrev inOrderOf : State → ℕ → ℕ → ℕ → ℕ → Bool
-inOrderOf s kernel shadow map exclusion =
-    inOrder (stateInOrder s) (eqb kernel (s .pages) ∷ eqb shadow (s .pages) ∷ eqb map (s .pages) ∷ eqb exclusion (vectorBytes (s .frames)) ∷ [])
+pub run-over : (r : Rules) (kernel : List ℕ) (i : ℕ) (shadow map : List ℕ) (changed joined : ℕ) (all : Run)
+    → whole (stepFrom r kernel) i (run shadow map changed joined) ≡ all → length shadow ≡ length kernel → length kernel ≤ i
+    → run shadow map changed joined ≡ all
+run-over r kernel i shadow map changed joined all inv ls past = whole-over (stepFrom r kernel) i shadow map changed joined all inv (omega arith)
+
+-- The answers to question 7 of each table, of lengths that may be any numbers.
+abbrev lentFit : State → ℕ → ℕ → ℕ → ℕ → List Bool
+lentFit s kernel shadow map exclusion =
+    eqb kernel (s .pages) ∷ eqb shadow (s .pages) ∷ eqb map (s .pages) ∷ eqb exclusion (vectorBytes (s .frames)) ∷ []
 
 -- Question 7 answered yes: the tables have V places, so that they have every page below V.
-module _ (s : State) (kernel shadow map exclusion : ℕ) (r : Bool) (asked : r ≡ inOrderOf s kernel shadow map exclusion) (answer : not r ≡ false) where
+module _ (s : State) (kernel shadow map exclusion : ℕ) (r : Bool)
+    (asked : r ≡ inOrder (stateInOrder s) (lentFit s kernel shadow map exclusion)) (answer : not r ≡ false) where
   fits : (kernel ≡ s .pages) × (shadow ≡ s .pages) × (map ≡ s .pages) × (exclusion ≡ vectorBytes (s .frames))
-  unfolding inOrder
   fits =
-      let all = sym asked ∙ not-false r answer in
-      let two = both-second _ _ all in
-      let three = both-second _ _ two in
-      let four = both-second _ _ three in
-      (eqb-true _ _ (both-first _ _ all), eqb-true _ _ (both-first _ _ two), eqb-true _ _ (both-first _ _ three), eqb-true _ _ (both-first _ _ four))
+      let each = in-order (stateInOrder s) (lentFit s kernel shadow map exclusion) (sym asked ∙ not-false r answer) .1 in
+      (eqb-true _ _ (each .0), eqb-true _ _ (each .1 .0), eqb-true _ _ (each .1 .1 .0), eqb-true _ _ (each .1 .1 .1 .0))
 
   pub vector-fits : exclusion ≡ vectorBytes (s .frames)
   vector-fits = fits .3
@@ -133,44 +135,49 @@ module _ (s : State) (kernel shadow map exclusion : ℕ) (r : Bool) (asked : r �
     pub page-in-map : page < map
     page-in-map = rw (fits .2) below
 
-none-left : firstNo [] ≡ 0
-unfolding firstNo
-none-left = refl
+-- The tables that a synchronising call is lent, among any others.
+abbrev lent : List ℕ → List ℕ → List ℕ → Tables → Tables
+lent shadow map exclusion t = withShadow shadow (withMap map (withExclusion exclusion t))
 
 -- The calls, refused and accepted.
 module _ (s : State) (kernel shadow map exclusion : List ℕ) (r : Bool)
-    (asked : r ≡ inOrderOf s (length kernel) (length shadow) (length map) (length exclusion)) where
-  pub all-refused : not r ≡ true → syncedBy (Refused 7) shadow map ≡ syncAllOf s kernel shadow map exclusion
-  unfolding syncAllOf syncAllQuestions syncedBy replyOf
-  all-refused p = sym (settle-refused 6 _ _ (firstNo-no 7 [] (sym asked ∙ not-true r p)))
+    (asked : r ≡ inOrder (stateInOrder s) (lentFit s (length kernel) (length shadow) (length map) (length exclusion))) where
+  abbrev guard : Tables → Guard
+  guard t = guardOf s (lent shadow map exclusion t)
 
-  pub page-refused : (page : ℕ) → not r ≡ true → syncedBy (Refused 7) shadow map ≡ syncPageOf s kernel shadow map exclusion page
-  unfolding syncPageOf syncPageQuestions syncedBy replyOf
-  page-refused page p = sym (settle-refused 6 _ _ (firstNo-no 7 _ (sym asked ∙ not-true r p)))
+  pub all-refused : not r ≡ true → (t : Tables)
+      → keptBy (Refused 7) s (lent shadow map exclusion t) ≡ answer (guard t) (syncAll kernel)
+  unfolding questionsOf syncAllQuestions
+  all-refused p t = refused-by (guard t) (syncAll kernel) _ 7 (sym (stopped 7 r _ _ asked p)) (λ z. omega arith) refl refl
 
-  module _ (answer : not r ≡ false) where
-    pub all-accepted : (u t : Bool) (shadow′ map′ : List ℕ) (x y : ℕ) → u ≡ inUser (s .mode) → u ≡ t
-        → run shadow′ map′ x y ≡ runOver (step (rules t (s .frames) exclusion)) kernel shadow map
-        → syncedBy (Done x y) shadow′ map′ ≡ syncAllOf s kernel shadow map exclusion
-    unfolding syncAllOf syncAllQuestions allSynced syncedBy replyOf
-    all-accepted u t shadow′ map′ x y q i p =
-        ap allSynced (rw (sym i ∙ q) at p) ∙ sym (settle-accepted _ _ (firstNo-yes 7 [] (sym asked ∙ not-false r answer) ∙ none-left))
+  pub page-refused : (page : ℕ) → not r ≡ true → (t : Tables)
+      → keptBy (Refused 7) s (lent shadow map exclusion t) ≡ answer (guard t) (syncPage kernel page)
+  unfolding questionsOf syncPageQuestions
+  page-refused page p t = refused-by (guard t) (syncPage kernel page) _ 7 (sym (stopped 7 r _ _ asked p)) (λ z. omega arith) refl refl
+
+  module _ (yes7 : not r ≡ false) where
+    pub all-accepted : (u v : Bool) (shadow′ map′ : List ℕ) (x y : ℕ) → u ≡ inUser (s .mode) → u ≡ v
+        → run shadow′ map′ x y ≡ runFrom (stepFrom (rules v (s .frames) exclusion) kernel) 0 shadow map → (t : Tables)
+        → keptBy (Done x y) s (lent shadow′ map′ exclusion t) ≡ answer (guard t) (syncAll kernel)
+    unfolding questionsOf syncAllQuestions effectOf allSynced outcomeBy replyOf
+    all-accepted u v shadow′ map′ x y q i p t =
+        accepted-by (guard t) (syncAll kernel) _ (sym (passed 7 0 r _ _ asked yes7 none-left)) (ap (allSynced (guard t)) (rw (sym i ∙ q) at p))
 
     module _ (page : ℕ) (b : Bool) (exists : b ≡ ltb page (s .pages)) where
-      pub page-absent : not b ≡ true → syncedBy (Refused 9) shadow map ≡ syncPageOf s kernel shadow map exclusion page
-      unfolding syncPageOf syncPageQuestions syncedBy replyOf
-      page-absent p =
-          sym (settle-refused 8 _ _ (firstNo-yes 7 _ (sym asked ∙ not-false r answer) ∙ firstNo-no 9 [] (sym exists ∙ not-true b p)))
+      pub page-absent : not b ≡ true → (t : Tables)
+          → keptBy (Refused 9) s (lent shadow map exclusion t) ≡ answer (guard t) (syncPage kernel page)
+      unfolding questionsOf syncPageQuestions
+      page-absent p t =
+          refused-by (guard t) (syncPage kernel page) _ 9 (sym (passed 7 9 r _ _ asked yes7 (stopped 9 b _ _ exists p))) (λ z. omega arith) refl refl
 
       pub page-accepted : (u : Bool) (shadow′ map′ : List ℕ) (x y : ℕ) → not b ≡ false → u ≡ inUser (s .mode)
-          → run shadow′ map′ x y ≡ stepAt (step (rules u (s .frames) exclusion)) (getD kernel page 0) page (run shadow map 0 0)
-          → syncedBy (Done x y) shadow′ map′ ≡ syncPageOf s kernel shadow map exclusion page
-      unfolding syncPageOf syncPageQuestions pageSynced allSynced stepAt syncedBy replyOf
-      page-accepted u shadow′ map′ x y there q p =
-          let inside : page < length map = page-in-map s (length kernel) (length shadow) (length map) (length exclusion) r asked answer page b exists there in
+          → run shadow′ map′ x y ≡ stepAt (step (rules u (s .frames) exclusion)) (getD kernel page 0) page (run shadow map 0 0) → (t : Tables)
+          → keptBy (Done x y) s (lent shadow′ map′ exclusion t) ≡ answer (guard t) (syncPage kernel page)
+      unfolding questionsOf syncPageQuestions effectOf stepFrom pageSynced allSynced stepAt outcomeBy replyOf
+      page-accepted u shadow′ map′ x y there q p t =
+          let inside : page < length map = page-in-map s (length kernel) (length shadow) (length map) (length exclusion) r asked yes7 page b exists there in
           let z : Place = step (rulesOf s exclusion) (getD kernel page 0) (getD map page none) in
           let e
           : run shadow′ map′ x y ≡ run (set shadow page (z .entry)) (set map page (z .approval)) (differs (getD shadow page 0) (z .entry)) (differs (getD map page none) (z .approval))
           = simp zero-add at (rw (q, getD-inside map page 0 none inside) at p) in
-          ap allSynced e
-          ∙ sym (settle-accepted _ _ (firstNo-yes 7 _ (sym asked ∙ not-false r answer) ∙ firstNo-yes 9 [] (sym exists ∙ not-false b there) ∙ none-left))
+          accepted-by (guard t) (syncPage kernel page) _ (sym (passed 7 0 r _ _ asked yes7 (passed 9 0 b _ _ exists there none-left))) (ap (allSynced (guard t)) e)

@@ -62,7 +62,8 @@ struct Counts {
 // Stores a page's shadow entry where its value changed, and counts that. No more entries are counted than pages lie before this one.
 fn put_entry(shadow: &mut [u64], i: usize, entry: u64, changed: u64) -> u64
     requires { ⌜ (i < length (now shadow)) × (changed ≤ i) ⌝ }
-    ensures { λ r. ⌜ (now (shadow .exit) ≡ set (now (shadow .entry)) i entry) × (r ≡ changed + differs (getD (now (shadow .entry)) i 0) entry) × (r ≤ changed + 1) ⌝ }
+    ensures { λ r. ⌜ (now (shadow .exit) ≡ set (now (shadow .entry)) i entry)
+        × (r ≡ changed + differs (getD (now (shadow .entry)) i 0) entry) × (r ≤ changed + 1) ⌝ }
 {
     if shadow[i] == entry {
         return changed;
@@ -74,7 +75,8 @@ fn put_entry(shadow: &mut [u64], i: usize, entry: u64, changed: u64) -> u64
 // The same of a page's number in the map: a number that changed is that of a page that joined.
 fn put_approval(map: &mut [u16], i: usize, approval: u16, joined: u64) -> u64
     requires { ⌜ (i < length (now map)) × (joined ≤ i) ⌝ }
-    ensures { λ r. ⌜ (now (map .exit) ≡ set (now (map .entry)) i approval) × (r ≡ joined + differs (getD (now (map .entry)) i 0) approval) × (r ≤ joined + 1) ⌝ }
+    ensures { λ r. ⌜ (now (map .exit) ≡ set (now (map .entry)) i approval)
+        × (r ≡ joined + differs (getD (now (map .entry)) i 0) approval) × (r ≤ joined + 1) ⌝ }
 {
     if map[i] == approval {
         return joined;
@@ -96,8 +98,12 @@ fn sync_at(
     i: usize,
     counts: Counts,
 ) -> Counts
-    requires { ⌜ (i < length (now shadow)) × (i < length (now map)) × (counts .changed ≤ i) × (counts .joined ≤ i) × (length (now exclusion) ≡ vectorBytes frames) ⌝ }
-    ensures { λ r. ⌜ (run (now (shadow .exit)) (now (map .exit)) (r .changed) (r .joined) ≡ stepAt (Sync.step (rules user frames (now (exclusion .entry)))) entry i (run (now (shadow .entry)) (now (map .entry)) (counts .changed) (counts .joined))) × (r .changed ≤ counts .changed + 1) × (r .joined ≤ counts .joined + 1) ⌝ }
+    requires { ⌜ (i < length (now shadow)) × (i < length (now map)) × (counts .changed ≤ i) × (counts .joined ≤ i)
+        × (length (now exclusion) ≡ vectorBytes frames) ⌝ }
+    ensures { λ r. ⌜ (run (now (shadow .exit)) (now (map .exit)) (r .changed) (r .joined)
+        ≡ stepAt (Sync.step (rules user frames (now (exclusion .entry)))) entry i
+        (run (now (shadow .entry)) (now (map .entry)) (counts .changed) (counts .joined)))
+        × (r .changed ≤ counts .changed + 1) × (r .joined ≤ counts .joined + 1) ⌝ }
 {
     let place = step(user, frames, exclusion, entry, map[i]);
     let joined = put_approval(map, i, place.approval, counts.joined);
@@ -114,7 +120,8 @@ fn sync_pages(
     shadow: &mut [u64],
     map: &mut [u16],
 ) -> Counts
-    requires { ⌜ (length (now shadow) ≡ length (now kernel)) × (length (now map) ≡ length (now kernel)) × (length (now exclusion) ≡ vectorBytes frames) ⌝ }
+    requires { ⌜ (length (now shadow) ≡ length (now kernel)) × (length (now map) ≡ length (now kernel))
+        × (length (now exclusion) ≡ vectorBytes frames) ⌝ }
     ensures { λ r. ⌜ run (now (shadow .exit)) (now (map .exit)) (r .changed) (r .joined)
         ≡ runFrom (stepFrom (rules user frames (now (exclusion .entry))) (now (kernel .entry))) 0 (now (shadow .entry)) (now (map .entry)) ⌝ }
 {
@@ -140,7 +147,8 @@ pub fn sync_page(
     page: u64,
 ) -> Answer
     ensures { λ r. ⌜ ((t : Tables) → keptBy r s (withShadow (now (shadow .exit)) (withMap (now (map .exit)) (withExclusion (now (exclusion .entry)) t)))
-        ≡ answer (guardOf s (withShadow (now (shadow .entry)) (withMap (now (map .entry)) (withExclusion (now (exclusion .entry)) t)))) (syncPage (now (kernel .entry)) page)) ⌝ }
+        ≡ answer (guardOf s (withShadow (now (shadow .entry)) (withMap (now (map .entry)) (withExclusion (now (exclusion .entry)) t))))
+        (syncPage (now (kernel .entry)) page)) ⌝ }
 {
     if !questions::sync_in_order(s, kernel.len(), shadow.len(), map.len(), exclusion.len()) {
         return Answer::Refused(7);
@@ -176,7 +184,8 @@ pub fn sync_all(
     exclusion: &[u8],
 ) -> Answer
     ensures { λ r. ⌜ ((t : Tables) → keptBy r s (withShadow (now (shadow .exit)) (withMap (now (map .exit)) (withExclusion (now (exclusion .entry)) t)))
-        ≡ answer (guardOf s (withShadow (now (shadow .entry)) (withMap (now (map .entry)) (withExclusion (now (exclusion .entry)) t)))) (syncAll (now (kernel .entry)))) ⌝ }
+        ≡ answer (guardOf s (withShadow (now (shadow .entry)) (withMap (now (map .entry)) (withExclusion (now (exclusion .entry)) t))))
+        (syncAll (now (kernel .entry)))) ⌝ }
 {
     if !questions::sync_in_order(s, kernel.len(), shadow.len(), map.len(), exclusion.len()) {
         return Answer::Refused(7);
