@@ -12,17 +12,18 @@ use Rattle.model.specs.declared.Mode.the-variants.{Kernel}
 use Rattle.model.specs.declared.Answer.the-variants.{Refused}
 use Rattle.model.specs.declared.Called.{Called}
 use Rattle.model.specs.Edges.{both}
-use Rattle.model.specs.Keeps.{inUser}
+use Rattle.model.specs.Keeps.{Tables, withShadow, guardOf, inUser}
 use Rattle.model.specs.Questions.{firstNo, seen, stateInOrder, inOrder, enterQuestions}
-use Rattle.model.specs.Calls.{replyOf, switchedBy, switchTo, enterOf}
-use Rattle.model.proofs.QuestionLaws.{both-second, settle-accepted}
-use Rattle.model.proofs.CallLaws.{passed, stopped, settle-refused-by, shadow-long}
+use Rattle.model.specs.Calls.{outcomeBy, enter, questionsOf, switchTo, effectOf, answer}
+use Rattle.model.proofs.QuestionLaws.{both-second}
+use Rattle.model.proofs.CallLaws.{passed, stopped, shadow-long, refused-by, accepted-by}
 use Rattle.modes.specs.Switches.{switchPermitted, switchQuestions}
 
 module _ (s : State) (shadow : List ℕ) (index : ℕ) (r7 : Bool) (e7 : r7 ≡ inOrder (stateInOrder s) (eqb (length shadow) (s .pages) ∷ [])) where
-  pub enter-unfit : (r : Called) → not r7 ≡ true → r .answer ≡ Refused 7 → r .state ≡ s → switchedBy r shadow ≡ enterOf s shadow index
-  unfolding switchedBy replyOf enterOf enterQuestions
-  enter-unfit r n a t = rw (a, t) (sym (settle-refused-by 7 _ _ (λ z. omega arith) (sym (stopped 7 r7 _ _ e7 n))))
+  pub enter-unfit : (r : Called) → not r7 ≡ true → r .answer ≡ Refused 7 → r .state ≡ s
+      → (t : Tables) → outcomeBy r (withShadow shadow t) ≡ answer (guardOf s (withShadow shadow t)) (enter index)
+  unfolding questionsOf enterQuestions
+  enter-unfit r n a e t = refused-by _ (enter index) r 7 (sym (stopped 7 r7 _ _ e7 n)) (λ z. omega arith) a e
 
   module _ (y7 : not r7 ≡ false) (exists : Bool) (e9 : exists ≡ both (ltb index (s .entries)) (ltb (getD (s .entry) index 0) (s .pages)))
       (page : ℕ) (p : page ≡ getD (s .entry) index 0) where
@@ -34,15 +35,16 @@ module _ (s : State) (shadow : List ℕ) (index : ℕ) (r7 : Bool) (e7 : r7 ≡ 
 
     module _ (user : Bool) (u : user ≡ inUser (s .mode)) (number : ℕ)
         (e : number ≡ firstNo (switchQuestions exists user true (getD shadow page 0))) where
-      enter-number : number ≡ firstNo (enterQuestions (seen s shadow [] []) index)
-      unfolding enterQuestions switchQuestions switchPermitted
-      enter-number = passed 7 number r7 _ _ e7 y7 (rw (e9, u, p) at e)
+      enter-number : (t : Tables) → number ≡ firstNo (questionsOf (seen (guardOf s (withShadow shadow t))) (enter index))
+      unfolding questionsOf enterQuestions switchQuestions switchPermitted
+      enter-number t = passed 7 number r7 _ _ e7 y7 (rw (e9, u, p) at e)
 
-      pub enter-refused : (r : Called) → (number ≡ 0 → ⊥) → r .answer ≡ Refused number → r .state ≡ s → switchedBy r shadow ≡ enterOf s shadow index
-      unfolding switchedBy replyOf enterOf
-      enter-refused r z a t = rw (a, t) (sym (settle-refused-by number _ _ z (sym enter-number)))
+      pub enter-refused : (r : Called) → (number ≡ 0 → ⊥) → r .answer ≡ Refused number → r .state ≡ s
+          → (t : Tables) → outcomeBy r (withShadow shadow t) ≡ answer (guardOf s (withShadow shadow t)) (enter index)
+      enter-refused r z a i t = refused-by _ (enter index) r number (sym (enter-number t)) z a i
 
-      pub enter-accepted : (r : Called) (after : List ℕ) → number ≡ 0 → switchedBy r after ≡ switchTo s shadow (Kernel page)
-          → switchedBy r after ≡ enterOf s shadow index
-      unfolding enterOf
-      enter-accepted r after z g = (rw p at g) ∙ sym (settle-accepted _ _ (sym enter-number ∙ z))
+      pub enter-accepted : (r : Called) (after : List ℕ) → number ≡ 0
+          → ((t : Tables) → outcomeBy r (withShadow after t) ≡ switchTo (guardOf s (withShadow shadow t)) (Kernel page))
+          → (t : Tables) → outcomeBy r (withShadow after t) ≡ answer (guardOf s (withShadow shadow t)) (enter index)
+      unfolding effectOf
+      enter-accepted r after z g t = accepted-by _ (enter index) _ (sym (enter-number t) ∙ z) (rw p at g t)

@@ -7,17 +7,17 @@ use borrow.Author.Needs.{needs}
 use Rattle.model.specs.declared.Answer.the-variants.{Done}
 use Rattle.model.specs.declared.Mode.{Mode}
 use Rattle.model.specs.declared.State.{State}
-use Rattle.model.specs.Keeps.{inUser, inMode}
+use Rattle.model.specs.Keeps.{Tables, withShadow, guardOf, inUser, inMode}
 use Rattle.model.specs.Sync.{switchedAll, changes}
-use Rattle.model.specs.Calls.{replyOf, switchedBy, switchTo}
+use Rattle.model.specs.Calls.{replyOf, outcomeBy, switchTo}
 use Rattle.modes.proofs.switch_to.Statement.{statement}
 use Rattle.modes.proofs.switch_to.Tie as tie
 
-switches : (s t : State) (shadow after : List ℕ) (mode : Mode) (user : Bool) (changed : ℕ) → user ≡ inUser mode → after ≡ switchedAll user shadow
-    → changed ≡ changes shadow (switchedAll user shadow) → t ≡ inMode s mode
-    → switchedBy (record { answer = Done changed 0; state = t }) after ≡ switchTo s shadow mode
-unfolding switchedBy replyOf switchTo
-switches s t shadow after mode user changed u a c m = rw (m, c, a, u) refl
+switches : (s i : State) (shadow after : List ℕ) (mode : Mode) (user : Bool) (changed : ℕ) → user ≡ inUser mode → after ≡ switchedAll user shadow
+    → changed ≡ changes shadow (switchedAll user shadow) → i ≡ inMode s mode
+    → (t : Tables) → outcomeBy (record { answer = Done changed 0; state = i }) (withShadow after t) ≡ switchTo (guardOf s (withShadow shadow t)) mode
+unfolding outcomeBy replyOf switchTo
+switches s i shadow after mode user changed u a c m t = rw (m, c, a, u) refl
 
 returns : tie.Need-returns
 returns c = search (needs, switches)
