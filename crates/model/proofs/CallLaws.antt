@@ -91,6 +91,17 @@ state-refused v (enter index) p = firstNo-no 7 _ (state-no _ _ p)
 state-refused v (leave page) p = firstNo-no 7 _ (state-no _ _ p)
 state-refused v (deviceWrite address length) p = firstNo-no 7 _ (state-no _ _ p)
 
+-- An accepted call has no number, and says that it is allowed.
+pub effect-reply : (g : Guard) (call : Call) → ((effectOf g call) .reply .number ≡ 0) × ((effectOf g call) .reply .allowed ≡ true)
+unfolding effectOf pageSynced allSynced switchTo
+effect-reply g (syncPage kernel page) = (refl, refl)
+effect-reply g (syncAll kernel) = (refl, refl)
+effect-reply g (fetch page) = (refl, refl)
+effect-reply g (write address length) = (refl, refl)
+effect-reply g (enter index) = (refl, refl)
+effect-reply g (leave page) = (refl, refl)
+effect-reply g (deviceWrite address length) = (refl, refl)
+
 -- An accepted call changes the mode of the state alone, and a page that runs then is below V, where one ran below V before.
 pub effect-state : (g : Guard) (call : Call) → effectOf g call .guard .state ≡ inMode (g .state) (effectOf g call .guard .state .mode)
 unfolding effectOf pageSynced allSynced switchTo inMode

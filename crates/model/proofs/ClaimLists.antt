@@ -8,25 +8,15 @@ use borrow.Author.Tests.{ne-eqb}
 use Rattle.model.specs.Keeps.{Guard}
 use Rattle.model.specs.Policy.{Policy, policyOf, startGuard}
 use Rattle.model.specs.Questions.{firstNo, lengthsOf, startQuestions}
-use Rattle.model.specs.Calls.{Outcome, refusedOf, broughtBy, startOf, Call, syncPage, syncAll, fetch, write, enter, leave, deviceWrite, pageSynced, allSynced, switchTo, effectOf, answer}
+use Rattle.model.specs.Calls.{Outcome, refusedOf, broughtBy, startOf, Call, effectOf, answer}
 use Rattle.model.specs.OnePage.{Page, firstPage, settled, pagesAfter}
 use Rattle.model.specs.Claim.{Agree, Carried, carriedFirst, carriedAfter, Always, Claim}
 use Rattle.model.proofs.QuestionLaws.{settle-accepted, settle-refused}
+use Rattle.model.proofs.CallLaws.{effect-reply}
 use Rattle.model.proofs.ClaimKept.{Sound, Kept, pageOf, answered}
 use Rattle.model.proofs.ClaimCalls.{commutes, kept}
 use Rattle.model.proofs.ClaimSafe.{safe}
 use Rattle.model.proofs.ClaimStart.{sound, first-pages, start-kept}
-
--- An accepted call has no number, and says that it is allowed.
-accepted-reply : (g : Guard) (call : Call) → ((effectOf g call) .reply .number ≡ 0) × ((effectOf g call) .reply .allowed ≡ true)
-unfolding effectOf pageSynced allSynced switchTo
-accepted-reply g (syncPage kernel page) = (refl, refl)
-accepted-reply g (syncAll kernel) = (refl, refl)
-accepted-reply g (fetch page) = (refl, refl)
-accepted-reply g (write address size) = (refl, refl)
-accepted-reply g (enter index) = (refl, refl)
-accepted-reply g (leave page) = (refl, refl)
-accepted-reply g (deviceWrite address size) = (refl, refl)
 
 -- A refused call changes none of the frames that a list carries.
 carried-refused : (n : ℕ) (call : Call) (ps : ℕ → Page) (carried : Carried) → carriedAfter (suc n) call ps carried ≡ carried
@@ -64,8 +54,8 @@ always policy sound (call ∷ calls) carried g h = by-number (settled policy (pa
         let pages : pagesAfter policy number call (pageOf g) ≡ pageOf ((effectOf g call) .guard) =
         fun-ext (λ p. settle-accepted _ _ e ∙ commutes policy carried g sound h call e p) in (
           agree policy carried g h,
-          rw (outcome, e) (accepted-reply g call .0),
-          rw (outcome, e) (accepted-reply g call .1),
+          rw (outcome, e) (effect-reply g call .0),
+          rw (outcome, e) (effect-reply g call .1),
           (λ _. rw outcome (safe policy carried g h call e)),
           rw (outcome, pages, e) (rest _ _ (kept policy carried g sound h call e)),
         )

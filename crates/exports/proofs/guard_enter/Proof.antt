@@ -1,11 +1,11 @@
 -- `exports::guard_enter` meets its contract.
 use borrow.Author.Needs.{needs}
-use Rattle.exports.proofs.BoundaryLaws.{enter-unused, run-used, entered}
+use Rattle.exports.proofs.BoundaryLaws.{unused, run-used, called}
 use Rattle.exports.proofs.guard_enter.Statement.{statement}
 use Rattle.exports.proofs.guard_enter.Tie as tie
 
 returns : tie.Need-returns
-returns c = search (needs, enter-unused)
+returns c = search (needs, unused)
 
 state-in-requires : tie.Need-state-in-requires
 state-in-requires c κs = search (needs, run-used)
@@ -14,7 +14,7 @@ put-called-requires : tie.Need-put-called-requires
 put-called-requires c κs = search (needs, run-used)
 
 returns-2 : tie.Need-returns-2
-returns-2 c = search (needs, entered)
+returns-2 c = search (needs, called)
 
 pub guard-enter-spec : {M : Type 1} → statement M
 guard-enter-spec =

@@ -1,11 +1,11 @@
 -- `exports::guard_fetch` meets its contract.
 use borrow.Author.Needs.{needs}
-use Rattle.exports.proofs.BoundaryLaws.{fetch-unused, run-used, fetched}
+use Rattle.exports.proofs.BoundaryLaws.{unused, run-used, called}
 use Rattle.exports.proofs.guard_fetch.Statement.{statement}
 use Rattle.exports.proofs.guard_fetch.Tie as tie
 
 returns : tie.Need-returns
-returns c = search (needs, fetch-unused)
+returns c = search (needs, unused)
 
 state-in-requires : tie.Need-state-in-requires
 state-in-requires c κs = search (needs, run-used)
@@ -14,7 +14,7 @@ put-called-requires : tie.Need-put-called-requires
 put-called-requires c κs = search (needs, run-used)
 
 returns-2 : tie.Need-returns-2
-returns-2 c = search (needs, fetched)
+returns-2 c = search (needs, called)
 
 pub guard-fetch-spec : {M : Type 1} → statement M
 guard-fetch-spec =

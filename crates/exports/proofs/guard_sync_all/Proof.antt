@@ -1,17 +1,17 @@
 -- `exports::guard_sync_all` meets its contract.
 use borrow.Author.Needs.{needs}
-use Rattle.exports.proofs.BoundaryLaws.{all-sync-unused, run-used, all-synced}
+use Rattle.exports.proofs.BoundaryLaws.{unused, run-used, kept}
 use Rattle.exports.proofs.guard_sync_all.Statement.{statement}
 use Rattle.exports.proofs.guard_sync_all.Tie as tie
 
 returns : tie.Need-returns
-returns c = search (needs, all-sync-unused)
+returns c = search (needs, unused)
 
 state-in-requires : tie.Need-state-in-requires
 state-in-requires c κs = search (needs, run-used)
 
 returns-2 : tie.Need-returns-2
-returns-2 c = search (needs, all-synced)
+returns-2 c = search (needs, kept)
 
 pub guard-sync-all-spec : {M : Type 1} → statement M
 guard-sync-all-spec =

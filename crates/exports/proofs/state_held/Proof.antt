@@ -1,72 +1,50 @@
--- `exports::state_held` meets its contract: an accepted fetch, enter or leave puts a mode on a page below V, and a refused one leaves the run.
-use Prim.Native.Nat.{ℕ, zero, suc, _<_}
+-- `exports::state_held` meets its contract: an accepted call puts a mode on a page below V, and a refused one leaves the run.
+use Prim.Native.Nat.{ℕ, zero, suc, _≤_, _<_}
 use mathlib.Core.Bool.{true}
-use mathlib.Core.List.{List, []}
-use mathlib.Core.Path.{_≡_, refl, sym}
+use mathlib.Core.List.{List}
+use mathlib.Core.Path.{_≡_, refl, sym, _∙_}
 use lib.ListN.{length, getD}
 use native.Mathlib.Omega.{arith}
-use Rattle.model.specs.declared.Mode.{Mode}
-use Rattle.model.specs.declared.Mode.the-variants.{Kernel, User}
-use Rattle.model.specs.Keeps.{inUser, running, modeOf, inMode}
-use Rattle.model.specs.Questions.{seen}
-use Rattle.model.specs.Calls.{settle, accepted, refused, Moved, Switched, switchTo, fetchOf, enterOf, leaveOf}
-use Rattle.model.proofs.AcceptedLaws.{fetch-page, enter-page, leave-page}
+use Rattle.model.specs.Keeps.{Tables, Guard, guardOf, running}
+use Rattle.model.specs.Questions.{firstNo, seen}
+use Rattle.model.specs.Calls.{settle, Outcome, refusedOf, Call, broughtBy, questionsOf, effectOf, answer}
+use Rattle.model.proofs.CallLaws.{effect-reply, effect-state, effect-runs}
 use Rattle.runs.specs.Runs.{stateIn, field, lendable, runAfter}
 use Rattle.runs.proofs.WordLaws.{narrow-below, run-lent}
 use Rattle.runs.proofs.StateLaws.{mode-decoded, running-mode}
-use Rattle.exports.specs.Boundary.{replied, lent, lentSwitch, fetchAt, enterAt, leaveAt, StateHeld}
+use Rattle.exports.specs.Boundary.{replied, callAt, StateHeld}
 use Rattle.exports.proofs.state_held.Statement.{statement}
 use Rattle.exports.proofs.state_held.Tie as tie
 
-module _ (run shadow numbers : List ℕ) (lends : lendable run numbers ≡ true) where
-  long : length run ≡ 21
-  long = run-lent run numbers true (sym lends) refl
+module _ (run numbers : List ℕ) (t : Tables) (call : Call) (lends : lendable run numbers ≡ true) where
+  abbrev g : Guard
+  g = guardOf (stateIn run) t
 
-  -- A page below V is a 16-bit number, as V is.
-  narrow-page : (page : ℕ) → page < stateIn run .pages → page < 65536
+  -- Every field of the decoded state has 16 bits.
+  narrow-pages : stateIn run .pages ≤ 65536
   unfolding stateIn field
-  narrow-page page h = omega (arith, narrow-below (getD run 0 0))
+  narrow-pages = omega (arith, narrow-below (getD run 0 0))
 
-  moved-held : (n first second : ℕ) (mode : Mode) → (n ≡ 0 → running mode < 65536)
-      → let r : Moved = settle n (record { reply = accepted first second; state = inMode (stateIn run) mode }) (λ k. record { reply = refused k; state = stateIn run }) in
-      stateIn (runAfter run (r .reply) (r .state)) ≡ r .state
-  unfolding settle runAfter inMode
-  moved-held zero first second mode below = mode-decoded run mode long (below refl)
-  moved-held (suc n) first second mode below = refl
+  narrow-running : running (stateIn run .mode) < 65536
+  unfolding stateIn field
+  narrow-running = rw running-mode (omega (arith, narrow-below (getD run 20 0)))
 
-  switched-held : (n : ℕ) (mode : Mode) → (n ≡ 0 → running mode < 65536)
-      → let r : Switched = settle n (switchTo (stateIn run) shadow mode) (λ k. record { reply = refused k; state = stateIn run; shadow = shadow }) in
-      stateIn (runAfter run (r .reply) (r .state)) ≡ r .state
-  unfolding settle runAfter switchTo inMode
-  switched-held zero mode below = mode-decoded run mode long (below refl)
-  switched-held (suc n) mode below = refl
+  held : (n : ℕ) → firstNo (questionsOf (seen g) call) ≡ n
+      → let o : Outcome = settle n (effectOf g call) (refusedOf g (broughtBy call)) in stateIn (runAfter run (o .reply) (o .guard .state)) ≡ o .guard .state
+  unfolding settle runAfter
+  held zero e =
+      rw (effect-reply g call .0)
+      (mode-decoded run (effectOf g call .guard .state .mode) (run-lent run numbers true (sym lends) refl)
+      (effect-runs g call 65536 narrow-pages narrow-running e) ∙ sym (effect-state g call))
+  held (suc n) e = refl
 
-  fetch-held : (page : ℕ) → stateIn (fetchAt run shadow page numbers .state) ≡ fetchOf (stateIn run) shadow page .state
-  unfolding fetchAt lent replied fetchOf
-  fetch-held page =
-      rw lends
-      (moved-held _ _ _ (modeOf (inUser (stateIn run .mode)) page)
-      (λ passed. rw running-mode (narrow-page page (fetch-page (seen (stateIn run) shadow [] []) page passed))))
-
-  enter-held : (index : ℕ) → stateIn (enterAt run shadow index numbers .state) ≡ enterOf (stateIn run) shadow index .state
-  unfolding enterAt lentSwitch lent replied enterOf running
-  enter-held index =
-      rw lends
-      (switched-held _ (Kernel (getD (stateIn run .entry) index 0))
-      (λ passed. narrow-page (getD (stateIn run .entry) index 0) (enter-page (seen (stateIn run) shadow [] []) index passed)))
-
-  leave-held : (page : ℕ) → stateIn (leaveAt run shadow page numbers .state) ≡ leaveOf (stateIn run) shadow page .state
-  unfolding leaveAt lentSwitch lent replied leaveOf running
-  leave-held page =
-      rw lends
-      (switched-held _ (User page) (λ passed. narrow-page page (leave-page (seen (stateIn run) shadow [] []) page passed)))
+  whole : stateIn (callAt run numbers t call .state) ≡ answer g call .guard .state
+  unfolding callAt replied answer
+  whole = rw lends (held (firstNo (questionsOf (seen g) call)) refl)
 
 returns : tie.Need-returns
 unfolding StateHeld
-returns c = λ run shadow numbers n lends.
-    (fetch-held run shadow numbers lends n, enter-held run shadow numbers lends n, leave-held run shadow numbers lends n)
+returns c = whole
 
 pub state-held-spec : {M : Type 1} → statement M
-state-held-spec =
-    tie.close
-    (tie.spec returns)
+state-held-spec = tie.close (tie.spec returns)
