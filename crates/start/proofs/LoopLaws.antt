@@ -10,7 +10,7 @@ use native.Mathlib.Numerals.{add-one}
 use native.Mathlib.Omega.{arith}
 use borrow.Author.Fill.{fill-more}
 use borrow.Author.Tests.{eqb-true, eqb-false, lt-ltb, le-ltb, ltb-true, ltb-false}
-use Rattle.model.specs.Keeps.{withExcluded}
+use Rattle.model.specs.Keeps.{withBit}
 use Rattle.model.specs.Policy.{numberAt, numbersAt}
 use Rattle.model.specs.Bits.{approved}
 use Rattle.model.specs.Questions.{allBelow}
@@ -74,7 +74,7 @@ places-end bytes at left values t whole h e = rw (numbersAt-none bytes at {left 
 
 -- A frame excluded too.
 pub gather-step : (bytes : List ℕ) (at left frame : ℕ) (v v′ whole : List ℕ) → withEach (numbersAt bytes at left) v ≡ whole → frame ≡ numberAt bytes at
-    → 0 < left → v′ ≡ withExcluded v frame → withEach (numbersAt bytes (at + 2) (left - 1)) v′ ≡ whole
+    → 0 < left → v′ ≡ withBit true v frame → withEach (numbersAt bytes (at + 2) (left - 1)) v′ ≡ whole
 unfolding withEach
 gather-step bytes at left frame v v′ whole e read more made = rw (made, read) (rw (numbersAt-more bytes at left more) at e)
 

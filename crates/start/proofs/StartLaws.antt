@@ -1,5 +1,5 @@
 -- Laws of the start's answers: made of the record, refused by it, refused by question 7, accepted.
-use Prim.Native.Nat.{ℕ, zero, suc, _+_, _*_, _≤_, _<_}
+use Prim.Native.Nat.{ℕ, _+_, _*_, _≤_, _<_}
 use mathlib.Core.Bool.{Bool, true, false, not, cond}
 use mathlib.Core.List.{List, [], _∷_}
 use mathlib.Core.Path.{_≡_, refl, sym, _∙_}
@@ -10,13 +10,13 @@ use borrow.Author.Tests.{not-true, not-false}
 use Rattle.model.specs.declared.Called.{Called}
 use Rattle.model.specs.declared.Answer.the-variants.{Done}
 use Rattle.model.specs.declared.Mode.the-variants.{Kernel}
-use Rattle.model.specs.Keeps.{vectorBytes}
-use Rattle.model.specs.Policy.{numberAt, policyOf, startState, startGuard}
-use Rattle.model.specs.Questions.{firstNo, allBelow, inOrder, startQuestions}
+use Rattle.model.specs.Keeps.{Tables, tables, vectorBytes}
+use Rattle.model.specs.Policy.{nothingGiven, numberAt, policyOf, startState, startTables, startGuard}
+use Rattle.model.specs.Questions.{firstNo, allBelow, inOrder, recordQuestions, Lengths, lengthsOf, lengthsFit, startQuestions}
 use Rattle.model.specs.Calls.{replyOf, outcomeBy, startOf}
-use Rattle.model.proofs.QuestionLaws.{settle-accepted, settle-refused}
+use Rattle.model.proofs.QuestionLaws.{settle-accepted}
+use Rattle.model.proofs.CallLaws.{settle-refused-by}
 use Rattle.model.proofs.PolicyLaws.{allBelow-wider, Passed, start-passed}
-use Rattle.policy.specs.Record.{recordQuestions}
 use Rattle.policy.proofs.RecordLaws.{record-length, start-length, start-refused, start-asked}
 use Rattle.start.specs.Start.{refusedWith, acceptedOn, entryTable, withEach}
 use Rattle.start.proofs.TablesSet.{entries-are, first-is, each-length}
@@ -38,62 +38,61 @@ unfolding vectorBytes
 buffer-room frames n v fs buffer e h b = rw (b, each-length, length-replicate) (omega arith)
 
 -- The start's questions: the record's, and then question 7 by the V and F that were read.
-module _ (bytes : List ℕ) (shadow map exclusion question : ℕ) (asked : question ≡ firstNo (recordQuestions bytes)) where
-  pub asks-record : (question ≡ 0 → ⊥) → question ≡ firstNo (startQuestions bytes (policyOf bytes) shadow map exclusion)
-  asks-record named = sym (start-refused bytes question shadow map exclusion asked named)
-
-  -- The bytes of V and F are there.
-  pub asks-inside : question ≡ 0 → (at : ℕ) → at < 4 → at < length bytes
-  asks-inside six at h = omega (arith, record-length bytes question asked six)
+module _ (bytes : List ℕ) (l : Lengths) (question : ℕ) (asked : question ≡ firstNo (recordQuestions nothingGiven bytes (policyOf bytes))) where
+  pub asks-record : (question ≡ 0 → ⊥) → question ≡ firstNo (startQuestions nothingGiven bytes (policyOf bytes) l)
+  asks-record named = sym (start-refused bytes question l asked named)
 
   module _ (six : question ≡ 0) (pages frames : ℕ) (eV : pages ≡ numberAt bytes 0) (eF : frames ≡ numberAt bytes 2) (fits : Bool)
-      (e7 : fits ≡ inOrder true (eqb shadow pages ∷ eqb map pages ∷ eqb exclusion (vectorBytes frames) ∷ [])) where
-    last : firstNo (startQuestions bytes (policyOf bytes) shadow map exclusion) ≡ cond fits 0 7
-    unfolding policyOf
-    last = start-asked bytes question shadow map exclusion asked six ∙ rw (e7, eV, eF) refl
+      (e7 : fits ≡ inOrder true (eqb (l .shadow) pages ∷ eqb (l .map) pages ∷ eqb (l .exclusion) (vectorBytes frames) ∷ [])) where
+    last : firstNo (startQuestions nothingGiven bytes (policyOf bytes) l) ≡ cond fits 0 7
+    unfolding policyOf lengthsFit
+    last = start-asked bytes question l asked six ∙ rw (e7, eV, eF) refl
 
-    pub asks-lengths : not fits ≡ true → 7 ≡ firstNo (startQuestions bytes (policyOf bytes) shadow map exclusion)
+    pub asks-lengths : not fits ≡ true → 7 ≡ firstNo (startQuestions nothingGiven bytes (policyOf bytes) l)
     asks-lengths short = sym (last ∙ rw (not-true fits short) refl)
 
-    pub asks-none : not fits ≡ false → 0 ≡ firstNo (startQuestions bytes (policyOf bytes) shadow map exclusion)
+    pub asks-none : not fits ≡ false → 0 ≡ firstNo (startQuestions nothingGiven bytes (policyOf bytes) l)
     asks-none ok = sym (last ∙ rw (not-false fits ok) refl)
 
+-- Past the record's questions the bytes of V and F are there.
+pub asks-inside : (bytes : List ℕ) (question : ℕ) → question ≡ firstNo (recordQuestions nothingGiven bytes (policyOf bytes)) → question ≡ 0
+    → (at : ℕ) → at < 4 → at < length bytes
+asks-inside bytes question asked six at h = omega (arith, record-length bytes question asked six)
+
 -- All were yes: what the tables and the answer require.
-module _ (bytes : List ℕ) (shadow map exclusion question : ℕ) (asked : question ≡ firstNo (startQuestions bytes (policyOf bytes) shadow map exclusion))
+module _ (bytes : List ℕ) (l : Lengths) (question : ℕ) (asked : question ≡ firstNo (startQuestions nothingGiven bytes (policyOf bytes) l))
     (none : question ≡ 0) where
-  passed : Passed (policyOf bytes) shadow map exclusion
-  passed = start-passed bytes (policyOf bytes) shadow map exclusion (sym asked ∙ none)
+  passed : Passed (policyOf bytes) l
+  passed = start-passed nothingGiven bytes (policyOf bytes) l (sym asked ∙ none)
 
   backing-below : allBelow 4096 (policyOf bytes .backing) ≡ true
   backing-below = allBelow-wider (policyOf bytes .frames) 4096 (policyOf bytes .backing) (passed .frames-high) (passed .backing-below)
 
   -- Question 4.
   long : length bytes ≡ 8 + 4 * policyOf bytes .count
-  long = start-length bytes question shadow map exclusion asked none
+  long = start-length bytes question l asked none
 
-  pub pages-ready : (length bytes ≡ 8 + 4 * policyOf bytes .count) × (shadow ≡ policyOf bytes .pages) × (map ≡ policyOf bytes .pages)
+  pub pages-ready : (length bytes ≡ 8 + 4 * policyOf bytes .count) × (l .shadow ≡ policyOf bytes .pages) × (l .map ≡ policyOf bytes .pages)
       × (allBelow (policyOf bytes .pages) (policyOf bytes .listed) ≡ true) × (allBelow 4096 (policyOf bytes .backing) ≡ true)
   pages-ready = (long, passed .shadow-fits, passed .map-fits, passed .listed-below, backing-below)
 
-  pub vector-ready : (length bytes ≡ 8 + 4 * policyOf bytes .count) × (exclusion ≡ vectorBytes (policyOf bytes .frames)) × (policyOf bytes .frames ≤ 4096) × (allBelow 4096 (policyOf bytes .backing) ≡ true)
+  pub vector-ready : (length bytes ≡ 8 + 4 * policyOf bytes .count) × (l .exclusion ≡ vectorBytes (policyOf bytes .frames))
+      × (policyOf bytes .frames ≤ 4096) × (allBelow 4096 (policyOf bytes .backing) ≡ true)
   vector-ready = (long, passed .exclusion-fits, passed .frames-high, backing-below)
 
-  pub answer-ready : (length bytes ≡ 8 + 4 * policyOf bytes .count) × (policyOf bytes .entries ≤ 16) × (policyOf bytes .entries ≤ policyOf bytes .count) × (1 ≤ policyOf bytes .count)
+  pub answer-ready : (length bytes ≡ 8 + 4 * policyOf bytes .count) × (policyOf bytes .entries ≤ 16)
+      × (policyOf bytes .entries ≤ policyOf bytes .count) × (1 ≤ policyOf bytes .count)
   answer-ready = (long, passed .entries-high, passed .entries-listed, passed .count-low)
 
 -- The two answers. A refused start leaves the tables as they were.
-module _ (bytes shadow map exclusion : List ℕ) (question : ℕ) (r : Called)
-    (asked : question ≡ firstNo (startQuestions bytes (policyOf bytes) (length shadow) (length map) (length exclusion))) where
-  pub start-refuses : (question ≡ 0 → ⊥) → r ≡ refusedWith question → outcomeBy r shadow map exclusion ≡ startOf bytes shadow map exclusion
+module _ (bytes : List ℕ) (t : Tables) (question : ℕ) (r : Called)
+    (asked : question ≡ firstNo (startQuestions nothingGiven bytes (policyOf bytes) (lengthsOf t))) where
+  pub start-refuses : (question ≡ 0 → ⊥) → r ≡ refusedWith question → outcomeBy r t ≡ startOf nothingGiven bytes t
   unfolding startOf outcomeBy refusedWith replyOf
-  start-refuses named e = at question (sym asked) named e
-    where
-      at : (q : ℕ) → firstNo (startQuestions bytes (policyOf bytes) (length shadow) (length map) (length exclusion)) ≡ q → (q ≡ 0 → ⊥) → r ≡ refusedWith q
-          → outcomeBy r shadow map exclusion ≡ startOf bytes shadow map exclusion
-      at zero n z d = absurd (z refl)
-      at (suc k) n z d = rw d (sym (settle-refused k _ _ n))
+  start-refuses named e = rw e (sym (settle-refused-by question _ _ named (sym asked)))
 
-  pub start-accepts : (s m x : List ℕ) → question ≡ 0 → r ≡ acceptedOn bytes → s ≡ startGuard (policyOf bytes) .shadow
-      → m ≡ startGuard (policyOf bytes) .map → x ≡ startGuard (policyOf bytes) .exclusion → outcomeBy r s m x ≡ startOf bytes shadow map exclusion
+  pub start-accepts : (shadow map exclusion : List ℕ) → question ≡ 0 → r ≡ acceptedOn bytes → shadow ≡ startTables (policyOf bytes) .shadow
+      → map ≡ startTables (policyOf bytes) .map → exclusion ≡ startTables (policyOf bytes) .exclusion
+      → outcomeBy r (tables shadow map exclusion) ≡ startOf nothingGiven bytes t
   unfolding startOf outcomeBy acceptedOn replyOf startGuard
-  start-accepts s m x none e es em ex = rw (e, es, em, ex) (sym (settle-accepted _ _ (sym asked ∙ none)))
+  start-accepts shadow map exclusion none e es em ex = rw (e, es, em, ex) (sym (settle-accepted _ _ (sym asked ∙ none)))

@@ -8,13 +8,13 @@ use lib.ListN.{length, getD, take, replicate}
 use native.Mathlib.Omega.{arith}
 use borrow.Author.Tests.{ltb-true, ne-eqb}
 use Rattle.model.specs.Edges.{either, table, member}
-use Rattle.model.specs.Keeps.{none, vectorBytes, flag, byteOf, vectorOf, withExcluded}
-use Rattle.model.specs.Policy.{numberAt, numbersAt, policyOf, frameFor, approvalFor, named, firstEntry, entryPages, startGuard}
+use Rattle.model.specs.Keeps.{none, vectorBytes, flag, byteOf, vectorOf, withBit}
+use Rattle.model.specs.Policy.{numberAt, numbersAt, policyOf, frameFor, approvalFor, named, firstEntry, entryPages, startTables}
 use Rattle.model.specs.Bits.{approved}
 use Rattle.model.specs.Questions.{allBelow}
 use Rattle.model.proofs.TableLaws.{table-same, set-table, take-table, table-const}
 use Rattle.model.proofs.PolicyLaws.{getD-numbersAt, allBelow-head, allBelow-tail, frameFor-map}
-use Rattle.model.proofs.VectorLaws.{withExcluded-length, withExcluded-vectorOf}
+use Rattle.model.proofs.VectorLaws.{withBit-length, withBit-vectorOf}
 use Rattle.start.specs.Start.{placed, approvedEach, withEach, entryTable}
 
 -- Places set in a table: at each place the value listed for it, or what stood there.
@@ -48,7 +48,7 @@ shadow-set places frames count h =
     (placed-table places (map firstEntry frames) count (λ _. 0) ∙ table-same count _ _ (λ p below. frameFor-map firstEntry places frames p none))
 
 -- Frames excluded in a vector: each of them, and those that were.
-either-later : (a b c : Bool) → either b (either a c) ≡ either (either a b) c
+either-later : (a b c : Bool) → either b (cond a true c) ≡ either (either a b) c
 unfolding either
 either-later true true c = refl
 either-later true false c = refl
@@ -58,15 +58,15 @@ either-later false false c = refl
 pub each-length : (frames vector : List ℕ) → length (withEach frames vector) ≡ length vector
 unfolding withEach
 each-length [] vector = refl
-each-length (f ∷ frames) vector = each-length frames (withExcluded vector f) ∙ withExcluded-length vector f
+each-length (f ∷ frames) vector = each-length frames (withBit true vector f) ∙ withBit-length true vector f
 
 each-vector : (limit : ℕ) (frames : List ℕ) (h : ℕ → Bool) → allBelow limit frames ≡ true
     → withEach frames (vectorOf limit h) ≡ vectorOf limit (λ g. either (member g frames) (h g))
 unfolding withEach member either
 each-vector limit [] h b = refl
 each-vector limit (f ∷ frames) h b =
-    rw (withExcluded-vectorOf limit h f (allBelow-head limit f frames b))
-    (each-vector limit frames (λ g. either (eqb g f) (h g)) (allBelow-tail limit f frames b)
+    rw (withBit-vectorOf true limit h f (allBelow-head limit f frames b))
+    (each-vector limit frames (λ g. cond (eqb g f) true (h g)) (allBelow-tail limit f frames b)
     ∙ ap (vectorOf limit) (fun-ext (λ g. either-later (eqb g f) (member g frames) (h g))))
 
 vector-none : (frames : ℕ) → replicate (vectorBytes frames) 0 ≡ vectorOf frames (λ _. false)
@@ -106,20 +106,20 @@ module _ (bytes : List ℕ) (count : ℕ) (read : count ≡ numberAt bytes 4) wh
   pages-inside t t₀ e l h = rw (listed-is, e, l) h
 
   pub shadow-is : (t t′ : List ℕ) (n : ℕ) → n ≡ policyOf bytes .pages → allBelow 4096 (policyOf bytes .backing) ≡ true → t ≡ replicate n 0
-      → t′ ≡ placed (numbersAt bytes 8 count) (approvedEach (numbersAt bytes (8 + 2 * count) count)) t → t′ ≡ startGuard (policyOf bytes) .shadow
-  unfolding startGuard approvalFor
+      → t′ ≡ placed (numbersAt bytes 8 count) (approvedEach (numbersAt bytes (8 + 2 * count) count)) t → t′ ≡ startTables (policyOf bytes) .shadow
+  unfolding startTables approvalFor
   shadow-is t t′ n l h e e′ =
       e′ ∙ rw (e, l, listed-is, backing-is) (shadow-set (policyOf bytes .listed) (policyOf bytes .backing) (policyOf bytes .pages) h)
 
   pub map-is : (t t′ : List ℕ) (n : ℕ) → n ≡ policyOf bytes .pages → t ≡ replicate n 65535
-      → t′ ≡ placed (numbersAt bytes 8 count) (numbersAt bytes (8 + 2 * count) count) t → t′ ≡ startGuard (policyOf bytes) .map
-  unfolding startGuard approvalFor
+      → t′ ≡ placed (numbersAt bytes 8 count) (numbersAt bytes (8 + 2 * count) count) t → t′ ≡ startTables (policyOf bytes) .map
+  unfolding startTables approvalFor
   map-is t t′ n l e e′ = e′ ∙ rw (e, l, listed-is, backing-is) (map-set (policyOf bytes .listed) (policyOf bytes .backing) (policyOf bytes .pages))
 
   pub vector-is : (buffer t′ : List ℕ) (n : ℕ) → n ≡ vectorBytes (policyOf bytes .frames) → policyOf bytes .frames ≤ 4096
       → allBelow 4096 (policyOf bytes .backing) ≡ true → buffer ≡ withEach (numbersAt bytes (8 + 2 * count) count) (replicate 512 0)
-      → t′ ≡ take n buffer → t′ ≡ startGuard (policyOf bytes) .exclusion
-  unfolding startGuard named
+      → t′ ≡ take n buffer → t′ ≡ startTables (policyOf bytes) .exclusion
+  unfolding startTables named
   vector-is buffer t′ n l f h e e′ =
       e′ ∙ (rw (e, l, backing-is) (ap (λ (v : List ℕ). take (vectorBytes (policyOf bytes .frames)) (withEach (policyOf bytes .backing) v)) room
       ∙ (ap (take (vectorBytes (policyOf bytes .frames))) (each-vector 4096 (policyOf bytes .backing) (λ _. false) h)

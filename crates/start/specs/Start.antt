@@ -1,14 +1,14 @@
 -- What the start gives, and the tables after each of its loops: places set one by one, frames excluded one by one.
 -- These stand in the promises of the functions below the start. Its own promise names the model's definitions alone.
 use Prim.Native.Nat.{ℕ, _+_, _*_}
-use mathlib.Core.Bool.{false, cond}
+use mathlib.Core.Bool.{true, false, cond}
 use mathlib.Core.List.{List, [], _∷_, map}
 use lib.Dec.{ltb}
 use lib.ListN.{set}
 use Rattle.model.specs.declared.Answer.the-variants.{Done, Refused}
 use Rattle.model.specs.declared.Called.{Called}
 use Rattle.model.specs.Edges.{table}
-use Rattle.model.specs.Keeps.{withExcluded}
+use Rattle.model.specs.Keeps.{withBit}
 use Rattle.model.specs.Policy.{numberAt, policyOf, startState, zeroState}
 use Rattle.model.specs.Bits.{approved}
 
@@ -32,7 +32,7 @@ approvedEach frames = map (approved false) frames
 -- The vector with each of the frames excluded too.
 unfoldable pub withEach : List ℕ → List ℕ → List ℕ
 withEach [] vector = vector
-withEach (f ∷ frames) vector = withEach frames (withExcluded vector f)
+withEach (f ∷ frames) vector = withEach frames (withBit true vector f)
 
 -- The sixteen entry pages: the first of the numbers from byte 8 on, as many as there are entries, and else 0.
 unfoldable pub entryTable : List ℕ → ℕ → List ℕ

@@ -44,8 +44,12 @@ fn clear_map(map: &mut [u16])
 // The listed places of both tables. Question 4 has put every number inside the record and question 5 every listed page inside the tables,
 // so no index is tested again.
 fn set_places(bytes: &[u8], count: u16, shadow: &mut [u64], map: &mut [u16])
-    requires { ⌜ (8 + 4 * count ≤ length (now bytes)) × (allBelow (length (now shadow)) (numbersAt (now bytes) 8 count) ≡ true) × (length (now map) ≡ length (now shadow)) ⌝ }
-    ensures { λ _. ⌜ (now (shadow .exit) ≡ placed (numbersAt (now (bytes .entry)) 8 count) (approvedEach (numbersAt (now (bytes .entry)) (8 + 2 * count) count)) (now (shadow .entry))) × (now (map .exit) ≡ placed (numbersAt (now (bytes .entry)) 8 count) (numbersAt (now (bytes .entry)) (8 + 2 * count) count) (now (map .entry))) ⌝ }
+    requires { ⌜ (8 + 4 * count ≤ length (now bytes)) × (allBelow (length (now shadow)) (numbersAt (now bytes) 8 count) ≡ true)
+        × (length (now map) ≡ length (now shadow)) ⌝ }
+    ensures { λ _. ⌜ (now (shadow .exit) ≡ placed (numbersAt (now (bytes .entry)) 8 count)
+        (approvedEach (numbersAt (now (bytes .entry)) (8 + 2 * count) count)) (now (shadow .entry)))
+        × (now (map .exit) ≡ placed (numbersAt (now (bytes .entry)) 8 count)
+        (numbersAt (now (bytes .entry)) (8 + 2 * count) count) (now (map .entry))) ⌝ }
 {
     let mut page_at = PAGES;
     let mut frame_at = PAGES + 2 * count as usize;
@@ -89,8 +93,12 @@ fn copy_front(from: &[u8], to: &mut [u8])
 
 // Shadow table and map. Questions 4 to 7 have shown what is required.
 fn set_pages(bytes: &[u8], shadow: &mut [u64], map: &mut [u16])
-    requires { ⌜ (length (now bytes) ≡ 8 + 4 * policyOf (now bytes) .count) × (length (now shadow) ≡ policyOf (now bytes) .pages) × (length (now map) ≡ policyOf (now bytes) .pages) × (allBelow (policyOf (now bytes) .pages) (policyOf (now bytes) .listed) ≡ true) × (allBelow 4096 (policyOf (now bytes) .backing) ≡ true) ⌝ }
-    ensures { λ _. ⌜ (now (shadow .exit) ≡ startTables (policyOf (now (bytes .entry))) .shadow) × (now (map .exit) ≡ startTables (policyOf (now (bytes .entry))) .map) ⌝ }
+    requires { ⌜ (length (now bytes) ≡ 8 + 4 * policyOf (now bytes) .count)
+        × (length (now shadow) ≡ policyOf (now bytes) .pages) × (length (now map) ≡ policyOf (now bytes) .pages)
+        × (allBelow (policyOf (now bytes) .pages) (policyOf (now bytes) .listed) ≡ true)
+        × (allBelow 4096 (policyOf (now bytes) .backing) ≡ true) ⌝ }
+    ensures { λ _. ⌜ (now (shadow .exit) ≡ startTables (policyOf (now (bytes .entry))) .shadow)
+        × (now (map .exit) ≡ startTables (policyOf (now (bytes .entry))) .map) ⌝ }
 {
     clear_shadow(shadow);
     clear_map(map);
@@ -100,7 +108,9 @@ fn set_pages(bytes: &[u8], shadow: &mut [u64], map: &mut [u16])
 // The exclusion vector. The bits are gathered in a buffer with room for 4,096 frames, and copied.
 // Questions 2, 4, 6 and 7 have shown what is required.
 fn set_vector(bytes: &[u8], exclusion: &mut [u8])
-    requires { ⌜ (length (now bytes) ≡ 8 + 4 * policyOf (now bytes) .count) × (length (now exclusion) ≡ vectorBytes (policyOf (now bytes) .frames)) × (policyOf (now bytes) .frames ≤ 4096) × (allBelow 4096 (policyOf (now bytes) .backing) ≡ true) ⌝ }
+    requires { ⌜ (length (now bytes) ≡ 8 + 4 * policyOf (now bytes) .count)
+        × (length (now exclusion) ≡ vectorBytes (policyOf (now bytes) .frames))
+        × (policyOf (now bytes) .frames ≤ 4096) × (allBelow 4096 (policyOf (now bytes) .backing) ≡ true) ⌝ }
     ensures { λ _. ⌜ now (exclusion .exit) ≡ startTables (policyOf (now (bytes .entry))) .exclusion ⌝ }
 {
     let mut buffer = [0u8; 512];
@@ -140,7 +150,8 @@ fn refused(number: u64) -> Called
 
 // An accepted start stands in kernel mode on the first entry page. Questions 3 and 4 have shown what is required.
 fn accepted(bytes: &[u8]) -> Called
-    requires { ⌜ (length (now bytes) ≡ 8 + 4 * policyOf (now bytes) .count) × (policyOf (now bytes) .entries ≤ 16) × (policyOf (now bytes) .entries ≤ policyOf (now bytes) .count) × (1 ≤ policyOf (now bytes) .count) ⌝ }
+    requires { ⌜ (length (now bytes) ≡ 8 + 4 * policyOf (now bytes) .count) × (policyOf (now bytes) .entries ≤ 16)
+        × (policyOf (now bytes) .entries ≤ policyOf (now bytes) .count) × (1 ≤ policyOf (now bytes) .count) ⌝ }
     ensures { λ r. ⌜ r ≡ acceptedOn (now (bytes .entry)) ⌝ }
 {
     let count = policy::number_from(bytes, 4);
