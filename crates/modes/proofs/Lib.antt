@@ -1,5 +1,4 @@
 -- Laws that the proofs of this crate cite.
 pub mod TableLaws
 pub mod SwitchQuestionLaws
-pub mod EnterLaws
-pub mod LeaveLaws
+pub mod EnterLeaveLaws

@@ -1,5 +1,5 @@
 -- `modes::enter` meets its contract.
-use Rattle.modes.proofs.EnterLaws.{enter-unfit, entry-in, enter-refused, enter-accepted}
+use Rattle.modes.proofs.EnterLeaveLaws.{enter-unfit, entry-in, enter-refused, enter-accepted}
 use borrow.Author.Needs.{needs}
 use Rattle.modes.proofs.enter.Statement.{statement}
 use Rattle.modes.proofs.enter.Tie as tie

@@ -1,5 +1,5 @@
 -- `modes::leave` meets its contract.
-use Rattle.modes.proofs.LeaveLaws.{leave-unfit, page-in, leave-refused, leave-accepted}
+use Rattle.modes.proofs.EnterLeaveLaws.{leave-unfit, page-in, leave-refused, leave-accepted}
 use borrow.Author.Needs.{needs}
 use Rattle.modes.proofs.leave.Statement.{statement}
 use Rattle.modes.proofs.leave.Tie as tie
