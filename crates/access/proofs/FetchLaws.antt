@@ -5,20 +5,20 @@ use mathlib.Core.List.{List, [], _∷_}
 use mathlib.Core.Path.{_≡_, refl, sym, _∙_}
 use lib.ListN.{length, getD}
 use lib.Dec.{ltb, eqb}
-use borrow.Author.Tests.{not-true, not-false, ltb-true}
+use borrow.Author.Tests.{not-false, ltb-true}
 use native.Mathlib.Omega.{arith}
 use Rattle.model.specs.declared.State.{State}
 use Rattle.model.specs.declared.Mode.{Mode}
 use Rattle.model.specs.declared.Answer.the-variants.{Done, Refused}
 use Rattle.model.specs.declared.Called.{Called}
 use Rattle.model.specs.Edges.{both, either}
-use Rattle.model.specs.Keeps.{inUser, modeOf, inMode}
+use Rattle.model.specs.Keeps.{Tables, withShadow, guardOf, inUser, modeOf, inMode}
 use Rattle.model.specs.Bits.{present, noExecute, userBit, frameOf}
 use Rattle.model.specs.Questions.{firstNo, seen, stateInOrder, inOrder, fetchPermitted, fetchQuestions}
-use Rattle.model.specs.Calls.{replyOf, movedBy, fetchOf}
-use Rattle.model.proofs.QuestionLaws.{both-second, firstNo-yes, firstNo-no, settle-accepted}
+use Rattle.model.specs.Calls.{replyOf, outcomeBy, fetch, questionsOf, effectOf, answer}
+use Rattle.model.proofs.QuestionLaws.{firstNo-yes}
 use Rattle.model.proofs.AcceptedLaws.{fetch-page}
-use Rattle.model.proofs.CallLaws.{passed, passed-always, stopped, none-left, settle-refused-by, pages-few, shadow-long}
+use Rattle.model.proofs.CallLaws.{passed, passed-always, stopped, none-left, pages-few, shadow-long, in-order, refused-by, accepted-by}
 use Rattle.access.specs.Lent.{lent}
 
 -- Question 12 of a fetch.
@@ -30,19 +30,6 @@ pub fetch-by-user : (user : Bool) (entry : ℕ) (r m : Bool) → r ≡ noExecute
     → m ≡ fetchPermitted user entry
 unfolding fetchPermitted both
 fetch-by-user user entry r m e f p = p ∙ rw (← e, f) refl
-
--- The page of an accepted fetch is below V.
-pub fetched-below : (user : Bool) (pages page number : ℕ) (shadow : List ℕ)
-    → number ≡ firstNo (fetchQuestions (lent user pages 0 shadow []) page) → number ≡ 0 → page < pages
-fetched-below user pages page number shadow p z = fetch-page (lent user pages 0 shadow []) page (sym p ∙ z)
-
-pub fetched-in : (s : State) (user r7 : Bool) (page number : ℕ) (shadow : List ℕ)
-    → r7 ≡ inOrder (stateInOrder s) (eqb (length shadow) (s .pages) ∷ []) → not r7 ≡ false
-    → number ≡ firstNo (fetchQuestions (lent user (s .pages) 0 shadow []) page) → number ≡ 0 → page < length shadow
-fetched-in s user r7 page number shadow p q e z =
-    let l : length shadow ≡ s .pages = shadow-long s (length shadow) r7 p q in
-    let b : page < s .pages = fetched-below user (s .pages) page number shadow e z in
-    omega arith
 
 -- The questions after 7, at each answer.
 module _ (user : Bool) (pages page : ℕ) (shadow : List ℕ) (r9 : Bool) (e9 : r9 ≡ ltb page pages) where
@@ -71,33 +58,41 @@ found-in long pages page r9 l e y =
     let b : page < pages = ltb-true page pages (sym e ∙ not-false r9 y) in
     omega arith
 
-module _ (s : State) (shadow : List ℕ) (page : ℕ) where
-  pub fetch-unfit : (r : Called) (r7 : Bool) → r7 ≡ inOrder (stateInOrder s) (eqb (length shadow) (s .pages) ∷ []) → not r7 ≡ true
-      → r .answer ≡ Refused 7 → r .state ≡ s → movedBy r ≡ fetchOf s shadow page
-  unfolding movedBy replyOf fetchOf fetchQuestions
-  fetch-unfit r r7 p q a t = rw (a, t) (sym (settle-refused-by 7 _ _ (λ z. omega arith) (firstNo-no 7 _ (sym p ∙ not-true r7 q))))
+-- A fetch as a whole.
+module _ (s : State) (shadow : List ℕ) (page : ℕ) (r7 : Bool) (e7 : r7 ≡ inOrder (stateInOrder s) (eqb (length shadow) (s .pages) ∷ [])) where
+  abbrev Fetched : Called → Type 0
+  Fetched r = (t : Tables) → outcomeBy r (withShadow shadow t) ≡ answer (guardOf s (withShadow shadow t)) (fetch page)
 
-  -- The questions after 7 do not look at the lengths.
-  fetch-rest : (r7 user : Bool) (number : ℕ) → r7 ≡ inOrder (stateInOrder s) (eqb (length shadow) (s .pages) ∷ []) → not r7 ≡ false
-      → user ≡ inUser (s .mode) → number ≡ firstNo (fetchQuestions (lent user (s .pages) 0 shadow []) page)
-      → firstNo (fetchQuestions (seen s shadow [] []) page) ≡ number
-  unfolding fetchQuestions inOrder both
-  fetch-rest r7 user number p q u e = firstNo-yes 7 _ (sym p ∙ not-false r7 q) ∙ sym ((rw u at e) ∙ firstNo-yes 7 _ refl)
+  pub fetch-unfit : (r : Called) → not r7 ≡ true → r .answer ≡ Refused 7 → r .state ≡ s → Fetched r
+  unfolding questionsOf fetchQuestions
+  fetch-unfit r n a i t = refused-by _ (fetch page) r 7 (sym (stopped 7 r7 _ _ e7 n)) (λ z. omega arith) a i
 
-  pub fetch-refused : (r : Called) (r7 user : Bool) (number : ℕ) → r7 ≡ inOrder (stateInOrder s) (eqb (length shadow) (s .pages) ∷ [])
-      → not r7 ≡ false → user ≡ inUser (s .mode) → number ≡ firstNo (fetchQuestions (lent user (s .pages) 0 shadow []) page)
-      → (number ≡ 0 → ⊥) → r .answer ≡ Refused number → r .state ≡ s → movedBy r ≡ fetchOf s shadow page
-  unfolding movedBy replyOf fetchOf
-  fetch-refused r r7 user number p q u e z a t = rw (a, t) (sym (settle-refused-by number _ _ z (fetch-rest r7 user number p q u e)))
+  module _ (y7 : not r7 ≡ false) (user : Bool) (number : ℕ) (u : user ≡ inUser (s .mode))
+      (e : number ≡ firstNo (fetchQuestions (lent user (s .pages) 0 shadow []) page)) where
+    -- The questions after 7 do not look at the lengths.
+    fetch-number : (t : Tables) → firstNo (questionsOf (seen (guardOf s (withShadow shadow t))) (fetch page)) ≡ number
+    unfolding questionsOf fetchQuestions inOrder both
+    fetch-number t = firstNo-yes 7 _ (sym e7 ∙ not-false r7 y7) ∙ sym ((rw u at e) ∙ firstNo-yes 7 _ refl)
 
-  pub fetch-accepted : (after : State) (m : Mode) (r7 user : Bool) (number frame : ℕ)
-      → r7 ≡ inOrder (stateInOrder s) (eqb (length shadow) (s .pages) ∷ []) → not r7 ≡ false → user ≡ inUser (s .mode)
-      → number ≡ firstNo (fetchQuestions (lent user (s .pages) 0 shadow []) page) → number ≡ 0
-      → frame ≡ frameOf (getD shadow page 0) → m ≡ modeOf (inUser (s .mode)) (page % 65536) → after ≡ inMode s m
-      → movedBy (record { answer = Done frame frame; state = after }) ≡ fetchOf s shadow page
-  unfolding movedBy replyOf fetchOf inOrder
-  fetch-accepted after m r7 user number frame p q u e z f d a =
-      let b : page < s .pages = fetched-below user (s .pages) page number shadow e z in
-      let few : s .pages ≤ 2048 = pages-few s (both-second (eqb (length shadow) (s .pages)) _ (sym p ∙ not-false r7 q)) in
-      let low : page % 65536 ≡ page = omega arith in
-      rw (a, d, f, low) (sym (settle-accepted _ _ (fetch-rest r7 user number p q u e ∙ z)))
+    pub fetch-refused : (r : Called) → (number ≡ 0 → ⊥) → r .answer ≡ Refused number → r .state ≡ s → Fetched r
+    fetch-refused r z a i t = refused-by _ (fetch page) r number (fetch-number t) z a i
+
+    -- The page of an accepted fetch is below V.
+    module _ (z : number ≡ 0) where
+      below : page < s .pages
+      below = fetch-page (lent user (s .pages) 0 shadow []) page (sym e ∙ z)
+
+      pub fetched-in : page < length shadow
+      fetched-in =
+          let l : length shadow ≡ s .pages = shadow-long s (length shadow) r7 e7 y7 in
+          let b : page < s .pages = below in
+          omega arith
+
+      pub fetch-accepted : (after : State) (m : Mode) (frame : ℕ) → frame ≡ frameOf (getD shadow page 0)
+          → m ≡ modeOf (inUser (s .mode)) (page % 65536) → after ≡ inMode s m → Fetched (record { answer = Done frame frame; state = after })
+      unfolding outcomeBy replyOf effectOf
+      fetch-accepted after m frame f d a t =
+          let b : page < s .pages = below in
+          let few : s .pages ≤ 2048 = pages-few s (in-order _ _ (sym e7 ∙ not-false r7 y7) .0) in
+          let low : page % 65536 ≡ page = omega arith in
+          accepted-by _ (fetch page) _ (fetch-number t ∙ z) (rw (a, d, f, low) refl)

@@ -7,17 +7,18 @@ use lib.ListN.{length}
 use lib.Dec.{ltb, eqb}
 use mir.Syntax.{w16}
 use mir.Val.{Fits}
-use borrow.Author.Tests.{not-true, not-false, lt-ltb, ltb-true, eqb-true}
+use borrow.Author.Tests.{not-false, lt-ltb, ltb-true, eqb-true}
 use native.Mathlib.Omega.{arith}
 use Rattle.model.specs.declared.State.{State}
+use Rattle.model.specs.declared.Answer.{Answer}
 use Rattle.model.specs.declared.Answer.the-variants.{Done, Refused}
 use Rattle.model.specs.Edges.{both, within, everyFrom, lastByte, lastPage, touched}
-use Rattle.model.specs.Keeps.{vectorBytes, excludedIn}
+use Rattle.model.specs.Keeps.{Tables, withExclusion, guardOf, vectorBytes, excludedIn}
 use Rattle.model.specs.Questions.{firstNo, seen, stateInOrder, inOrder, free, everyTouched, deviceWriteQuestions}
-use Rattle.model.specs.Calls.{replyOf, deviceWriteOf}
-use Rattle.model.proofs.QuestionLaws.{both-first, both-second, within-low, firstNo-yes, firstNo-no, settle-accepted}
+use Rattle.model.specs.Calls.{replyOf, outcomeBy, keptBy, deviceWrite, questionsOf, effectOf, answer}
+use Rattle.model.proofs.QuestionLaws.{within-low, firstNo-yes}
 use Rattle.model.proofs.AcceptedLaws.{deviceWrite-some, deviceWrite-byte}
-use Rattle.model.proofs.CallLaws.{passed, passed-always, stopped, none-left, settle-refused-by, frames-few}
+use Rattle.model.proofs.CallLaws.{passed, passed-always, stopped, none-left, frames-few, in-order, refused-by, accepted-by}
 use Rattle.model.proofs.TouchLaws.{last-page-below, first-up-to-last, every-same}
 use Rattle.access.specs.Lent.{lent}
 
@@ -81,40 +82,40 @@ module _ (frames address length : ℕ) (exclusion : List ℕ) (r8 : Bool) (e8 : 
   unfolding deviceWriteQuestions inOrder both
   transfer-absent y8 r9 e9 n9 = passed-always 7 9 _ (passed 8 9 r8 _ _ e8 y8 (stopped 9 r9 _ _ e9 n9))
 
+-- A device write as a whole.
 module _ (s : State) (exclusion : List ℕ) (address length : ℕ) (r7 : Bool)
-    (p : r7 ≡ inOrder (stateInOrder s) (eqb (lib.ListN.length exclusion) (vectorBytes (s .frames)) ∷ [])) where
-  pub transfer-unfit : not r7 ≡ true → replyOf (Refused 7) ≡ deviceWriteOf s exclusion address length
-  unfolding replyOf deviceWriteOf deviceWriteQuestions
-  transfer-unfit q = sym (settle-refused-by 7 _ _ (λ z. omega arith) (firstNo-no 7 _ (sym p ∙ not-true r7 q)))
+    (e7 : r7 ≡ inOrder (stateInOrder s) (eqb (lib.ListN.length exclusion) (vectorBytes (s .frames)) ∷ [])) where
+  abbrev Transferred : Answer → Type 0
+  Transferred r =
+      (t : Tables) → keptBy r s (withExclusion exclusion t) ≡ answer (guardOf s (withExclusion exclusion t)) (deviceWrite address length)
 
-  pub transfer-vector : not r7 ≡ false → lib.ListN.length exclusion ≡ vectorBytes (s .frames)
-  unfolding inOrder
-  transfer-vector q = eqb-true _ _ (both-first _ _ (sym p ∙ not-false r7 q))
+  pub transfer-unfit : not r7 ≡ true → Transferred (Refused 7)
+  unfolding questionsOf deviceWriteQuestions
+  transfer-unfit n t = refused-by _ (deviceWrite address length) _ 7 (sym (stopped 7 r7 _ _ e7 n)) (λ z. omega arith) refl refl
 
-  module _ (q : not r7 ≡ false) (number : ℕ)
-      (e : number ≡ firstNo (deviceWriteQuestions (lent true 0 (s .frames) [] exclusion) address length)) where
-    transfer-rest : firstNo (deviceWriteQuestions (seen s [] [] exclusion) address length) ≡ number
-    unfolding deviceWriteQuestions inOrder both free
-    transfer-rest = firstNo-yes 7 _ (sym p ∙ not-false r7 q) ∙ sym (e ∙ firstNo-yes 7 _ refl)
+  module _ (y7 : not r7 ≡ false) where
+    pub transfer-vector : lib.ListN.length exclusion ≡ vectorBytes (s .frames)
+    transfer-vector = eqb-true _ _ (in-order _ _ (sym e7 ∙ not-false r7 y7) .1 .0)
 
-    pub transfer-refused : (number ≡ 0 → ⊥) → replyOf (Refused number) ≡ deviceWriteOf s exclusion address length
-    unfolding replyOf deviceWriteOf
-    transfer-refused z = sym (settle-refused-by number _ _ z transfer-rest)
+    module _ (number : ℕ) (e : number ≡ firstNo (deviceWriteQuestions (lent true 0 (s .frames) [] exclusion) address length)) where
+      -- The questions after 7 do not look at the length, nor at the mode.
+      transfer-number : (t : Tables)
+          → firstNo (questionsOf (seen (guardOf s (withExclusion exclusion t))) (deviceWrite address length)) ≡ number
+      unfolding questionsOf deviceWriteQuestions inOrder both free
+      transfer-number t = firstNo-yes 7 _ (sym e7 ∙ not-false r7 y7) ∙ sym (e ∙ firstNo-yes 7 _ refl)
 
-    module _ (z : number ≡ 0) where
-      few : s .frames ≤ 4096
-      unfolding inOrder
-      few = frames-few s (both-second _ _ (sym p ∙ not-false r7 q))
+      pub transfer-refused : (number ≡ 0 → ⊥) → Transferred (Refused number)
+      transfer-refused z t = refused-by _ (deviceWrite address length) _ number (transfer-number t) z refl refl
 
-      pub transferred-last : (1 ≤ length) × (lastPage address length < 65536)
-      unfolding lastPage
-      transferred-last =
-          let passes : firstNo (deviceWriteQuestions (lent true 0 (s .frames) [] exclusion) address length) ≡ 0 = sym e ∙ z in
-          let b : lastByte address length < s .frames * 4096 = deviceWrite-byte (lent true 0 (s .frames) [] exclusion) address length passes in
-          let f : s .frames ≤ 4096 = few in
-          (deviceWrite-some (lent true 0 (s .frames) [] exclusion) address length passes, omega arith)
+      module _ (z : number ≡ 0) where
+        pub transferred-last : (1 ≤ length) × (lastPage address length < 65536)
+        unfolding lastPage
+        transferred-last =
+            let v = lent true 0 (s .frames) [] exclusion in
+            let b : lastByte address length < s .frames * 4096 = deviceWrite-byte v address length (sym e ∙ z) in
+            let f : s .frames ≤ 4096 = frames-few s (in-order _ _ (sym e7 ∙ not-false r7 y7) .0) in
+            (deviceWrite-some v address length (sym e ∙ z), omega arith)
 
-      pub transfer-accepted : (last : ℕ) → last ≡ lastPage address length
-          → replyOf (Done (address / 4096) last) ≡ deviceWriteOf s exclusion address length
-      unfolding replyOf deviceWriteOf
-      transfer-accepted last i = rw i (sym (settle-accepted _ _ (transfer-rest ∙ z)))
+        pub transfer-accepted : (last : ℕ) → last ≡ lastPage address length → Transferred (Done (address / 4096) last)
+        unfolding outcomeBy replyOf effectOf
+        transfer-accepted last i t = accepted-by _ (deviceWrite address length) _ (transfer-number t ∙ z) (rw i refl)

@@ -11,15 +11,16 @@ use borrow.Author.Tests.{not-true, not-false, ltb-true, lt-ltb, le-ltb, eqb-true
 use lib.Bits.{bitAnd}
 use native.Mathlib.Omega.{arith}
 use Rattle.model.specs.declared.State.{State}
+use Rattle.model.specs.declared.Answer.{Answer}
 use Rattle.model.specs.declared.Answer.the-variants.{Done, Refused}
 use Rattle.model.specs.Edges.{both, within, lastPage}
-use Rattle.model.specs.Keeps.{vectorBytes, excludedIn, inUser}
+use Rattle.model.specs.Keeps.{Tables, withShadow, withExclusion, guardOf, vectorBytes, excludedIn, inUser}
 use Rattle.model.specs.Bits.{present, frameOf}
 use Rattle.model.specs.Questions.{firstNo, seen, stateInOrder, inOrder, writePermitted, free, writeQuestions}
-use Rattle.model.specs.Calls.{replyOf, writeOf}
-use Rattle.model.proofs.QuestionLaws.{both-first, both-second, within-low, firstNo-yes, firstNo-no, settle-accepted}
+use Rattle.model.specs.Calls.{replyOf, outcomeBy, keptBy, write, questionsOf, effectOf, answer}
+use Rattle.model.proofs.QuestionLaws.{within-low, firstNo-yes}
 use Rattle.model.proofs.AcceptedLaws.{write-some, write-page}
-use Rattle.model.proofs.CallLaws.{passed, passed-always, stopped, none-left, settle-refused-by, pages-few}
+use Rattle.model.proofs.CallLaws.{passed, passed-always, stopped, none-left, pages-few, in-order, refused-by, accepted-by}
 use Rattle.model.proofs.TouchLaws.{first-up-to-last, touched-both}
 use Rattle.access.specs.Lent.{lent, freeIn, entryQuestions}
 use Rattle.access.proofs.CommonLaws.{common-present, common-permitted}
@@ -137,65 +138,58 @@ module _ (user : Bool) (pages frames address length : ℕ) (shadow exclusion : L
         )
         (rw p at e))))
 
--- An accepted write has 1 to 16 bytes, and its last page is below V.
-module _ (user : Bool) (pages frames address length number : ℕ) (shadow exclusion : List ℕ)
-    (e : number ≡ firstNo (writeQuestions (lent user pages frames shadow exclusion) address length)) (z : number ≡ 0) where
-  written-long : 1 ≤ length
-  written-long = write-some (lent user pages frames shadow exclusion) address length (sym e ∙ z)
+-- A write as a whole.
+module _ (s : State) (shadow exclusion : List ℕ) (r7 : Bool)
+    (e7 : r7 ≡ inOrder (stateInOrder s) (eqb (length shadow) (s .pages) ∷ eqb (length exclusion) (vectorBytes (s .frames)) ∷ [])) where
+  pub write-tables : not r7 ≡ false → (length shadow ≡ s .pages) × (length exclusion ≡ vectorBytes (s .frames))
+  write-tables y7 =
+      let fit = in-order _ _ (sym e7 ∙ not-false r7 y7) in
+      (eqb-true _ _ (fit .1 .0), eqb-true _ _ (fit .1 .1 .0))
 
-  written-below : lastPage address length < pages
-  written-below = write-page (lent user pages frames shadow exclusion) address length (sym e ∙ z)
+  module _ (address bytes : ℕ) where
+    abbrev Written : Answer → Type 0
+    Written r =
+        (t : Tables)
+        → keptBy r s (withShadow shadow (withExclusion exclusion t))
+        ≡ answer (guardOf s (withShadow shadow (withExclusion exclusion t))) (write address bytes)
 
--- Question 7 of a write: the tables have their lengths.
-pub write-tables : (s : State) (long bytes : ℕ) (r7 : Bool)
-    → r7 ≡ inOrder (stateInOrder s) (eqb long (s .pages) ∷ eqb bytes (vectorBytes (s .frames)) ∷ []) → not r7 ≡ false
-    → (long ≡ s .pages) × (bytes ≡ vectorBytes (s .frames))
-unfolding inOrder
-write-tables s long bytes r7 p q =
-    let all = sym p ∙ not-false r7 q in
-    (eqb-true long (s .pages) (both-first _ _ all), eqb-true bytes (vectorBytes (s .frames)) (both-first _ _ (both-second _ _ all)))
+    pub write-unfit : not r7 ≡ true → Written (Refused 7)
+    unfolding questionsOf writeQuestions
+    write-unfit n t = refused-by _ (write address bytes) _ 7 (sym (stopped 7 r7 _ _ e7 n)) (λ z. omega arith) refl refl
 
-module _ (s : State) (shadow exclusion : List ℕ) (address length : ℕ) (r7 : Bool)
-    (p : r7 ≡ inOrder (stateInOrder s) (eqb (lib.ListN.length shadow) (s .pages) ∷ eqb (lib.ListN.length exclusion) (vectorBytes (s .frames)) ∷ [])) where
-  pub write-unfit : not r7 ≡ true → replyOf (Refused 7) ≡ writeOf s shadow exclusion address length
-  unfolding replyOf writeOf writeQuestions
-  write-unfit q = sym (settle-refused-by 7 _ _ (λ z. omega arith) (firstNo-no 7 _ (sym p ∙ not-true r7 q)))
+    module _ (y7 : not r7 ≡ false) (user : Bool) (number : ℕ) (u : user ≡ inUser (s .mode))
+        (e : number ≡ firstNo (writeQuestions (lent user (s .pages) (s .frames) shadow exclusion) address bytes)) where
+      -- The questions after 7 do not look at the lengths.
+      write-number : (t : Tables)
+          → firstNo (questionsOf (seen (guardOf s (withShadow shadow (withExclusion exclusion t)))) (write address bytes)) ≡ number
+      unfolding questionsOf writeQuestions inOrder both free
+      write-number t = firstNo-yes 7 _ (sym e7 ∙ not-false r7 y7) ∙ sym ((rw u at e) ∙ firstNo-yes 7 _ refl)
 
-  module _ (q : not r7 ≡ false) (user : Bool) (number : ℕ) (u : user ≡ inUser (s .mode))
-      (e : number ≡ firstNo (writeQuestions (lent user (s .pages) (s .frames) shadow exclusion) address length)) where
-    write-rest : firstNo (writeQuestions (seen s shadow [] exclusion) address length) ≡ number
-    unfolding writeQuestions inOrder both free
-    write-rest = firstNo-yes 7 _ (sym p ∙ not-false r7 q) ∙ sym ((rw u at e) ∙ firstNo-yes 7 _ refl)
+      pub write-refused : (number ≡ 0 → ⊥) → Written (Refused number)
+      write-refused z t = refused-by _ (write address bytes) _ number (write-number t) z refl refl
 
-    pub write-refused : (number ≡ 0 → ⊥) → replyOf (Refused number) ≡ writeOf s shadow exclusion address length
-    unfolding replyOf writeOf
-    write-refused z = sym (settle-refused-by number _ _ z write-rest)
+      -- An accepted write has 1 to 16 bytes, and its last page is below V.
+      module _ (z : number ≡ 0) where
+        pub written-last-in : (page : ℕ) → page ≡ lastPage address bytes → page < length shadow
+        written-last-in page i =
+            let b : lastPage address bytes < s .pages = write-page (lent user (s .pages) (s .frames) shadow exclusion) address bytes (sym e ∙ z) in
+            let l : length shadow ≡ s .pages = write-tables y7 .0 in
+            omega arith
 
-    module _ (z : number ≡ 0) where
-      few : s .pages ≤ 2048
-      unfolding inOrder
-      few = pages-few s (both-second _ _ (both-second _ _ (sym p ∙ not-false r7 q)))
+        pub written-last : (1 ≤ bytes) × (lastPage address bytes < 65536)
+        written-last =
+            let b : lastPage address bytes < length shadow = written-last-in _ refl in
+            let l : length shadow ≡ s .pages = write-tables y7 .0 in
+            let f : s .pages ≤ 2048 = pages-few s (in-order _ _ (sym e7 ∙ not-false r7 y7) .0) in
+            (write-some (lent user (s .pages) (s .frames) shadow exclusion) address bytes (sym e ∙ z), omega arith)
 
-      pub written-last : (1 ≤ length) × (lastPage address length < 65536)
-      written-last =
-          let b : lastPage address length < s .pages = written-below user (s .pages) (s .frames) address length number shadow exclusion e z in
-          let f : s .pages ≤ 2048 = few in
-          (written-long user (s .pages) (s .frames) address length number shadow exclusion e z, omega arith)
+        pub written-first-in : address / 4096 < length shadow
+        written-first-in =
+            let b : lastPage address bytes < length shadow = written-last-in _ refl in
+            let f : address / 4096 ≤ lastPage address bytes = first-up-to-last address bytes (written-last .0) in
+            omega arith
 
-      pub written-first-in : address / 4096 < lib.ListN.length shadow
-      written-first-in =
-          let b : lastPage address length < s .pages = written-below user (s .pages) (s .frames) address length number shadow exclusion e z in
-          let f : address / 4096 ≤ lastPage address length = first-up-to-last address length (written-last .0) in
-          let l : lib.ListN.length shadow ≡ s .pages = write-tables s _ _ r7 p q .0 in
-          omega arith
-
-      pub written-last-in : (page : ℕ) → page ≡ lastPage address length → page < lib.ListN.length shadow
-      written-last-in page i =
-          let b : lastPage address length < s .pages = written-below user (s .pages) (s .frames) address length number shadow exclusion e z in
-          let l : lib.ListN.length shadow ≡ s .pages = write-tables s _ _ r7 p q .0 in
-          omega arith
-
-      pub write-accepted : (page f g : ℕ) → page ≡ lastPage address length → f ≡ frameOf (getD shadow (address / 4096) 0)
-          → g ≡ frameOf (getD shadow page 0) → replyOf (Done f g) ≡ writeOf s shadow exclusion address length
-      unfolding replyOf writeOf
-      write-accepted page f g i ef eg = rw (ef, eg, i) (sym (settle-accepted _ _ (write-rest ∙ z)))
+        pub write-accepted : (page f g : ℕ) → page ≡ lastPage address bytes → f ≡ frameOf (getD shadow (address / 4096) 0)
+            → g ≡ frameOf (getD shadow page 0) → Written (Done f g)
+        unfolding outcomeBy replyOf effectOf
+        write-accepted page f g i ef eg t = accepted-by _ (write address bytes) _ (write-number t ∙ z) (rw (ef, eg, i) refl)

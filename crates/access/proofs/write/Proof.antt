@@ -8,7 +8,9 @@ returns : tie.Need-returns
 returns c = search (needs, write-unfit)
 
 write-refusal-requires : tie.Need-write-refusal-requires
-write-refusal-requires c κs = write-tables _ _ _ _ (c .before .before .write-in-order .ensures) (c .before .if1 .left)
+write-refusal-requires c κs =
+    let a = c .before .before .before .before .before .args in
+    write-tables _ (a .shadow .now) (a .exclusion .now) _ (c .before .before .write-in-order .ensures) (c .before .if1 .left)
 
 returns-2 : tie.Need-returns-2
 returns-2 c = search (needs, write-refused)
@@ -19,7 +21,7 @@ shared-slice-read-first c = search (needs, written-first-in)
 last-page-requires : tie.Need-last-page-requires
 last-page-requires c κs =
     let a = c .before .before .before .before .before .before .before .before .args in
-    written-last _ (a .shadow .now) (a .exclusion .now) _ _ _ (c .before .before .before .before .before .write-in-order .ensures) (c .before .before .before .before .if1 .left) _ _ (c .before .before .before .in-user .ensures) (c .before .before .write-refusal .ensures) (c .before .if2 .left)
+    written-last _ (a .shadow .now) (a .exclusion .now) _ (c .before .before .before .before .before .write-in-order .ensures) _ _ (c .before .before .before .before .if1 .left) _ _ (c .before .before .before .in-user .ensures) (c .before .before .write-refusal .ensures) (c .before .if2 .left)
 
 mul-last : tie.Need-mul-last
 mul-last c = search (needs, written-last-in)
