@@ -1,6 +1,6 @@
 -- `exports::guard_fetch` meets its contract.
 use borrow.Author.Needs.{needs}
-use Rattle.exports.proofs.BoundaryLaws.{unused, run-used, called}
+use Rattle.exports.proofs.BoundaryLaws.{unused, run-used, shadow-called}
 use Rattle.exports.proofs.guard_fetch.Statement.{statement}
 use Rattle.exports.proofs.guard_fetch.Tie as tie
 
@@ -14,7 +14,7 @@ put-called-requires : tie.Need-put-called-requires
 put-called-requires c κs = search (needs, run-used)
 
 returns-2 : tie.Need-returns-2
-returns-2 c = search (needs, called)
+returns-2 c = search (needs, shadow-called)
 
 pub guard-fetch-spec : {M : Type 1} → statement M
 guard-fetch-spec =

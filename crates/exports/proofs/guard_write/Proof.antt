@@ -1,6 +1,6 @@
 -- `exports::guard_write` meets its contract.
 use borrow.Author.Needs.{needs}
-use Rattle.exports.proofs.BoundaryLaws.{unused, run-used, kept}
+use Rattle.exports.proofs.BoundaryLaws.{unused, run-used, write-kept}
 use Rattle.exports.proofs.guard_write.Statement.{statement}
 use Rattle.exports.proofs.guard_write.Tie as tie
 
@@ -11,7 +11,7 @@ state-in-requires : tie.Need-state-in-requires
 state-in-requires c κs = search (needs, run-used)
 
 returns-2 : tie.Need-returns-2
-returns-2 c = search (needs, kept)
+returns-2 c = search (needs, write-kept)
 
 pub guard-write-spec : {M : Type 1} → statement M
 guard-write-spec =
