@@ -1,4 +1,4 @@
--- Each guard call by its kind: what the call's own definition gives is what the drill answers.
+-- Each guard call by its kind: what the call promises of any tables that it is not lent is what the drill answers on its own tables.
 use Prim.Native.Nat.{ℕ}
 use mathlib.Core.List.{List}
 use mathlib.Core.Path.{_≡_}
@@ -6,49 +6,59 @@ use borrow.Author.Tests.{ne-eqb}
 use Rattle.model.specs.declared.State.{State}
 use Rattle.model.specs.declared.Answer.{Answer}
 use Rattle.model.specs.declared.Called.{Called}
-use Rattle.model.specs.Calls.{replyOf, outcomeBy, movedBy, switchedBy, syncedBy, syncPageOf, syncAllOf, fetchOf, writeOf, enterOf, leaveOf, deviceWriteOf}
-use Rattle.model.specs.Lists.{answer, withSynced, withMoved, withSwitched, withReply}
+use Rattle.model.specs.Keeps.{Tables, tables, withShadow, withMap, withExclusion, guardOf}
+use Rattle.model.specs.Calls.{outcomeBy, Call, syncPage, syncAll, fetch, write, enter, leave, deviceWrite, answer}
 use Rattle.model.specs.Drill.{callOf}
-use Rattle.turns.specs.Turns.{guardOf}
 
 module _ (s : State) (kernel shadow map exclusion : List ℕ) (kind index length value : ℕ) where
-  pub sync-page-answered : (r : Answer) (shadow′ map′ : List ℕ) → kind ≡ 1 → syncedBy r shadow′ map′ ≡ syncPageOf s kernel shadow map exclusion index
-      → outcomeBy (record { answer = r; state = s }) shadow′ map′ exclusion
-      ≡ answer (guardOf s shadow map exclusion) (callOf kernel kind index length value)
-  unfolding outcomeBy syncedBy callOf answer withSynced
-  sync-page-answered r shadow′ map′ p e = rw (p, ← e)
+  -- A call's promise: the tables before it and after it, with any others.
+  abbrev Promised : Called → (Tables → Tables) → (Tables → Tables) → Call → Type 0
+  Promised r before after call = (t : Tables) → outcomeBy r (after t) ≡ answer (guardOf s (before t)) call
 
-  pub sync-all-answered : (r : Answer) (shadow′ map′ : List ℕ) → kind ≡ 2 → syncedBy r shadow′ map′ ≡ syncAllOf s kernel shadow map exclusion
-      → outcomeBy (record { answer = r; state = s }) shadow′ map′ exclusion
-      ≡ answer (guardOf s shadow map exclusion) (callOf kernel kind index length value)
-  unfolding outcomeBy syncedBy callOf answer withSynced
-  sync-all-answered r shadow′ map′ p e = rw (p, ← e)
+  abbrev Answered : Called → List ℕ → List ℕ → Type 0
+  Answered r shadow′ map′ =
+      outcomeBy r (tables shadow′ map′ exclusion) ≡ answer (guardOf s (tables shadow map exclusion)) (callOf kernel kind index length value)
 
-  pub fetch-answered : (r : Called) → kind ≡ 3 → movedBy r ≡ fetchOf s shadow index
-      → outcomeBy r shadow map exclusion ≡ answer (guardOf s shadow map exclusion) (callOf kernel kind index length value)
-  unfolding outcomeBy movedBy callOf answer withMoved
-  fetch-answered r p e = rw (p, ← e)
+  -- Of a call that keeps the state.
+  abbrev kept : Answer → Called
+  kept r = record { answer = r; state = s }
 
-  pub write-answered : (r : Answer) → kind ≡ 4 → replyOf r ≡ writeOf s shadow exclusion value length
-      → outcomeBy (record { answer = r; state = s }) shadow map exclusion
-      ≡ answer (guardOf s shadow map exclusion) (callOf kernel kind index length value)
-  unfolding outcomeBy callOf answer withReply
-  write-answered r p e = rw (p, ← e)
+  -- The tables that the synchronising calls are lent.
+  abbrev synced : List ℕ → List ℕ → Tables → Tables
+  synced shadow′ map′ t = withShadow shadow′ (withMap map′ (withExclusion exclusion t))
 
-  pub enter-answered : (r : Called) (shadow′ : List ℕ) → kind ≡ 5 → switchedBy r shadow′ ≡ enterOf s shadow index
-      → outcomeBy r shadow′ map exclusion ≡ answer (guardOf s shadow map exclusion) (callOf kernel kind index length value)
-  unfolding outcomeBy switchedBy callOf answer withSwitched
-  enter-answered r shadow′ p e = rw (p, ← e)
+  pub sync-page-answered : (r : Answer) (shadow′ map′ : List ℕ) → kind ≡ 1
+      → Promised (kept r) (synced shadow map) (synced shadow′ map′) (syncPage kernel index) → Answered (kept r) shadow′ map′
+  unfolding callOf
+  sync-page-answered r shadow′ map′ p e = rw p (e (tables shadow map exclusion))
 
-  pub leave-answered : (r : Called) (shadow′ : List ℕ) → kind ≡ 6 → switchedBy r shadow′ ≡ leaveOf s shadow index
-      → outcomeBy r shadow′ map exclusion ≡ answer (guardOf s shadow map exclusion) (callOf kernel kind index length value)
-  unfolding outcomeBy switchedBy callOf answer withSwitched
-  leave-answered r shadow′ p e = rw (p, ← e)
+  pub sync-all-answered : (r : Answer) (shadow′ map′ : List ℕ) → kind ≡ 2
+      → Promised (kept r) (synced shadow map) (synced shadow′ map′) (syncAll kernel) → Answered (kept r) shadow′ map′
+  unfolding callOf
+  sync-all-answered r shadow′ map′ p e = rw p (e (tables shadow map exclusion))
+
+  pub fetch-answered : (r : Called) → kind ≡ 3 → Promised r (withShadow shadow) (withShadow shadow) (fetch index) → Answered r shadow map
+  unfolding callOf
+  fetch-answered r p e = rw p (e (tables shadow map exclusion))
+
+  pub write-answered : (r : Answer) → kind ≡ 4
+      → Promised (kept r) (λ t. withShadow shadow (withExclusion exclusion t)) (λ t. withShadow shadow (withExclusion exclusion t)) (write value length)
+      → Answered (kept r) shadow map
+  unfolding callOf
+  write-answered r p e = rw p (e (tables shadow map exclusion))
+
+  pub enter-answered : (r : Called) (shadow′ : List ℕ) → kind ≡ 5 → Promised r (withShadow shadow) (withShadow shadow′) (enter index)
+      → Answered r shadow′ map
+  unfolding callOf
+  enter-answered r shadow′ p e = rw p (e (tables shadow map exclusion))
+
+  pub leave-answered : (r : Called) (shadow′ : List ℕ) → kind ≡ 6 → Promised r (withShadow shadow) (withShadow shadow′) (leave index)
+      → Answered r shadow′ map
+  unfolding callOf
+  leave-answered r shadow′ p e = rw p (e (tables shadow map exclusion))
 
   pub device-write-answered : (r : Answer) → (kind ≡ 1 → ⊥) → (kind ≡ 2 → ⊥) → (kind ≡ 3 → ⊥) → (kind ≡ 4 → ⊥) → (kind ≡ 5 → ⊥) → (kind ≡ 6 → ⊥)
-      → replyOf r ≡ deviceWriteOf s exclusion value length
-      → outcomeBy (record { answer = r; state = s }) shadow map exclusion
-      ≡ answer (guardOf s shadow map exclusion) (callOf kernel kind index length value)
-  unfolding outcomeBy callOf answer withReply
+      → Promised (kept r) (withExclusion exclusion) (withExclusion exclusion) (deviceWrite value length) → Answered (kept r) shadow map
+  unfolding callOf
   device-write-answered r a b c d f g e =
-      rw (ne-eqb kind 1 a, ne-eqb kind 2 b, ne-eqb kind 3 c, ne-eqb kind 4 d, ne-eqb kind 5 f, ne-eqb kind 6 g, ← e)
+      rw (ne-eqb kind 1 a, ne-eqb kind 2 b, ne-eqb kind 3 c, ne-eqb kind 4 d, ne-eqb kind 5 f, ne-eqb kind 6 g) (e (tables shadow map exclusion))

@@ -15,15 +15,14 @@ use Rattle.model.specs.declared.Called.{Called}
 use Rattle.lines.specs.declared.Line.{Line}
 use Rattle.lines.specs.Text.{text}
 use Rattle.model.specs.Edges.{within, pagesInRange, framesInRange}
-use Rattle.model.specs.Keeps.{Guard, vectorBytes}
+use Rattle.model.specs.Keeps.{Tables, Guard, guardOf, vectorBytes}
 use Rattle.model.specs.Policy.{policyOf, numberAt}
 use Rattle.model.specs.Questions.{firstNo}
-use Rattle.model.specs.Calls.{Outcome, refused, replyOf, outcomeBy, settle}
-use Rattle.model.specs.Lists.{answer}
+use Rattle.model.specs.Calls.{Outcome, refused, replyOf, outcomeBy, settle, answer}
 use Rattle.model.specs.Drill.{policyExtent, kindOf, indexOf, lengthOf, valueOf, edited, callOf, withGuard, performed, line, startLine, turnOf, turn}
 use Rattle.model.proofs.QuestionLaws.{within-high}
 use Rattle.turns.specs.declared.Turned.{Turned}
-use Rattle.turns.specs.Turns.{guardOf, drillOf, editedBy, performedBy, turnedBy, openingOf, openedBy, pagesLent, bytesLent, goesOn, leftAfter}
+use Rattle.turns.specs.Turns.{drillOf, editedBy, performedBy, turnedBy, openingOf, openedBy, pagesLent, bytesLent, goesOn, leftAfter}
 
 -- The policy's extent, with n in its range and outside.
 pub extent-more : {count : ℕ} {t : Bool} (input : List ℕ) → count ≡ numberAt input 4 → t ≡ within 1 2048 count → t ≡ true → 8 + 4 * count ≡ policyExtent input
@@ -69,11 +68,11 @@ unfolding replyOf
 refused-by n p = rw p
 
 -- The start, its line and whether calls follow.
-pub opening-is : (r : Called) (l : Line) (b : Bool) (o : Outcome) (shadow map exclusion : List ℕ) → outcomeBy r shadow map exclusion ≡ o
+pub opening-is : (r : Called) (l : Line) (b : Bool) (o : Outcome) (t : Tables) → outcomeBy r t ≡ o
     → text l ≡ line 83 (replyOf (r .answer)) (r .state .mode) → b ≡ eqb (replyOf (r .answer) .number) 0
-    → openedBy (record { state = r .state; line = l; goes = b }) shadow map exclusion ≡ openingOf o
+    → openedBy (record { state = r .state; line = l; goes = b }) t ≡ openingOf o
 unfolding openedBy openingOf outcomeBy startLine
-opening-is r l b o shadow map exclusion e f g = rw (← e, f, g)
+opening-is r l b o t e f g = rw (← e, f, g)
 
 -- The calls left after one: none where none was left, one less, and none where it ended the calls.
 pub left-none : (left : ℕ) (goes : Bool) → left ≡ 0 → left ≡ leftAfter left goes
@@ -121,49 +120,49 @@ pub edit-past : {t : Bool} (page pages value : ℕ) (kernel : List ℕ) → t �
 edit-past page pages value kernel e p q g h = rw (set-out kernel page value q) at (edit-done page pages value kernel e p g h)
 
 -- The call of a kind: an edit, and a guard's call.
-module _ (s : State) (kernel shadow map exclusion : List ℕ) (kind index length value : ℕ) where
+module _ (s : State) (kernel : List ℕ) (t : Tables) (kind index length value : ℕ) where
   pub edit-performed : (r : Answer) (kernel′ : List ℕ) → kind ≡ 0
       → ((g : Guard) → g .state .pages ≡ s .pages → editedBy r (drillOf g kernel′) ≡ edited (drillOf g kernel) index value)
-      → performedBy (record { answer = r; state = s }) kernel′ shadow map exclusion
-      ≡ performed (drillOf (guardOf s shadow map exclusion) kernel) kind index length value
+      → performedBy (record { answer = r; state = s }) kernel′ t
+      ≡ performed (drillOf (guardOf s t) kernel) kind index length value
   unfolding performed performedBy editedBy
-  edit-performed r kernel′ p h = rw p (h (guardOf s shadow map exclusion) refl)
+  edit-performed r kernel′ p h = rw p (h (guardOf s t) refl)
 
-  pub call-performed : (r : Called) (shadow′ map′ : List ℕ) → (kind ≡ 0 → ⊥)
-      → outcomeBy r shadow′ map′ exclusion ≡ answer (guardOf s shadow map exclusion) (callOf kernel kind index length value)
-      → performedBy r kernel shadow′ map′ exclusion ≡ performed (drillOf (guardOf s shadow map exclusion) kernel) kind index length value
+  pub call-performed : (r : Called) (t′ : Tables) → (kind ≡ 0 → ⊥)
+      → outcomeBy r t′ ≡ answer (guardOf s t) (callOf kernel kind index length value)
+      → performedBy r kernel t′ ≡ performed (drillOf (guardOf s t) kernel) kind index length value
   unfolding performed performedBy outcomeBy withGuard
-  call-performed r shadow′ map′ p e = rw (ne-eqb kind 0 p, ← e)
+  call-performed r t′ p e = rw (ne-eqb kind 0 p, ← e)
 
 -- A turn: of no bytes, of too few or too many, of no kind, and of a call.
-module _ (s : State) (kernel shadow map exclusion : List ℕ) where
+module _ (s : State) (kernel : List ℕ) (t : Tables) where
   pub turn-none : (call : List ℕ) (l : Line) → length call ≡ 0 → text l ≡ []
-      → turnedBy (record { state = s; line = l; goes = false }) kernel shadow map exclusion ≡ turn (drillOf (guardOf s shadow map exclusion) kernel) call
+      → turnedBy (record { state = s; line = l; goes = false }) kernel t ≡ turn (drillOf (guardOf s t) kernel) call
   unfolding turn turnedBy
   turn-none [] l p e = rw e
   turn-none (kind ∷ rest) l p e = absurd (let q : ⊥ = omega arith in q)
 
   pub turn-cut : (call : List ℕ) (r : Turned) → (length call ≡ 0 → ⊥) → (length call ≡ 16 → ⊥) → r .state ≡ s
       → text (r .line) ≡ line 88 (refused 14) (s .mode) → r .goes ≡ false
-      → turnedBy r kernel shadow map exclusion ≡ turn (drillOf (guardOf s shadow map exclusion) kernel) call
+      → turnedBy r kernel t ≡ turn (drillOf (guardOf s t) kernel) call
   unfolding turn turnedBy kindOf firstNo settle
   turn-cut [] r p q e f g = absurd (p refl)
   turn-cut (kind ∷ rest) r p q e f g = rw (e, f, g, ne-eqb (length (kind ∷ rest)) 16 q)
 
   pub turn-unknown : (call : List ℕ) (r : Turned) → (length call ≡ 0 → ⊥) → length call ≡ 16 → 7 < getD call 0 0 → r .state ≡ s
       → text (r .line) ≡ line 88 (refused 15) (s .mode) → r .goes ≡ false
-      → turnedBy r kernel shadow map exclusion ≡ turn (drillOf (guardOf s shadow map exclusion) kernel) call
+      → turnedBy r kernel t ≡ turn (drillOf (guardOf s t) kernel) call
   unfolding turn turnedBy kindOf firstNo settle
   turn-unknown [] r p q h e f g = absurd (p refl)
   turn-unknown (kind ∷ rest) r p q h e f g = rw (e, f, g, eq-eqb (length (kind ∷ rest)) 16 q, le-ltb kind 8 h)
 
-  pub turn-made : (call : List ℕ) (r : Called) (l : Line) (kernel′ shadow′ map′ : List ℕ) (index size value : ℕ) → (length call ≡ 0 → ⊥)
+  pub turn-made : (call : List ℕ) (r : Called) (l : Line) (kernel′ : List ℕ) (t′ : Tables) (index size value : ℕ) → (length call ≡ 0 → ⊥)
       → length call ≡ 16 → getD call 0 0 ≤ 7 → index ≡ indexOf call → size ≡ lengthOf call → value ≡ valueOf call
-      → performedBy r kernel′ shadow′ map′ exclusion ≡ performed (drillOf (guardOf s shadow map exclusion) kernel) (getD call 0 0) index size value
+      → performedBy r kernel′ t′ ≡ performed (drillOf (guardOf s t) kernel) (getD call 0 0) index size value
       → text l ≡ line (48 + getD call 0 0) (replyOf (r .answer)) (r .state .mode)
-      → turnedBy (record { state = r .state; line = l; goes = true }) kernel′ shadow′ map′ exclusion
-      ≡ turn (drillOf (guardOf s shadow map exclusion) kernel) call
+      → turnedBy (record { state = r .state; line = l; goes = true }) kernel′ t′
+      ≡ turn (drillOf (guardOf s t) kernel) call
   unfolding turn turnedBy kindOf turnOf performedBy firstNo settle
-  turn-made [] r l kernel′ shadow′ map′ index size value p q h a b c d f = absurd (p refl)
-  turn-made (kind ∷ rest) r l kernel′ shadow′ map′ index size value p q h a b c d f =
+  turn-made [] r l kernel′ t′ index size value p q h a b c d f = absurd (p refl)
+  turn-made (kind ∷ rest) r l kernel′ t′ index size value p q h a b c d f =
       rw (eq-eqb (length (kind ∷ rest)) 16 q, lt-ltb kind 8 (let k : kind < 8 = omega arith in k), ← a, ← b, ← c, ← d, f)

@@ -1,24 +1,19 @@
--- The drill made of a state and the tables, and what the functions of the drill leave, as records of the model.
+-- The drill made of a guard and the kernel table, and what the functions of the drill leave, as records of the model.
 use Prim.Native.Nat.{ℕ, _-_}
 use mathlib.Core.Bool.{Bool, true, cond}
 use mathlib.Core.List.{List, _++_}
 use mathlib.Core.Path.{_≡_}
 use lib.Dec.{ltb, eqb}
 use lib.ListN.{take, drop, replicate}
-use Rattle.model.specs.declared.State.{State}
 use Rattle.model.specs.declared.Answer.{Answer}
 use Rattle.model.specs.declared.Called.{Called}
 use Rattle.model.specs.Edges.{pagesInRange, framesInRange}
-use Rattle.model.specs.Keeps.{Guard, vectorBytes}
-use Rattle.model.specs.Policy.{policyOf}
+use Rattle.model.specs.Keeps.{Tables, tables, Guard, guardOf, vectorBytes}
+use Rattle.model.specs.Policy.{nothingGiven, policyOf}
 use Rattle.model.specs.Calls.{Outcome, replyOf, startOf}
 use Rattle.model.specs.Drill.{Drill, Drilled, Turn, drillStart, startLine, turn, closing, callLines}
 use Rattle.lines.specs.Text.{text}
 use Rattle.turns.specs.declared.Turned.{Turned}
-
--- The guard made of a state and the tables, and the drill made of a guard and the kernel table.
-abbrev pub guardOf : State → List ℕ → List ℕ → List ℕ → Guard
-guardOf s shadow map exclusion = record { state = s; shadow = shadow; map = map; exclusion = exclusion }
 
 abbrev pub drillOf : Guard → List ℕ → Drill
 drillOf g kernel = record { guard = g; kernel = kernel }
@@ -27,13 +22,12 @@ drillOf g kernel = record { guard = g; kernel = kernel }
 unfoldable pub editedBy : Answer → Drill → Drilled
 editedBy r d = record { reply = replyOf r; drill = d }
 
-unfoldable pub performedBy : Called → List ℕ → List ℕ → List ℕ → List ℕ → Drilled
-performedBy r kernel shadow map exclusion = record { reply = replyOf (r .answer); drill = drillOf (guardOf (r .state) shadow map exclusion) kernel }
+unfoldable pub performedBy : Called → List ℕ → Tables → Drilled
+performedBy r kernel t = record { reply = replyOf (r .answer); drill = drillOf (guardOf (r .state) t) kernel }
 
 -- What a turn leaves.
-unfoldable pub turnedBy : Turned → List ℕ → List ℕ → List ℕ → List ℕ → Turn
-turnedBy r kernel shadow map exclusion =
-    record { drill = drillOf (guardOf (r .state) shadow map exclusion) kernel; line = text (r .line); goes = r .goes }
+unfoldable pub turnedBy : Turned → List ℕ → Tables → Turn
+turnedBy r kernel t = record { drill = drillOf (guardOf (r .state) t) kernel; line = text (r .line); goes = r .goes }
 
 -- The start's guard, its line, and whether calls follow it: "A refused start prints its line alone."
 pub record Opening : Type 0 where
@@ -44,8 +38,8 @@ pub record Opening : Type 0 where
 unfoldable pub openingOf : Outcome → Opening
 openingOf start = record { guard = start .guard; line = startLine start; goes = eqb (start .reply .number) 0 }
 
-unfoldable pub openedBy : Turned → List ℕ → List ℕ → List ℕ → Opening
-openedBy r shadow map exclusion = record { guard = guardOf (r .state) shadow map exclusion; line = text (r .line); goes = r .goes }
+unfoldable pub openedBy : Turned → Tables → Opening
+openedBy r t = record { guard = guardOf (r .state) t; line = text (r .line); goes = r .goes }
 
 -- How many pages, and how many bytes of the exclusion vector, the start of a record is lent. A V or an F out of range lends nothing: question 2
 -- refuses it before any table is looked at.
@@ -57,7 +51,9 @@ bytesLent record′ = cond (framesInRange (policyOf record′ .frames)) (vectorB
 
 -- The start as the drill makes it: on tables of those lengths, all zeros.
 unfoldable pub lentStart : List ℕ → Outcome
-lentStart record′ = startOf record′ (replicate (pagesLent record′) 0) (replicate (pagesLent record′) 0) (replicate (bytesLent record′) 0)
+lentStart record′ =
+    startOf nothingGiven record′
+    (tables (replicate (pagesLent record′) 0) (replicate (pagesLent record′) 0) (replicate (bytesLent record′) 0))
 
 -- On every record it opens the drill as the model's start does: the same line, calls in the same cases, and where they follow the same guard.
 unfoldable pub OpensAsDefined : Type 0

@@ -5,13 +5,13 @@ ghost use mathlib.Core.Path.{_≡_};
 ghost use Prim.Native.Nat.{_+_, _*_, _^_, _≤_, _<_};
 ghost use mathlib.Core.Bool.{false};
 ghost use lib.Dec.{eqb};
-ghost use Rattle.model.specs.Keeps.{Guard};
-ghost use Rattle.model.specs.Calls.{refused, replyOf, outcomeBy, startOf};
-ghost use Rattle.model.specs.Lists.{answer};
+ghost use Rattle.model.specs.Keeps.{tables, Guard, guardOf};
+ghost use Rattle.model.specs.Policy.{nothingGiven};
+ghost use Rattle.model.specs.Calls.{refused, replyOf, outcomeBy, startOf, answer};
 ghost use Rattle.model.specs.Drill;
 ghost use Rattle.model.specs.Drill.{callLimit, policyExtent, indexOf, lengthOf, valueOf, edited, callOf, performed, line};
 ghost use Rattle.lines.specs.Text.{text};
-ghost use Rattle.turns.specs.Turns.{guardOf, drillOf, editedBy, performedBy, turnedBy, openingOf, openedBy, pagesLent, bytesLent, OpensAsDefined, goesOn, leftAfter, LoopsAsDefined};
+ghost use Rattle.turns.specs.Turns.{drillOf, editedBy, performedBy, turnedBy, openingOf, openedBy, pagesLent, bytesLent, OpensAsDefined, goesOn, leftAfter, LoopsAsDefined};
 use lines::Line;
 use model::Answer;
 use model::Called;
@@ -71,7 +71,8 @@ fn accepted(answer: Answer) -> bool
 
 // The start, with its line. Calls follow where it is accepted.
 pub fn open(bytes: &[u8], shadow: &mut [u64], map: &mut [u16], exclusion: &mut [u8]) -> Turned
-    ensures { λ r. ⌜ openedBy r (now (shadow .exit)) (now (map .exit)) (now (exclusion .exit)) ≡ openingOf (startOf (now (bytes .entry)) (now (shadow .entry)) (now (map .entry)) (now (exclusion .entry))) ⌝ }
+    ensures { λ r. ⌜ openedBy r (tables (now (shadow .exit)) (now (map .exit)) (now (exclusion .exit)))
+        ≡ openingOf (startOf nothingGiven (now (bytes .entry)) (tables (now (shadow .entry)) (now (map .entry)) (now (exclusion .entry)))) ⌝ }
 {
     let started = start::start(bytes, shadow, map, exclusion);
     let answer = started.answer;
@@ -160,7 +161,8 @@ fn value_of(call: &[u8]) -> u64
 
 // Kind 0. The guard's part of the drill stays as it is, whatever it is; question 9 looks at its V alone.
 fn edit(pages: u16, kernel: &mut [u64], page: u64, value: u64) -> Answer
-    ensures { λ r. ⌜ ((g : Guard) → g .state .pages ≡ pages → editedBy r (drillOf g (now (kernel .exit))) ≡ edited (drillOf g (now (kernel .entry))) page value) ⌝ }
+    ensures { λ r. ⌜ ((g : Guard) → g .state .pages ≡ pages
+        → editedBy r (drillOf g (now (kernel .exit))) ≡ edited (drillOf g (now (kernel .entry))) page value) ⌝ }
 {
     if !questions::page_exists(page, pages) {
         return Answer::Refused(9);
@@ -183,7 +185,9 @@ fn call(
     length: u64,
     value: u64,
 ) -> Called
-    ensures { λ r. ⌜ outcomeBy r (now (shadow .exit)) (now (map .exit)) (now (exclusion .entry)) ≡ answer (guardOf s (now (shadow .entry)) (now (map .entry)) (now (exclusion .entry))) (callOf (now (kernel .entry)) kind index length value) ⌝ }
+    ensures { λ r. ⌜ outcomeBy r (tables (now (shadow .exit)) (now (map .exit)) (now (exclusion .entry)))
+        ≡ answer (guardOf s (tables (now (shadow .entry)) (now (map .entry)) (now (exclusion .entry))))
+        (callOf (now (kernel .entry)) kind index length value) ⌝ }
 {
     if kind == 1 {
         let answer = sync::sync_page(s, kernel, shadow, map, exclusion, index);
@@ -222,7 +226,9 @@ fn perform(
     length: u64,
     value: u64,
 ) -> Called
-    ensures { λ r. ⌜ performedBy r (now (kernel .exit)) (now (shadow .exit)) (now (map .exit)) (now (exclusion .entry)) ≡ performed (drillOf (guardOf s (now (shadow .entry)) (now (map .entry)) (now (exclusion .entry))) (now (kernel .entry))) kind index length value ⌝ }
+    ensures { λ r. ⌜ performedBy r (now (kernel .exit)) (tables (now (shadow .exit)) (now (map .exit)) (now (exclusion .entry)))
+        ≡ performed (drillOf (guardOf s (tables (now (shadow .entry)) (now (map .entry)) (now (exclusion .entry)))) (now (kernel .entry)))
+        kind index length value ⌝ }
 {
     if kind == 0 {
         let answer = edit(s.pages, kernel, index, value);
@@ -262,7 +268,9 @@ pub fn turn(
     exclusion: &[u8],
     call: &[u8],
 ) -> Turned
-    ensures { λ r. ⌜ turnedBy r (now (kernel .exit)) (now (shadow .exit)) (now (map .exit)) (now (exclusion .entry)) ≡ Drill.turn (drillOf (guardOf s (now (shadow .entry)) (now (map .entry)) (now (exclusion .entry))) (now (kernel .entry))) (now (call .entry)) ⌝ }
+    ensures { λ r. ⌜ turnedBy r (now (kernel .exit)) (tables (now (shadow .exit)) (now (map .exit)) (now (exclusion .entry)))
+        ≡ Drill.turn (drillOf (guardOf s (tables (now (shadow .entry)) (now (map .entry)) (now (exclusion .entry)))) (now (kernel .entry)))
+        (now (call .entry)) ⌝ }
 {
     if call.len() == 0 {
         return Turned {

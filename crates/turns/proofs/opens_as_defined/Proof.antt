@@ -6,9 +6,10 @@ use mathlib.Core.Path.{_≡_, refl}
 use lib.Dec.{leb, eqb}
 use lib.ListN.{length}
 use Rattle.model.specs.Edges.{pagesInRange, framesInRange}
-use Rattle.model.specs.Policy.{policyOf, zeroState}
-use Rattle.model.specs.Questions.{firstNo, sizesInRange, startQuestions}
-use Rattle.model.specs.Calls.{Outcome, refused, settle, startOf}
+use Rattle.model.specs.Keeps.{Tables, guardOf}
+use Rattle.model.specs.Policy.{nothingGiven, policyOf, zeroState}
+use Rattle.model.specs.Questions.{firstNo, sizesInRange, policyQuestions, recordQuestions, startQuestions}
+use Rattle.model.specs.Calls.{Outcome, nothingBrought, refusedOf, settle, startOf}
 use Rattle.model.specs.Drill.{drillStart, startLine}
 use Rattle.model.proofs.QuestionLaws.{both-no, both-no-after}
 use Rattle.turns.specs.Turns.{Opening, openingOf, pagesLent, bytesLent, lentStart, OpensAsDefined}
@@ -20,41 +21,36 @@ Same : Opening → Opening → Type 0
 Same a b = (a .line ≡ b .line) × (a .goes ≡ b .goes) × (a .goes ≡ true → a .guard ≡ b .guard)
 
 -- A start whose V or F is out of range, on any tables.
-outside : List ℕ → List ℕ → List ℕ → List ℕ → Outcome
-outside bytes shadow map exclusion =
-    record {
-      reply = refused (cond (leb 8 (length bytes)) 2 1);
-      guard = record { state = zeroState; shadow = shadow; map = map; exclusion = exclusion };
-    }
+outside : List ℕ → Tables → Outcome
+outside bytes t = refusedOf (guardOf zeroState t) nothingBrought (cond (leb 8 (length bytes)) 2 1)
 
 module _ (bytes : List ℕ) where
-  start-outside : (shadow map exclusion : List ℕ) → sizesInRange (policyOf bytes) ≡ false
-      → startOf bytes shadow map exclusion ≡ outside bytes shadow map exclusion
-  unfolding startOf startQuestions firstNo settle outside
-  start-outside shadow map exclusion p = at (leb 8 (length bytes)) refl
+  start-outside : (t : Tables) → sizesInRange (policyOf bytes) ≡ false → startOf nothingGiven bytes t ≡ outside bytes t
+  unfolding startOf startQuestions recordQuestions policyQuestions firstNo settle outside
+  start-outside t p = at (leb 8 (length bytes)) refl
     where
-      at : (b : Bool) → leb 8 (length bytes) ≡ b → startOf bytes shadow map exclusion ≡ outside bytes shadow map exclusion
+      at : (b : Bool) → leb 8 (length bytes) ≡ b → startOf nothingGiven bytes t ≡ outside bytes t
       at true e = rw (e, p) refl
       at false e = rw e refl
 
-  same-outside : (s m x s′ m′ x′ : List ℕ) → Same (openingOf (outside bytes s m x)) (openingOf (outside bytes s′ m′ x′))
+  same-outside : (t t′ : Tables) → Same (openingOf (outside bytes t)) (openingOf (outside bytes t′))
   unfolding Same openingOf outside startLine
-  same-outside s m x s′ m′ x′ = (refl, refl, at (leb 8 (length bytes)))
+  same-outside t t′ = (refl, refl, at (leb 8 (length bytes)))
     where
-      at : (b : Bool) → eqb (cond b 2 1) 0 ≡ true → openingOf (outside bytes s m x) .guard ≡ openingOf (outside bytes s′ m′ x′) .guard
+      at : (b : Bool) → eqb (cond b 2 1) 0 ≡ true → openingOf (outside bytes t) .guard ≡ openingOf (outside bytes t′) .guard
       at true h = absurd (false≢true h)
       at false h = absurd (false≢true h)
 
-  opens-outside : (s m x s′ m′ x′ : List ℕ) → sizesInRange (policyOf bytes) ≡ false
-      → Same (openingOf (startOf bytes s m x)) (openingOf (startOf bytes s′ m′ x′))
-  opens-outside s m x s′ m′ x′ p = rw (start-outside s m x p, start-outside s′ m′ x′ p) (same-outside s m x s′ m′ x′)
+  opens-outside : (t t′ : Tables) → sizesInRange (policyOf bytes) ≡ false
+      → Same (openingOf (startOf nothingGiven bytes t)) (openingOf (startOf nothingGiven bytes t′))
+  opens-outside t t′ p = rw (start-outside t p, start-outside t′ p) (same-outside t t′)
 
   opens : (v f : Bool) → pagesInRange (policyOf bytes .pages) ≡ v → framesInRange (policyOf bytes .frames) ≡ f
       → Same (openingOf (lentStart bytes)) (openingOf (drillStart bytes))
   unfolding lentStart drillStart pagesLent bytesLent sizesInRange Same
   opens true true p q = rw (p, q) (refl, refl, λ h. refl)
-  opens false f p q = opens-outside _ _ _ _ _ _ (both-no _ p)
-  opens true false p q = opens-outside _ _ _ _ _ _ (both-no-after _ q)
+  opens false f p q = opens-outside _ _ (both-no _ p)
+  opens true false p q = opens-outside _ _ (both-no-after _ q)
 
 returns : tie.Need-returns
 unfolding OpensAsDefined Same
