@@ -32,6 +32,10 @@ withMap map t = record { shadow = t .shadow; map = map; exclusion = t .exclusion
 abbrev pub withExclusion : List ℕ → Tables → Tables
 withExclusion exclusion t = record { shadow = t .shadow; map = t .map; exclusion = exclusion }
 
+-- The tables with all three in their places, as a synchronisation is lent them.
+abbrev pub withThree : List ℕ → List ℕ → List ℕ → Tables → Tables
+withThree shadow map exclusion t = withShadow shadow (withMap map (withExclusion exclusion t))
+
 -- What the guard keeps: the state, and its tables.
 pub record Guard : Type 0 where
   pub state : State

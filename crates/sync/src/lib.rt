@@ -7,7 +7,7 @@ use model::State;
 ghost use mathlib.Core.Path.{_≡_};
 ghost use Prim.Native.Nat.{_+_, _<_, _≤_};
 ghost use lib.ListN.{length, getD, set};
-ghost use Rattle.model.specs.Keeps.{Tables, withShadow, withMap, withExclusion, guardOf, vectorBytes};
+ghost use Rattle.model.specs.Keeps.{Tables, withThree, guardOf, vectorBytes};
 ghost use Rattle.model.specs.Sync;
 ghost use Rattle.model.specs.Sync.{place, differs, run, runFrom, stepFrom};
 ghost use Rattle.model.specs.Calls.{keptBy, syncPage, syncAll, answer};
@@ -146,8 +146,8 @@ pub fn sync_page(
     exclusion: &[u8],
     page: u64,
 ) -> Answer
-    ensures { λ r. ⌜ ((t : Tables) → keptBy r s (withShadow (now (shadow .exit)) (withMap (now (map .exit)) (withExclusion (now (exclusion .entry)) t)))
-        ≡ answer (guardOf s (withShadow (now (shadow .entry)) (withMap (now (map .entry)) (withExclusion (now (exclusion .entry)) t))))
+    ensures { λ r. ⌜ ((t : Tables) → keptBy r s (withThree (now (shadow .exit)) (now (map .exit)) (now (exclusion .entry)) t)
+        ≡ answer (guardOf s (withThree (now (shadow .entry)) (now (map .entry)) (now (exclusion .entry)) t))
         (syncPage (now (kernel .entry)) page)) ⌝ }
 {
     if !questions::sync_in_order(s, kernel.len(), shadow.len(), map.len(), exclusion.len()) {
@@ -183,8 +183,8 @@ pub fn sync_all(
     map: &mut [u16],
     exclusion: &[u8],
 ) -> Answer
-    ensures { λ r. ⌜ ((t : Tables) → keptBy r s (withShadow (now (shadow .exit)) (withMap (now (map .exit)) (withExclusion (now (exclusion .entry)) t)))
-        ≡ answer (guardOf s (withShadow (now (shadow .entry)) (withMap (now (map .entry)) (withExclusion (now (exclusion .entry)) t))))
+    ensures { λ r. ⌜ ((t : Tables) → keptBy r s (withThree (now (shadow .exit)) (now (map .exit)) (now (exclusion .entry)) t)
+        ≡ answer (guardOf s (withThree (now (shadow .entry)) (now (map .entry)) (now (exclusion .entry)) t))
         (syncAll (now (kernel .entry)))) ⌝ }
 {
     if !questions::sync_in_order(s, kernel.len(), shadow.len(), map.len(), exclusion.len()) {

@@ -128,7 +128,7 @@ fn constants(source: &str) -> Vec<(String, String)> {
 
 #[test]
 fn the_layout_is_that_of_the_rattle_source() {
-    let expected = constants(&read("crates/runs/src/lib.rt"));
+    let expected = constants(&read("crates/words/src/lib.rt"));
     assert!(!expected.is_empty());
     assert_eq!(constants(&read("rust/guard/src/archive.rs")), expected);
 }

@@ -1,0 +1,55 @@
+-- Laws of the exported start: the runs do not fit, or they do.
+use Prim.Native.Nat.{ℕ, zero, suc}
+use mathlib.Core.Bool.{Bool, true, false, not, cond}
+use mathlib.Core.List.{List}
+use mathlib.Core.Path.{_≡_, refl, sym, ap, _∙_}
+use borrow.Author.Tests.{not-true, not-false}
+use native.Mathlib.Omega.{arith}
+use Rattle.model.specs.declared.Answer.the-variants.{Refused}
+use Rattle.model.specs.declared.Called.{Called}
+use Rattle.model.specs.Keeps.{Tables}
+use Rattle.model.specs.Policy.{Givens, nothingGiven, policyOf}
+use Rattle.model.specs.Questions.{firstNo, recordQuestions, Lengths, lengthsOf, lengthsFit, startQuestions}
+use Rattle.model.specs.Calls.{replyOf, settle, Outcome, outcomeBy, startOf}
+use Rattle.model.proofs.QuestionLaws.{settle-accepted}
+use Rattle.policy.proofs.RecordLaws.{start-refused, start-asked}
+use Rattle.words.specs.Words.{runsFit, runStarted}
+use Rattle.boundary.specs.Boundary.{left, replied, startAt}
+use Rattle.boundary.proofs.BoundaryLaws.{Says}
+
+-- The number of a start is that of its first no.
+settled-reply : (n : ℕ) (done : Outcome) (refusal : ℕ → Outcome) → done .reply .number ≡ 0 → ((k : ℕ) → refusal k .reply .number ≡ k)
+    → settle n done refusal .reply .number ≡ n
+unfolding settle
+settled-reply zero done refusal p q = p
+settled-reply (suc n) done refusal p q = q (suc n)
+
+start-number : (given : Givens) (bytes : List ℕ) (t : Tables)
+    → startOf given bytes t .reply .number ≡ firstNo (startQuestions given bytes (policyOf bytes) (lengthsOf t))
+unfolding startOf
+start-number given bytes t = settled-reply _ _ _ refl (λ k. refl)
+
+-- Questions 1 to 6, and else 7: the same of the record alone as of the whole start.
+seven : (n : ℕ) (b : Bool) → n ≡ cond b 0 7 → settle n 7 (λ k. k) ≡ 7
+unfolding settle
+seven n true e = rw e refl
+seven n false e = rw e refl
+
+by-record : (bytes : List ℕ) (l : Lengths) (n : ℕ) → n ≡ firstNo (recordQuestions nothingGiven bytes (policyOf bytes))
+    → settle (firstNo (startQuestions nothingGiven bytes (policyOf bytes) l)) 7 (λ k. k) ≡ settle n 7 (λ k. k)
+by-record bytes l zero e =
+    seven _ (lengthsFit (policyOf bytes) l) (start-asked bytes 0 l e refl) ∙ sym (settle-accepted 7 (λ k. k) refl)
+by-record bytes l (suc n) e = ap (λ (m : ℕ). settle m 7 (λ k. k)) (start-refused bytes (suc n) l e (λ z. omega arith))
+
+module _ (bytes run numbers after : List ℕ) (t : Tables) (r : ℕ) (b : Bool) (asks : b ≡ runsFit run numbers) where
+  pub start-unfit : (q : ℕ) → not b ≡ true → q ≡ settle (firstNo (recordQuestions nothingGiven bytes (policyOf bytes))) 7 (λ n. n)
+      → Says (Refused q) r numbers after → left r run after t ≡ startAt nothingGiven bytes run numbers t
+  unfolding startAt replied replyOf
+  start-unfit q short e says =
+      rw (sym asks ∙ not-true b short, start-number nothingGiven bytes t, by-record bytes (lengthsOf t) _ refl, sym e, says .0, says .1) refl
+
+  pub started : (runs : List ℕ) (t′ : Tables) (c : Called) → not b ≡ false → outcomeBy c t′ ≡ startOf nothingGiven bytes t
+      → Says (c .answer) r numbers after → runs ≡ runStarted run (replyOf (c .answer)) (c .state)
+      → left r runs after t′ ≡ startAt nothingGiven bytes run numbers t
+  unfolding startAt replied outcomeBy
+  started runs t′ c fits e says put = rw (sym asks ∙ not-false b fits, sym e, says .0, says .1, put) refl

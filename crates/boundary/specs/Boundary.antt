@@ -1,0 +1,44 @@
+-- What each exported call returns and leaves, on every input: the model's answer on the decoded state, behind the boundary's part of question 7.
+use Prim.Native.Nat.{ℕ}
+use mathlib.Core.Bool.{true, cond}
+use mathlib.Core.List.{List}
+use mathlib.Core.Path.{_≡_}
+use Rattle.model.specs.Keeps.{Tables, guardOf}
+use Rattle.model.specs.Policy.{Givens}
+use Rattle.model.specs.Calls.{Reply, refused, settle, Outcome, startOf, Call, answer}
+use Rattle.words.specs.Words.{stateIn, withNumbers, runsFit, lendable, runAfter, runStarted}
+
+-- What a call returns, both runs at its exit, and the guard's tables then.
+pub record Left : Type 0 where
+  pub number : ℕ
+  pub state : List ℕ
+  pub numbers : List ℕ
+  pub tables : Tables
+
+abbrev pub left : ℕ → List ℕ → List ℕ → Tables → Left
+left number state numbers t = record { number = number; state = state; numbers = numbers; tables = t }
+
+-- A reply: its number is returned, and its two numbers go to the numbers run.
+unfoldable pub replied : Reply → List ℕ → List ℕ → Tables → Left
+replied reply run numbers t = left (reply .number) run (withNumbers numbers (reply .first) (reply .second)) t
+
+-- Every call but the start. Question 7 comes first: where a run cannot be lent, it refuses, and changes neither the state run nor a table.
+unfoldable pub callAt : List ℕ → List ℕ → Tables → Call → Left
+callAt run numbers t call =
+    let o : Outcome = answer (guardOf (stateIn run) t) call in
+    cond (lendable run numbers) (replied (o .reply) (runAfter run (o .reply) (o .guard .state)) numbers (o .guard .tables))
+    (replied (refused 7) run numbers t)
+
+-- The start asks its own questions first, whose last is 7, and then for the lengths of both runs. What the state run holds is not read.
+unfoldable pub startAt : Givens → List ℕ → List ℕ → List ℕ → Tables → Left
+startAt given bytes run numbers t =
+    let o : Outcome = startOf given bytes t in
+    cond (runsFit run numbers) (replied (o .reply) (runStarted run (o .reply) (o .guard .state)) numbers (o .guard .tables))
+    (replied (refused (settle (o .reply .number) 7 (λ n. n))) run numbers t)
+
+-- Where both runs can be lent, the state run holds after every call the state that the call's definition answers. An accepted start's words
+-- decode to its state by `words::put_state`.
+unfoldable pub StateHeld : Type 0
+StateHeld =
+    (run numbers : List ℕ) (t : Tables) (call : Call) → lendable run numbers ≡ true
+    → stateIn (callAt run numbers t call .state) ≡ answer (guardOf (stateIn run) t) call .guard .state

@@ -1,0 +1,150 @@
+// The guard's calls on numbers and lent runs: a number out. The crate `exports` hands them to C, and include/guard.h documents them.
+// Each promises what the model answers on the decoded state, by one equation on all inputs.
+
+ghost use mathlib.Core.Path.{_≡_};
+ghost use Rattle.model.specs.Keeps.{Tables, tables, withShadow, withExclusion, withThree};
+ghost use Rattle.model.specs.Policy.{nothingGiven, policyOf};
+ghost use Rattle.model.specs.Questions.{firstNo, recordQuestions};
+ghost use Rattle.model.specs.Calls;
+ghost use Rattle.model.specs.Calls.{settle, syncPage, syncAll, deviceWrite};
+ghost use Rattle.boundary.specs.Boundary.{left, startAt, callAt, StateHeld};
+use model::Answer;
+
+// The refusal of a start whose runs do not fit: the record's questions come first.
+fn start_refusal(policy: &[u8]) -> u64
+    ensures { λ r. ⌜ r ≡ settle (firstNo (recordQuestions nothingGiven (now (policy .entry)) (policyOf (now (policy .entry))))) 7 (λ n. n) ⌝ }
+{
+    let number = policy::record_question(policy);
+    if number == 0 { 7 } else { number }
+}
+
+pub fn start(
+    policy: &[u8],
+    state: &mut [u64],
+    shadow: &mut [u64],
+    map: &mut [u16],
+    exclusion: &mut [u8],
+    numbers: &mut [u64],
+) -> u64
+    ensures { λ r. ⌜ left r (now (state .exit)) (now (numbers .exit)) (tables (now (shadow .exit)) (now (map .exit)) (now (exclusion .exit)))
+        ≡ startAt nothingGiven (now (policy .entry)) (now (state .entry)) (now (numbers .entry)) (tables (now (shadow .entry)) (now (map .entry)) (now (exclusion .entry))) ⌝ }
+{
+    if !words::runs_fit(state, numbers) {
+        let number = start_refusal(policy);
+        return words::reply(numbers, Answer::Refused(number));
+    }
+    let called = start::start(policy, shadow, map, exclusion);
+    words::put_started(state, numbers, called)
+}
+
+// Synchronise one page.
+pub fn sync_page(
+    state: &[u64],
+    kernel: &[u64],
+    shadow: &mut [u64],
+    map: &mut [u16],
+    exclusion: &[u8],
+    page: u64,
+    numbers: &mut [u64],
+) -> u64
+    ensures { λ r. ⌜ ((t : Tables) → left r (now (state .entry)) (now (numbers .exit)) (withThree (now (shadow .exit)) (now (map .exit)) (now (exclusion .entry)) t)
+        ≡ callAt (now (state .entry)) (now (numbers .entry)) (withThree (now (shadow .entry)) (now (map .entry)) (now (exclusion .entry)) t) (syncPage (now (kernel .entry)) page)) ⌝ }
+{
+    if !words::usable(state, numbers) {
+        return words::reply(numbers, Answer::Refused(7));
+    }
+    let answer = sync::sync_page(words::state_in(state), kernel, shadow, map, exclusion, page);
+    words::reply(numbers, answer)
+}
+
+// Synchronise all pages.
+pub fn sync_all(
+    state: &[u64],
+    kernel: &[u64],
+    shadow: &mut [u64],
+    map: &mut [u16],
+    exclusion: &[u8],
+    numbers: &mut [u64],
+) -> u64
+    ensures { λ r. ⌜ ((t : Tables) → left r (now (state .entry)) (now (numbers .exit)) (withThree (now (shadow .exit)) (now (map .exit)) (now (exclusion .entry)) t)
+        ≡ callAt (now (state .entry)) (now (numbers .entry)) (withThree (now (shadow .entry)) (now (map .entry)) (now (exclusion .entry)) t) (syncAll (now (kernel .entry)))) ⌝ }
+{
+    if !words::usable(state, numbers) {
+        return words::reply(numbers, Answer::Refused(7));
+    }
+    let answer = sync::sync_all(words::state_in(state), kernel, shadow, map, exclusion);
+    words::reply(numbers, answer)
+}
+
+pub fn fetch(state: &mut [u64], shadow: &[u64], page: u64, numbers: &mut [u64]) -> u64
+    ensures { λ r. ⌜ ((t : Tables) → left r (now (state .exit)) (now (numbers .exit)) (withShadow (now (shadow .entry)) t)
+        ≡ callAt (now (state .entry)) (now (numbers .entry)) (withShadow (now (shadow .entry)) t) (Calls.fetch page)) ⌝ }
+{
+    if !words::usable(state, numbers) {
+        return words::reply(numbers, Answer::Refused(7));
+    }
+    let called = access::fetch(words::state_in(state), shadow, page);
+    words::put_called(state, numbers, called)
+}
+
+pub fn write(
+    state: &[u64],
+    shadow: &[u64],
+    exclusion: &[u8],
+    address: u64,
+    length: u64,
+    numbers: &mut [u64],
+) -> u64
+    ensures { λ r. ⌜ ((t : Tables) → left r (now (state .entry)) (now (numbers .exit)) (withShadow (now (shadow .entry)) (withExclusion (now (exclusion .entry)) t))
+        ≡ callAt (now (state .entry)) (now (numbers .entry)) (withShadow (now (shadow .entry)) (withExclusion (now (exclusion .entry)) t)) (Calls.write address length)) ⌝ }
+{
+    if !words::usable(state, numbers) {
+        return words::reply(numbers, Answer::Refused(7));
+    }
+    let answer = access::write(words::state_in(state), shadow, exclusion, address, length);
+    words::reply(numbers, answer)
+}
+
+pub fn enter(state: &mut [u64], shadow: &mut [u64], index: u64, numbers: &mut [u64]) -> u64
+    ensures { λ r. ⌜ ((t : Tables) → left r (now (state .exit)) (now (numbers .exit)) (withShadow (now (shadow .exit)) t)
+        ≡ callAt (now (state .entry)) (now (numbers .entry)) (withShadow (now (shadow .entry)) t) (Calls.enter index)) ⌝ }
+{
+    if !words::usable(state, numbers) {
+        return words::reply(numbers, Answer::Refused(7));
+    }
+    let called = modes::enter(words::state_in(state), shadow, index);
+    words::put_called(state, numbers, called)
+}
+
+pub fn leave(state: &mut [u64], shadow: &mut [u64], page: u64, numbers: &mut [u64]) -> u64
+    ensures { λ r. ⌜ ((t : Tables) → left r (now (state .exit)) (now (numbers .exit)) (withShadow (now (shadow .exit)) t)
+        ≡ callAt (now (state .entry)) (now (numbers .entry)) (withShadow (now (shadow .entry)) t) (Calls.leave page)) ⌝ }
+{
+    if !words::usable(state, numbers) {
+        return words::reply(numbers, Answer::Refused(7));
+    }
+    let called = modes::leave(words::state_in(state), shadow, page);
+    words::put_called(state, numbers, called)
+}
+
+pub fn device_write(
+    state: &[u64],
+    exclusion: &[u8],
+    address: u64,
+    length: u64,
+    numbers: &mut [u64],
+) -> u64
+    ensures { λ r. ⌜ ((t : Tables) → left r (now (state .entry)) (now (numbers .exit)) (withExclusion (now (exclusion .entry)) t)
+        ≡ callAt (now (state .entry)) (now (numbers .entry)) (withExclusion (now (exclusion .entry)) t) (deviceWrite address length)) ⌝ }
+{
+    if !words::usable(state, numbers) {
+        return words::reply(numbers, Answer::Refused(7));
+    }
+    let answer = access::device_write(words::state_in(state), exclusion, address, length);
+    words::reply(numbers, answer)
+}
+
+// The state goes from call to call in its run as the definitions hand it on.
+pub fn state_held()
+    ensures { λ _. ⌜ StateHeld ⌝ }
+{}

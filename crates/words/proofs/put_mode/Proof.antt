@@ -1,0 +1,16 @@
+-- `words::put_mode` meets its contract.
+use borrow.Author.Needs.{needs}
+use Rattle.words.specs.Words.{withMode}
+use Rattle.words.proofs.StateLaws.{mode-written, running-fits}
+use Rattle.words.proofs.put_mode.Statement.{statement}
+use Rattle.words.proofs.put_mode.Tie as tie
+
+returns : tie.Need-returns
+unfolding withMode
+returns c = (cc, (search (needs, mode-written), search (needs, running-fits)))
+
+pub put-mode-spec : {M : Type 1} → statement M
+put-mode-spec =
+    tie.close
+    (tie.spec (λ c κs. search needs) (λ c. search needs) (λ c κs. search needs) (λ c. search needs) (λ c. search needs)
+    (λ c. search needs) returns)

@@ -1,0 +1,15 @@
+-- `words::state_in` meets its contract.
+use Rattle.words.specs.Words.{stateIn}
+use borrow.Author.Needs.{needs}
+use Rattle.words.proofs.state_in.Statement.{statement}
+use Rattle.words.proofs.state_in.Tie as tie
+
+returns : tie.Need-returns
+unfolding stateIn
+returns c = cc
+
+pub state-in-spec : {M : Type 1} → statement M
+state-in-spec =
+    tie.close
+    (tie.spec (λ c κs. search needs) (λ c κs. search needs) (λ c κs. search needs) (λ c κs. search needs)
+    (λ c. search needs) (λ c κs. search needs) (λ c κs. search needs) returns)

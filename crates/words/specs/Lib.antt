@@ -1,0 +1,2 @@
+-- The runs of words that cross the boundary.
+pub mod Words

@@ -1,0 +1,257 @@
+// The runs of words that cross the boundary: the state in 21 words, and a call's two numbers in two.
+// A function that takes a state run has a `requires`: its callers have asked for the length.
+
+ghost use mathlib.Core.Path.{_≡_};
+ghost use Prim.Native.Nat.{_<_};
+ghost use lib.ListN.{length};
+ghost use lib.Seq.{paste};
+ghost use lib.Dec.{eqb};
+ghost use Rattle.model.specs.Edges;
+ghost use Rattle.model.specs.Keeps.{modeOf, running, inMode};
+ghost use Rattle.model.specs.Questions.{stateInOrder};
+ghost use Rattle.model.specs.Calls.{replyOf};
+ghost use Rattle.words.specs.Words;
+ghost use Rattle.words.specs.Words.{stateWords, entryAt, entryPages, stateIn, modeWord, wordsOf, withMode, withNumbers, runsFit, runAfter, runStarted, WideRefused};
+use model::Answer;
+use model::Called;
+use model::Mode;
+use model::State;
+
+// The layout of a state run. include/guard.h has the same constants, which tests/header compares.
+pub const STATE_WORDS: usize = 21;
+
+pub const STATE_PAGES: usize = 0;
+
+pub const STATE_FRAMES: usize = 1;
+
+pub const STATE_ENTRIES: usize = 2;
+
+pub const STATE_ENTRY: usize = 3;
+
+pub const STATE_MODE: usize = 19;
+
+pub const STATE_RUNNING: usize = 20;
+
+pub const MODE_KERNEL: u64 = 0;
+
+pub const MODE_USER: u64 = 1;
+
+// The length of a numbers run.
+pub const NUMBERS: usize = 2;
+
+// A word as a 16-bit field; a wider one as 65535.
+fn narrow(word: u64) -> u16
+    ensures { λ r. ⌜ r ≡ Words.narrow word ⌝ }
+{
+    if word <= 65535 { word as u16 } else { 65535 }
+}
+
+// The field at a place of a run that reaches so far.
+fn field(run: &[u64], at: usize) -> u16
+    requires { ⌜ at < length (now run) ⌝ }
+    ensures { λ r. ⌜ r ≡ Words.field (now (run .entry)) at ⌝ }
+{
+    narrow(run[at])
+}
+
+// Kernel or user, and the page that runs.
+fn mode_of(word: u64, page: u16) -> Mode
+    ensures { λ r. ⌜ r ≡ modeOf (eqb word 1) page ⌝ }
+{
+    if word == MODE_USER {
+        Mode::User(page)
+    } else {
+        Mode::Kernel(page)
+    }
+}
+
+fn mode_word(mode: Mode) -> u64
+    ensures { λ r. ⌜ r ≡ modeWord mode ⌝ }
+{
+    if questions::in_user(mode) {
+        MODE_USER
+    } else {
+        MODE_KERNEL
+    }
+}
+
+// The sixteen entry pages of a run.
+fn entry_pages(run: &[u64]) -> [u16; 16]
+    requires { ⌜ length (now run) ≡ stateWords ⌝ }
+    ensures { λ r. ⌜ r ≡ entryPages (now (run .entry)) ⌝ }
+{
+    let mut entry = [0u16; 16];
+    let mut i: usize = 0;
+    while i < 16 {
+        entry[i] = field(run, STATE_ENTRY + i);
+        i += 1;
+    }
+    entry
+}
+
+// The state that a run holds. The run has its length, which `usable` has asked for.
+pub fn state_in(run: &[u64]) -> State
+    requires { ⌜ length (now run) ≡ stateWords ⌝ }
+    ensures { λ r. ⌜ r ≡ stateIn (now (run .entry)) ⌝ }
+{
+    let pages = field(run, STATE_PAGES);
+    let frames = field(run, STATE_FRAMES);
+    let entries = field(run, STATE_ENTRIES);
+    let entry = entry_pages(run);
+    let mode = mode_of(run[STATE_MODE], field(run, STATE_RUNNING));
+    State {
+        pages,
+        frames,
+        entries,
+        entry,
+        mode,
+    }
+}
+
+// Writes the words of a mode into a run. The run then decodes to the state in that mode. A mode's page is a 16-bit number, on which decoding rests.
+fn put_mode(run: &mut [u64], mode: Mode)
+    requires { ⌜ length (now run) ≡ stateWords ⌝ }
+    ensures words { λ _. ⌜ now (run .exit) ≡ withMode (now (run .entry)) mode ⌝ }
+    ensures decoded { λ _. ⌜ stateIn (now (run .exit)) ≡ inMode (stateIn (now (run .entry))) mode ⌝ }
+    ensures fits { λ _. ⌜ running mode < 65536 ⌝ }
+{
+    run[STATE_MODE] = mode_word(mode);
+    run[STATE_RUNNING] = questions::running(mode) as u64;
+}
+
+fn put_entry_pages(run: &mut [u64], entry: [u16; 16])
+    requires { ⌜ length (now run) ≡ stateWords ⌝ }
+    ensures { λ _. ⌜ now (run .exit) ≡ paste (now (run .entry)) entryAt entry 16 ⌝ }
+{
+    let mut i: usize = 0;
+    while i < 16 {
+        run[STATE_ENTRY + i] = entry[i] as u64;
+        i += 1;
+    }
+}
+
+// Writes all words of a state into a run. What was encoded decodes to the same state.
+fn put_state(run: &mut [u64], s: State)
+    requires { ⌜ length (now run) ≡ stateWords ⌝ }
+    ensures encoded { λ _. ⌜ now (run .exit) ≡ wordsOf s ⌝ }
+    ensures decoded { λ _. ⌜ stateIn (now (run .exit)) ≡ s ⌝ }
+{
+    let entry = s.entry;
+    let mode = s.mode;
+    put_entry_pages(run, entry);
+    run[STATE_PAGES] = s.pages as u64;
+    run[STATE_FRAMES] = s.frames as u64;
+    run[STATE_ENTRIES] = s.entries as u64;
+    put_mode(run, mode);
+}
+
+// The boundary's part of question 7: the lengths of both runs, which the start asks for.
+pub fn runs_fit(run: &[u64], numbers: &[u64]) -> bool
+    ensures { λ r. ⌜ r ≡ runsFit (now (run .entry)) (now (numbers .entry)) ⌝ }
+{
+    questions::both(run.len() == STATE_WORDS, numbers.len() == NUMBERS)
+}
+
+// What every other call asks for: a mode word of 0 or 1 too.
+fn lendable(run: &[u64], numbers: &[u64]) -> bool
+    ensures { λ r. ⌜ r ≡ Words.lendable (now (run .entry)) (now (numbers .entry)) ⌝ }
+{
+    if !runs_fit(run, numbers) {
+        return false;
+    }
+    run[STATE_MODE] <= MODE_USER
+}
+
+// The state's part of question 7, on the words of a run. The compiler then drops what the calls below ask of the fields; that the running
+// page is at most 2047 follows from the rest, and is asked for it to know.
+fn words_in_order(run: &[u64]) -> bool
+    requires { ⌜ length (now run) ≡ stateWords ⌝ }
+    ensures { λ r. ⌜ r ≡ stateInOrder (stateIn (now (run .entry))) ⌝ }
+{
+    let pages = run[STATE_PAGES];
+    let sizes = questions::both(
+        questions::in_range(1, 2048, pages),
+        questions::in_range(1, 4096, run[STATE_FRAMES]),
+    );
+    let entries = questions::in_range(1, 16, run[STATE_ENTRIES]);
+    let running = run[STATE_RUNNING];
+    let runs = questions::both(running <= 2047, running < pages);
+    questions::both(sizes, questions::both(entries, runs))
+}
+
+// Both runs can be lent, and the state is in order.
+pub fn usable(run: &[u64], numbers: &[u64]) -> bool
+    ensures { λ r. ⌜ r ≡ Edges.both (Words.lendable (now (run .entry)) (now (numbers .entry))) (stateInOrder (stateIn (now (run .entry)))) ⌝ }
+{
+    if !lendable(run, numbers) {
+        return false;
+    }
+    words_in_order(run)
+}
+
+// Two numbers to a numbers run. A run of another length is not written.
+fn put_numbers(numbers: &mut [u64], first: u64, second: u64)
+    ensures { λ _. ⌜ now (numbers .exit) ≡ withNumbers (now (numbers .entry)) first second ⌝ }
+{
+    if numbers.len() == NUMBERS {
+        numbers[0] = first;
+        numbers[1] = second;
+    }
+}
+
+// An answer: the number to return, and the call's two numbers, which are 0 where it was refused.
+pub fn reply(numbers: &mut [u64], answer: Answer) -> u64
+    ensures number { λ r. ⌜ r ≡ replyOf answer .number ⌝ }
+    ensures both { λ _. ⌜ now (numbers .exit) ≡ withNumbers (now (numbers .entry)) (replyOf answer .first) (replyOf answer .second) ⌝ }
+{
+    match answer {
+        Answer::Done(first, second) => {
+            put_numbers(numbers, first, second);
+            0
+        }
+        Answer::Refused(number) => {
+            put_numbers(numbers, 0, 0);
+            number
+        }
+    }
+}
+
+// What a call gave that may move: its answer to the numbers run, and the mode of an accepted one to the state run.
+// The state run has its length, which `usable` has asked for.
+pub fn put_called(run: &mut [u64], numbers: &mut [u64], called: Called) -> u64
+    requires { ⌜ length (now run) ≡ stateWords ⌝ }
+    ensures number { λ r. ⌜ r ≡ replyOf (called .answer) .number ⌝ }
+    ensures mode { λ _. ⌜ now (run .exit) ≡ runAfter (now (run .entry)) (replyOf (called .answer)) (called .state) ⌝ }
+    ensures both { λ _. ⌜ now (numbers .exit) ≡ withNumbers (now (numbers .entry)) (replyOf (called .answer) .first) (replyOf (called .answer) .second) ⌝ }
+{
+    let answer = called.answer;
+    let after = called.state;
+    let mode = after.mode;
+    let number = reply(numbers, answer);
+    if number == 0 {
+        put_mode(run, mode);
+    }
+    number
+}
+
+// What a start gave: its answer to the numbers run, and the state of an accepted one to the state run.
+// The state run has its length, which `runs_fit` has asked for.
+pub fn put_started(run: &mut [u64], numbers: &mut [u64], called: Called) -> u64
+    requires { ⌜ length (now run) ≡ stateWords ⌝ }
+    ensures number { λ r. ⌜ r ≡ replyOf (called .answer) .number ⌝ }
+    ensures words { λ _. ⌜ now (run .exit) ≡ runStarted (now (run .entry)) (replyOf (called .answer)) (called .state) ⌝ }
+    ensures both { λ _. ⌜ now (numbers .exit) ≡ withNumbers (now (numbers .entry)) (replyOf (called .answer) .first) (replyOf (called .answer) .second) ⌝ }
+{
+    let answer = called.answer;
+    let after = called.state;
+    let refusal = reply(numbers, answer);
+    if refusal == 0 {
+        put_state(run, after);
+    }
+    refusal
+}
+
+// A word of the state run that is wider than its field is refused by question 7.
+pub fn wide_words()
+    ensures { λ _. ⌜ WideRefused ⌝ }
+{}
