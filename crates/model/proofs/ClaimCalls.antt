@@ -15,14 +15,14 @@ use Rattle.model.specs.Edges.{bit, framesInRange}
 use Rattle.model.specs.Keeps.{none, withShadow, withMap, Guard, guardOf, inUser, running, modeOf, inMode}
 use Rattle.model.specs.Policy.{Policy}
 use Rattle.model.specs.Bits.{present, takenApart}
-use Rattle.model.specs.Sync.{Rules, Place, place, step, stepOf, stepFrom, Run, switchedAll, runFrom}
+use Rattle.model.specs.Sync.{Rules, Place, place, step, stepOf, stepFrom, Sweep, switchedAll, sweepFrom}
 use Rattle.model.specs.Questions.{firstNo, syncAllQuestions}
 use Rattle.model.specs.Calls.{Call, syncPage, syncAll, fetch, write, enter, leave, deviceWrite, questionsOf, rulesOf, pageSynced, allSynced, switchTo, effectOf}
 use Rattle.model.specs.OnePage.{synchronised, nothing, seenBy, settled, stepped, turned, told, news}
 use Rattle.model.specs.Claim.{Carried, carriedAfter}
 use Rattle.model.proofs.QuestionLaws.{within-high}
 use Rattle.model.proofs.ClaimPages.{Good, told-good}
-use Rattle.model.proofs.RunLaws.{run-shadow-length, run-map-length, run-at}
+use Rattle.model.proofs.SweepLaws.{sweep-shadow-length, sweep-map-length, sweep-at}
 use Rattle.model.proofs.SwitchLaws.{length-switched, switched-at}
 use Rattle.model.proofs.AcceptedLaws.{syncPage-page, syncAll-kernel, fetch-page, enter-page, leave-page}
 use Rattle.model.proofs.ClaimKept.{Sound, Kept, pageOf}
@@ -93,18 +93,18 @@ module _ (policy : Policy) (carried : Carried) (g : Guard) (sound : Sound policy
       f : ℕ → ℕ → ℕ → Place
       f = stepFrom (rulesOf (g .state) (g .tables .exclusion)) kernel
 
-      after : Run
-      after = runFrom f 0 (g .tables .shadow) (g .tables .map)
+      after : Sweep
+      after = sweepFrom f 0 (g .tables .shadow) (g .tables .map)
 
       at : (b : Bool) → ltb p (policy .pages) ≡ b → stepped policy (pageOf g p) (getD kernel p 0) ≡ pageOf ((effectOf g (syncAll kernel)) .guard) p
       at true e =
           let below : p < policy .pages = ltb-true p (policy .pages) e in
-          let there = rw add-zero at (run-at f 0 (g .tables .shadow) (g .tables .map) p 0 none (omega (arith, h .shadowLength)) (omega (arith, h .mapLength))) in
+          let there = rw add-zero at (sweep-at f 0 (g .tables .shadow) (g .tables .map) p 0 none (omega (arith, h .shadowLength)) (omega (arith, h .mapLength))) in
           stepped-at (after .shadow) (after .map) p (getD kernel p 0) (there .0) (there .1)
       at false e =
           let past : policy .pages ≤ p = ltb-false p (policy .pages) e in
           stepped-past (after .shadow) (after .map) p (getD kernel p 0) past (List·getD-eq-default kernel 0 (omega (arith, whole)))
-          (run-shadow-length f 0 (g .tables .shadow) (g .tables .map) ∙ h .shadowLength) (run-map-length f 0 (g .tables .shadow) (g .tables .map) ∙ h .mapLength)
+          (sweep-shadow-length f 0 (g .tables .shadow) (g .tables .map) ∙ h .shadowLength) (sweep-map-length f 0 (g .tables .shadow) (g .tables .map) ∙ h .mapLength)
 
   -- Each accepted call, as the one-page guards are told of it.
   pub commutes : (call : Call) → settled policy (pageOf g) g call ≡ 0 → (p : ℕ)
@@ -154,8 +154,8 @@ module _ (policy : Policy) (carried : Carried) (g : Guard) (sound : Sound policy
       kept-with (g .state .mode) _ _ (h .runs) (length-set (g .tables .shadow) page _ ∙ h .shadowLength) (length-set (g .tables .map) page _ ∙ h .mapLength)
       (good-after (syncPage kernel page) passed)
   kept (syncAll kernel) passed =
-      kept-with (g .state .mode) _ _ (h .runs) (run-shadow-length _ 0 (g .tables .shadow) (g .tables .map) ∙ h .shadowLength)
-      (run-map-length _ 0 (g .tables .shadow) (g .tables .map) ∙ h .mapLength) (good-after (syncAll kernel) passed)
+      kept-with (g .state .mode) _ _ (h .runs) (sweep-shadow-length _ 0 (g .tables .shadow) (g .tables .map) ∙ h .shadowLength)
+      (sweep-map-length _ 0 (g .tables .shadow) (g .tables .map) ∙ h .mapLength) (good-after (syncAll kernel) passed)
   kept (fetch page) passed =
       kept-with (modeOf (inUser (g .state .mode)) page) (g .tables .shadow) (g .tables .map)
       (rw running-modeOf (fetch-page (seenBy policy (pageOf g)) page passed)) (h .shadowLength) (h .mapLength) (good-after (fetch page) passed)

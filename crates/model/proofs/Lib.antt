@@ -10,7 +10,7 @@ pub mod VectorLaws
 pub mod CallLaws
 pub mod TouchLaws
 pub mod AcceptedLaws
-pub mod RunLaws
+pub mod SweepLaws
 pub mod SwitchLaws
 pub mod ClaimPages
 pub mod ClaimKept

@@ -13,7 +13,7 @@ use Rattle.model.specs.Edges.{pageBytes, lastPage}
 use Rattle.model.specs.Keeps.{none, Tables, withShadow, withMap, Guard, guardOf, excludedIn, inUser, modeOf, inMode}
 use Rattle.model.specs.Policy.{Givens, Policy, policyOf, startGuard, zeroState}
 use Rattle.model.specs.Bits.{frameOf}
-use Rattle.model.specs.Sync.{Rules, Place, differs, Run, runFrom, stepFrom, switchedAll, changes}
+use Rattle.model.specs.Sync.{Rules, Place, differs, Sweep, sweepFrom, stepFrom, switchedAll, changes}
 use Rattle.model.specs.Questions.{Question, firstNo, View, seen, lengthsOf, startQuestions, syncPageQuestions, syncAllQuestions, fetchQuestions, writeQuestions, enterQuestions, leaveQuestions, deviceWriteQuestions}
 
 -- Whether a call was accepted; the number of the question that refused it, or 0; and the call's two numbers.
@@ -112,7 +112,7 @@ pageSynced g page p =
     (guardOf (g .state) (withShadow (set (t .shadow) page (p .entry)) (withMap (set (t .map) page (p .approval)) t)))
 
 -- All pages:
-unfoldable pub allSynced : Guard → Run → Outcome
+unfoldable pub allSynced : Guard → Sweep → Outcome
 allSynced g r =
     outcome (accepted (r .changed) (r .joined)) (guardOf (g .state) (withShadow (r .shadow) (withMap (r .map) (g .tables))))
 
@@ -130,7 +130,7 @@ effectOf g (syncPage kernel page) =
     pageSynced g page
     (stepFrom (rulesOf (g .state) (g .tables .exclusion)) kernel page (getD (g .tables .shadow) page 0) (getD (g .tables .map) page none))
 effectOf g (syncAll kernel) =
-    allSynced g (runFrom (stepFrom (rulesOf (g .state) (g .tables .exclusion)) kernel) 0 (g .tables .shadow) (g .tables .map))
+    allSynced g (sweepFrom (stepFrom (rulesOf (g .state) (g .tables .exclusion)) kernel) 0 (g .tables .shadow) (g .tables .map))
 effectOf g (fetch page) =
     let frame : ℕ = frameOf (getD (g .tables .shadow) page 0) in
     outcome (accepted frame frame) (guardOf (inMode (g .state) (modeOf (inUser (g .state .mode)) page)) (g .tables))

@@ -47,17 +47,17 @@ unfoldable pub differs : ℕ → ℕ → ℕ
 differs a b = cond (eqb a b) 0 1
 
 -- Both tables after a synchronisation, with its two counts.
-pub record Run : Type 0 where
+pub record Sweep : Type 0 where
   pub shadow : List ℕ
   pub map : List ℕ
   pub changed : ℕ
   pub joined : ℕ
 
-abbrev pub run : List ℕ → List ℕ → ℕ → ℕ → Run
-run shadow map changed joined = record { shadow = shadow; map = map; changed = changed; joined = joined }
+abbrev pub sweep : List ℕ → List ℕ → ℕ → ℕ → Sweep
+sweep shadow map changed joined = record { shadow = shadow; map = map; changed = changed; joined = joined }
 
--- A run whose first place had the entry s and the number m and has now the place p.
-unfoldable pub before : ℕ → ℕ → Place → Run → Run
+-- A sweep whose first place had the entry s and the number m and has now the place p.
+unfoldable pub before : ℕ → ℕ → Place → Sweep → Sweep
 before s m p rest =
     record {
       shadow = p .entry ∷ rest .shadow;
@@ -68,10 +68,10 @@ before s m p rest =
 
 -- "All pages: the same for each, in rising order." From a page on, each page gets the place that f makes of its number, its entry and its
 -- approval. What goes past the shorter table stays as it is.
-unfoldable pub runFrom : (ℕ → ℕ → ℕ → Place) → ℕ → List ℕ → List ℕ → Run
-runFrom f page [] map = run [] map 0 0
-runFrom f page (s ∷ shadow) [] = run (s ∷ shadow) [] 0 0
-runFrom f page (s ∷ shadow) (m ∷ map) = before s m (f page s m) (runFrom f (suc page) shadow map)
+unfoldable pub sweepFrom : (ℕ → ℕ → ℕ → Place) → ℕ → List ℕ → List ℕ → Sweep
+sweepFrom f page [] map = sweep [] map 0 0
+sweepFrom f page (s ∷ shadow) [] = sweep (s ∷ shadow) [] 0 0
+sweepFrom f page (s ∷ shadow) (m ∷ map) = before s m (f page s m) (sweepFrom f (suc page) shadow map)
 
 -- Of a kernel table, the step of a page on its own kernel entry.
 unfoldable pub stepFrom : Rules → List ℕ → ℕ → ℕ → ℕ → Place

@@ -1,4 +1,4 @@
--- A law for each answer of this crate's functions: the five steps, the counts, a page stored, a run, and the two calls.
+-- A law for each answer of this crate's functions: the five steps, the counts, a page stored, a sweep, and the two calls.
 use Prim.Native.Nat.{ℕ, _+_, _/_, _≤_, _<_}
 use mathlib.Core.Bool.{Bool, true, false, not}
 use mathlib.Core.List.{List, [], _∷_}
@@ -16,11 +16,11 @@ use Rattle.model.specs.declared.State.{State}
 use Rattle.model.specs.declared.Answer.the-variants.{Done, Refused}
 use Rattle.model.specs.Keeps.{none, Tables, withShadow, withMap, withExclusion, Guard, guardOf, vectorBytes, inUser}
 use Rattle.model.specs.Bits.{present, fieldsOf, takenApart, approved, ordinary}
-use Rattle.model.specs.Sync.{Rules, Place, place, stepOf, step, differs, Run, run, runFrom, stepFrom}
+use Rattle.model.specs.Sync.{Rules, Place, place, stepOf, step, differs, Sweep, sweep, sweepFrom, stepFrom}
 use Rattle.model.specs.Questions.{stateInOrder, inOrder, syncAllQuestions, syncPageQuestions}
 use Rattle.model.specs.Calls.{replyOf, outcomeBy, keptBy, rulesOf, pageSynced, allSynced, syncPage, syncAll, questionsOf, effectOf, answer}
 use Rattle.model.proofs.CallLaws.{passed, stopped, none-left, refused-by, accepted-by, in-order}
-use Rattle.model.proofs.RunLaws.{getD-inside, whole, whole-more, whole-over}
+use Rattle.model.proofs.SweepLaws.{getD-inside, whole, whole-more, whole-over}
 use Rattle.sync.specs.Steps.{rules, stepAt}
 
 -- The fields of a present entry.
@@ -81,24 +81,24 @@ other-counts n a b p = rw (ne-eqb a b p)
 -- A page's place stored in both tables.
 pub stored-step : (f : ℕ → ℕ → Place) (k i e a changed joined x y : ℕ) (shadow map shadow′ map′ : List ℕ) → place e a ≡ f k (getD map i 0)
     → shadow′ ≡ set shadow i e → map′ ≡ set map i a → x ≡ changed + differs (getD shadow i 0) e → y ≡ joined + differs (getD map i 0) a
-    → run shadow′ map′ x y ≡ stepAt f k i (run shadow map changed joined)
+    → sweep shadow′ map′ x y ≡ stepAt f k i (sweep shadow map changed joined)
 unfolding stepAt
 stored-step f k i e a changed joined x y shadow map shadow′ map′ p ps pm px py = rw (← p, ps, pm, px, py)
 
--- A run page by page: after page i, and after the last.
-pub run-more : (r : Rules) (kernel : List ℕ) (i : ℕ) (shadow map shadow′ map′ : List ℕ) (changed joined x y : ℕ) (all : Run)
-    → whole (stepFrom r kernel) i (run shadow map changed joined) ≡ all → i < length kernel → length shadow ≡ length kernel → length map ≡ length kernel
-    → run shadow′ map′ x y ≡ stepAt (step r) (getD kernel i 0) i (run shadow map changed joined)
-    → whole (stepFrom r kernel) (i + 1) (run shadow′ map′ x y) ≡ all
+-- A sweep page by page: after page i, and after the last.
+pub sweep-more : (r : Rules) (kernel : List ℕ) (i : ℕ) (shadow map shadow′ map′ : List ℕ) (changed joined x y : ℕ) (all : Sweep)
+    → whole (stepFrom r kernel) i (sweep shadow map changed joined) ≡ all → i < length kernel → length shadow ≡ length kernel → length map ≡ length kernel
+    → sweep shadow′ map′ x y ≡ stepAt (step r) (getD kernel i 0) i (sweep shadow map changed joined)
+    → whole (stepFrom r kernel) (i + 1) (sweep shadow′ map′ x y) ≡ all
 unfolding stepAt stepFrom
-run-more r kernel i shadow map shadow′ map′ changed joined x y all inv l ls lm p =
+sweep-more r kernel i shadow map shadow′ map′ changed joined x y all inv l ls lm p =
     let q : Place = step r (getD kernel i 0) (getD map i 0) in
     rw p (whole-more (stepFrom r kernel) i shadow map changed joined (q .entry) (q .approval) _ _ all inv (omega arith) (omega arith) refl refl refl)
 
-pub run-over : (r : Rules) (kernel : List ℕ) (i : ℕ) (shadow map : List ℕ) (changed joined : ℕ) (all : Run)
-    → whole (stepFrom r kernel) i (run shadow map changed joined) ≡ all → length shadow ≡ length kernel → length kernel ≤ i
-    → run shadow map changed joined ≡ all
-run-over r kernel i shadow map changed joined all inv ls past = whole-over (stepFrom r kernel) i shadow map changed joined all inv (omega arith)
+pub sweep-over : (r : Rules) (kernel : List ℕ) (i : ℕ) (shadow map : List ℕ) (changed joined : ℕ) (all : Sweep)
+    → whole (stepFrom r kernel) i (sweep shadow map changed joined) ≡ all → length shadow ≡ length kernel → length kernel ≤ i
+    → sweep shadow map changed joined ≡ all
+sweep-over r kernel i shadow map changed joined all inv ls past = whole-over (stepFrom r kernel) i shadow map changed joined all inv (omega arith)
 
 -- The answers to question 7 of each table, of lengths that may be any numbers.
 abbrev lentFit : State → ℕ → ℕ → ℕ → ℕ → List Bool
@@ -157,7 +157,7 @@ module _ (s : State) (kernel shadow map exclusion : List ℕ) (r : Bool)
 
   module _ (yes7 : not r ≡ false) where
     pub all-accepted : (u v : Bool) (shadow′ map′ : List ℕ) (x y : ℕ) → u ≡ inUser (s .mode) → u ≡ v
-        → run shadow′ map′ x y ≡ runFrom (stepFrom (rules v (s .frames) exclusion) kernel) 0 shadow map → (t : Tables)
+        → sweep shadow′ map′ x y ≡ sweepFrom (stepFrom (rules v (s .frames) exclusion) kernel) 0 shadow map → (t : Tables)
         → keptBy (Done x y) s (lent shadow′ map′ exclusion t) ≡ answer (guard t) (syncAll kernel)
     unfolding questionsOf syncAllQuestions effectOf allSynced outcomeBy replyOf
     all-accepted u v shadow′ map′ x y q i p t =
@@ -171,13 +171,13 @@ module _ (s : State) (kernel shadow map exclusion : List ℕ) (r : Bool)
           refused-by (guard t) (syncPage kernel page) _ 9 (sym (passed 7 9 r _ _ asked yes7 (stopped 9 b _ _ exists p))) (λ z. omega arith) refl refl
 
       pub page-accepted : (u : Bool) (shadow′ map′ : List ℕ) (x y : ℕ) → not b ≡ false → u ≡ inUser (s .mode)
-          → run shadow′ map′ x y ≡ stepAt (step (rules u (s .frames) exclusion)) (getD kernel page 0) page (run shadow map 0 0) → (t : Tables)
+          → sweep shadow′ map′ x y ≡ stepAt (step (rules u (s .frames) exclusion)) (getD kernel page 0) page (sweep shadow map 0 0) → (t : Tables)
           → keptBy (Done x y) s (lent shadow′ map′ exclusion t) ≡ answer (guard t) (syncPage kernel page)
       unfolding questionsOf syncPageQuestions effectOf stepFrom pageSynced allSynced stepAt outcomeBy replyOf
       page-accepted u shadow′ map′ x y there q p t =
           let inside : page < length map = page-in-map s (length kernel) (length shadow) (length map) (length exclusion) r asked yes7 page b exists there in
           let z : Place = step (rulesOf s exclusion) (getD kernel page 0) (getD map page none) in
           let e
-          : run shadow′ map′ x y ≡ run (set shadow page (z .entry)) (set map page (z .approval)) (differs (getD shadow page 0) (z .entry)) (differs (getD map page none) (z .approval))
+          : sweep shadow′ map′ x y ≡ sweep (set shadow page (z .entry)) (set map page (z .approval)) (differs (getD shadow page 0) (z .entry)) (differs (getD map page none) (z .approval))
           = simp zero-add at (rw (q, getD-inside map page 0 none inside) at p) in
           accepted-by (guard t) (syncPage kernel page) _ (sym (passed 7 0 r _ _ asked yes7 (passed 9 0 b _ _ exists there none-left))) (ap (allSynced (guard t)) e)

@@ -5,17 +5,17 @@ use mathlib.Core.Bool.{Bool}
 use mathlib.Core.List.{List}
 use lib.ListN.{getD, set}
 use Rattle.model.specs.Keeps.{excludedIn}
-use Rattle.model.specs.Sync.{Rules, Place, Run, run, differs}
+use Rattle.model.specs.Sync.{Rules, Place, Sweep, sweep, differs}
 
 abbrev pub rules : Bool → ℕ → List ℕ → Rules
 rules user frames exclusion = record { user = user; frames = frames; excluded = excludedIn exclusion }
 
 -- The place p stored at page i of both tables, and counted where that changed them.
-abbrev pub stored : ℕ → Run → Place → Run
+abbrev pub stored : ℕ → Sweep → Place → Sweep
 stored i r p =
-    run (set (r .shadow) i (p .entry)) (set (r .map) i (p .approval)) (r .changed + differs (getD (r .shadow) i 0) (p .entry))
+    sweep (set (r .shadow) i (p .entry)) (set (r .map) i (p .approval)) (r .changed + differs (getD (r .shadow) i 0) (p .entry))
     (r .joined + differs (getD (r .map) i 0) (p .approval))
 
 -- The step f of page i, on its kernel entry and its number in the map, stored and counted.
-unfoldable pub stepAt : (ℕ → ℕ → Place) → ℕ → ℕ → Run → Run
+unfoldable pub stepAt : (ℕ → ℕ → Place) → ℕ → ℕ → Sweep → Sweep
 stepAt f entry i r = stored i r (f entry (getD (r .map) i 0))

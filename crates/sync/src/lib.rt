@@ -9,7 +9,7 @@ ghost use Prim.Native.Nat.{_+_, _<_, _≤_};
 ghost use lib.ListN.{length, getD, set};
 ghost use Rattle.model.specs.Keeps.{Tables, withThree, guardOf, vectorBytes};
 ghost use Rattle.model.specs.Sync;
-ghost use Rattle.model.specs.Sync.{place, differs, run, runFrom, stepFrom};
+ghost use Rattle.model.specs.Sync.{place, differs, sweep, sweepFrom, stepFrom};
 ghost use Rattle.model.specs.Calls.{keptBy, syncPage, syncAll, answer};
 ghost use Rattle.sync.specs.Steps.{rules, stepAt};
 
@@ -100,9 +100,9 @@ fn sync_at(
 ) -> Counts
     requires { ⌜ (i < length (now shadow)) × (i < length (now map)) × (counts .changed ≤ i) × (counts .joined ≤ i)
         × (length (now exclusion) ≡ vectorBytes frames) ⌝ }
-    ensures { λ r. ⌜ (run (now (shadow .exit)) (now (map .exit)) (r .changed) (r .joined)
+    ensures { λ r. ⌜ (sweep (now (shadow .exit)) (now (map .exit)) (r .changed) (r .joined)
         ≡ stepAt (Sync.step (rules user frames (now (exclusion .entry)))) entry i
-        (run (now (shadow .entry)) (now (map .entry)) (counts .changed) (counts .joined)))
+        (sweep (now (shadow .entry)) (now (map .entry)) (counts .changed) (counts .joined)))
         × (r .changed ≤ counts .changed + 1) × (r .joined ≤ counts .joined + 1) ⌝ }
 {
     let place = step(user, frames, exclusion, entry, map[i]);
@@ -122,8 +122,8 @@ fn sync_pages(
 ) -> Counts
     requires { ⌜ (length (now shadow) ≡ length (now kernel)) × (length (now map) ≡ length (now kernel))
         × (length (now exclusion) ≡ vectorBytes frames) ⌝ }
-    ensures { λ r. ⌜ run (now (shadow .exit)) (now (map .exit)) (r .changed) (r .joined)
-        ≡ runFrom (stepFrom (rules user frames (now (exclusion .entry))) (now (kernel .entry))) 0 (now (shadow .entry)) (now (map .entry)) ⌝ }
+    ensures { λ r. ⌜ sweep (now (shadow .exit)) (now (map .exit)) (r .changed) (r .joined)
+        ≡ sweepFrom (stepFrom (rules user frames (now (exclusion .entry))) (now (kernel .entry))) 0 (now (shadow .entry)) (now (map .entry)) ⌝ }
 {
     let mut counts = Counts {
         changed: 0,

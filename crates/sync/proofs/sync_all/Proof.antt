@@ -1,4 +1,4 @@
--- Question 7 refuses, or the three tables have one length and the vector its own; each mode has its own run.
+-- Question 7 refuses, or the three tables have one length and the vector its own; each mode has its own sweep.
 use Rattle.sync.proofs.SyncLaws.{all-refused, shadow-matches, map-matches, vector-fits, all-accepted}
 use borrow.Author.Needs.{needs}
 use Rattle.sync.proofs.sync_all.Statement.{statement}

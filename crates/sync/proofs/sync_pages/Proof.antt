@@ -1,12 +1,12 @@
--- Before page i the tables and counts, with the run over what is left, are the whole run.
+-- Before page i the tables and counts, with the sweep over what is left, are the whole sweep.
 use Prim.Native.Nat.{_≤_, _-_}
 use mathlib.Core.Path.{_≡_}
 use native.Mathlib.Omega.{arith}
 use lib.ListN.{length}
-use Rattle.model.specs.Sync.{run, runFrom, stepFrom}
-use Rattle.model.proofs.RunLaws.{whole, whole-start}
+use Rattle.model.specs.Sync.{sweep, sweepFrom, stepFrom}
+use Rattle.model.proofs.SweepLaws.{whole, whole-start}
 use Rattle.sync.specs.Steps.{rules}
-use Rattle.sync.proofs.SyncLaws.{run-more, run-over}
+use Rattle.sync.proofs.SyncLaws.{sweep-more, sweep-over}
 use borrow.Author.Needs.{needs}
 use Rattle.sync.proofs.sync_pages.Statement.{statement}
 use Rattle.sync.proofs.sync_pages.Tie as tie
@@ -14,8 +14,8 @@ use Rattle.sync.proofs.sync_pages.Tie as tie
 abbrev Inv-loop : tie.InvT-loop
 Inv-loop user frames exclusion kernel shadow₀ map₀ counts₀ i₀ shadow map counts i =
     (i ≤ length kernel) × (length shadow ≡ length kernel) × (length map ≡ length kernel) × (counts .changed ≤ i) × (counts .joined ≤ i)
-    × (whole (stepFrom (rules user frames exclusion) kernel) i (run shadow map (counts .changed) (counts .joined))
-    ≡ runFrom (stepFrom (rules user frames exclusion) kernel) 0 shadow₀ map₀)
+    × (whole (stepFrom (rules user frames exclusion) kernel) i (sweep shadow map (counts .changed) (counts .joined))
+    ≡ sweepFrom (stepFrom (rules user frames exclusion) kernel) 0 shadow₀ map₀)
 
 abbrev μ-loop : tie.MeasureT-loop
 μ-loop user frames exclusion kernel shadow₀ map₀ counts₀ i₀ shadow map counts i = length kernel - i
@@ -24,10 +24,10 @@ loop-holds : tie.Need-loop-holds Inv-loop μ-loop
 loop-holds c = search (needs, whole-start)
 
 loop-again : tie.Need-loop-again Inv-loop μ-loop
-loop-again c = (omega arith, omega arith, omega arith, omega arith, omega arith, search (needs, run-more))
+loop-again c = (omega arith, omega arith, omega arith, omega arith, omega arith, search (needs, sweep-more))
 
 returns : tie.Need-returns Inv-loop μ-loop
-returns c = search (needs, run-over)
+returns c = search (needs, sweep-over)
 
 pub sync-pages-spec : {M : Type 1} → statement M
 sync-pages-spec =
