@@ -7,7 +7,7 @@ use lib.ListN.{replicate, set}
 use Rattle.model.specs.declared.State.{State}
 use Rattle.model.specs.declared.Mode.{Mode}
 use Rattle.model.specs.declared.Mode.the-variants.{Kernel, User}
-use Rattle.model.specs.Keeps.{Guard, guardOf, inMode}
+use Rattle.model.specs.Keeps.{Guard, guardOf, inMode, stateOf}
 use Rattle.model.specs.Policy.{nothingGiven}
 use Rattle.model.specs.Calls.{Outcome, outcome, accepted, refused, startOf, syncPage, write, deviceWrite, answer}
 
@@ -36,7 +36,7 @@ startedWritable = (answer started (syncPage (only 0 0x3003) 0)) .guard
 
 -- The state after the start, with its mode.
 unfoldable pub stateIn : Mode → State
-stateIn mode = record { pages = 4; frames = 4; entries = 1; entry = 1 ∷ replicate 15 0; mode = mode }
+stateIn mode = stateOf 4 4 1 (1 ∷ replicate 15 0) mode
 
 -- A guard of that policy with these contents. No call changes the exclusion vector, whose one byte is 0x04.
 unfoldable pub holding : Mode → List ℕ → List ℕ → Guard

@@ -6,7 +6,7 @@ use lib.ListN.{replicate, set}
 use Rattle.model.specs.declared.State.{State}
 use Rattle.model.specs.declared.Mode.{Mode}
 use Rattle.model.specs.declared.Mode.the-variants.{Kernel, User}
-use Rattle.model.specs.Keeps.{Guard, guardOf}
+use Rattle.model.specs.Keeps.{Guard, guardOf, stateOf}
 use Rattle.model.specs.Policy.{nothingGiven}
 use Rattle.model.specs.Calls.{Reply, Outcome, outcome, accepted, refused, startOf, Call, syncPage, syncAll, fetch, write, enter, leave, deviceWrite, answer}
 use Rattle.model.specs.Cases.{Case, row}
@@ -41,7 +41,7 @@ startRefused number shadow map exclusion =
     outcome (refused number) (guardOf zeros (record { shadow = replicate shadow 1; map = replicate map 1; exclusion = replicate exclusion 1 }))
 
 unfoldable pub sixPages : Mode → State
-sixPages mode = record { pages = 6; frames = 8; entries = 2; entry = 1 ∷ 2 ∷ replicate 14 0; mode = mode }
+sixPages mode = stateOf 6 8 2 (1 ∷ 2 ∷ replicate 14 0) mode
 
 -- A guard of that policy in a mode, with these shadow entries; map and vector as the start leaves them.
 unfoldable pub with6 : Mode → List ℕ → Guard
@@ -72,7 +72,7 @@ inState s = guardOf s (started6 .tables)
 -- A guard of so many pages, none present.
 unfoldable pub manyPages : ℕ → Guard
 manyPages pages =
-    guardOf (record { pages = pages; frames = 8; entries = 1; entry = replicate 16 0; mode = Kernel 0 })
+    guardOf (stateOf pages 8 1 (replicate 16 0) (Kernel 0))
     (record { shadow = replicate pages 0; map = []; exclusion = [] })
 
 -- A guard of that policy in a mode, whose tables hold zeros and have these lengths.
@@ -95,7 +95,7 @@ startCases =
     -- Page 0 first, every page listed up to V - 1, frame F - 1, and a vector of two bytes.
     ∷ row (startOn everyPage 3 3 2)
     (outcome (accepted 3 1)
-    (guardOf (record { pages = 3; frames = 9; entries = 1; entry = replicate 16 0; mode = Kernel 0 })
+    (guardOf (stateOf 3 9 1 (replicate 16 0) (Kernel 0))
     (record { shadow = 0x8401 ∷ 0x401 ∷ 0x8401 ∷ []; map = 8 ∷ 0 ∷ 8 ∷ []; exclusion = 1 ∷ 1 ∷ [] })))
     -- 1 to 7, each with all before it yes
     ∷ row (startOn (6 ∷ 0 ∷ 8 ∷ 0 ∷ 3 ∷ 0 ∷ 2 ∷ []) 6 6 1) (startRefused 1 6 6 1)
@@ -141,17 +141,17 @@ syncCases =
     ∷ stays started6 (syncAll (replicate 5 0)) (refused 7)
     ∷ stays started6 (syncPage (replicate 7 0) 0) (refused 7)
     ∷ stays started6 (syncPage (replicate 6 0) 6) (refused 9)
-    ∷ stays (inState (record { pages = 6; frames = 4097; entries = 2; entry = replicate 16 0; mode = Kernel 1 })) (fetch 1) (refused 7)
-    ∷ stays (inState (record { pages = 6; frames = 8; entries = 0; entry = replicate 16 0; mode = Kernel 1 })) (fetch 1) (refused 7)
-    ∷ stays (inState (record { pages = 6; frames = 8; entries = 17; entry = replicate 16 0; mode = Kernel 1 })) (fetch 1) (refused 7)
-    ∷ stays (inState (record { pages = 6; frames = 8; entries = 2; entry = replicate 16 0; mode = Kernel 6 })) (fetch 1) (refused 7)
-    ∷ stays (inState (record { pages = 5; frames = 8; entries = 2; entry = replicate 16 0; mode = Kernel 1 })) (fetch 1) (refused 7)
-    ∷ stays (inState (record { pages = 6; frames = 0; entries = 2; entry = replicate 16 0; mode = Kernel 1 })) (fetch 1) (refused 7)
+    ∷ stays (inState (stateOf 6 4097 2 (replicate 16 0) (Kernel 1))) (fetch 1) (refused 7)
+    ∷ stays (inState (stateOf 6 8 0 (replicate 16 0) (Kernel 1))) (fetch 1) (refused 7)
+    ∷ stays (inState (stateOf 6 8 17 (replicate 16 0) (Kernel 1))) (fetch 1) (refused 7)
+    ∷ stays (inState (stateOf 6 8 2 (replicate 16 0) (Kernel 6))) (fetch 1) (refused 7)
+    ∷ stays (inState (stateOf 5 8 2 (replicate 16 0) (Kernel 1))) (fetch 1) (refused 7)
+    ∷ stays (inState (stateOf 6 0 2 (replicate 16 0) (Kernel 1))) (fetch 1) (refused 7)
     ∷ stays (manyPages 2049) (fetch 0) (refused 7)
     ∷ stays (manyPages 2048) (fetch 0) (refused 11)
     -- e 1 and 16, the running page V - 1 and F 4,096 are in order; e is not compared with V, and what an entry page holds is not asked
-    ∷ stays (inState (record { pages = 6; frames = 4096; entries = 16; entry = replicate 16 9; mode = User 5 })) (fetch 0) (refused 11)
-    ∷ stays (inState (record { pages = 6; frames = 1; entries = 1; entry = replicate 16 9; mode = Kernel 5 })) (fetch 0) (refused 11)
+    ∷ stays (inState (stateOf 6 4096 16 (replicate 16 9) (User 5))) (fetch 0) (refused 11)
+    ∷ stays (inState (stateOf 6 1 1 (replicate 16 9) (Kernel 5))) (fetch 0) (refused 11)
     ∷ []
 
 -- Question 7 of each call: the state, whose running page is V, and each table that the call is lent, alone. The others may have any length.
@@ -229,7 +229,7 @@ switchCases =
     ∷ stays (with6 (User 5) left6) (enter 2) (refused 9)
     ∷ stays started6 (enter 2) (refused 9)
     -- "entry index below e with its page below V"
-    ∷ stays (inState (record { pages = 6; frames = 8; entries = 1; entry = 6 ∷ replicate 15 0; mode = User 1 })) (enter 0) (refused 9)
+    ∷ stays (inState (stateOf 6 8 1 (6 ∷ replicate 15 0) (User 1))) (enter 0) (refused 9)
     ∷ stays started6 (enter 0) (refused 10)
     ∷ stays (with6 (User 5) (set left6 2 0x3400)) (enter 1) (refused 11)
     ∷ stays (with6 (User 5) (set left6 2 0x8000000000003001)) (enter 1) (refused 12)

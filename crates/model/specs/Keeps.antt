@@ -83,6 +83,10 @@ unfoldable pub modeOf : Bool → ℕ → Mode
 modeOf false page = Kernel page
 modeOf true page = User page
 
+-- A state by V, F, e, its sixteen entry pages and its mode.
+abbrev pub stateOf : ℕ → ℕ → ℕ → List ℕ → Mode → State
+stateOf pages frames entries entry mode = record { pages = pages; frames = frames; entries = entries; entry = entry; mode = mode }
+
 -- The state with another mode.
 unfoldable pub inMode : State → Mode → State
-inMode s m = record { pages = s .pages; frames = s .frames; entries = s .entries; entry = s .entry; mode = m }
+inMode s m = stateOf (s .pages) (s .frames) (s .entries) (s .entry) m

@@ -7,7 +7,7 @@ use lib.Dec.{ltb, eqb}
 use Rattle.model.specs.declared.Mode.the-variants.{Kernel, User}
 use Rattle.model.specs.declared.State.{State}
 use Rattle.model.specs.Edges.{table, member}
-use Rattle.model.specs.Keeps.{none, Tables, Guard, guardOf, vectorOf}
+use Rattle.model.specs.Keeps.{none, Tables, Guard, guardOf, vectorOf, stateOf}
 use Rattle.model.specs.Bits.{approved}
 
 -- What the start is given beside the policy record: nothing so far.
@@ -76,13 +76,7 @@ entryPages policy = table 16 (λ i. cond (ltb i (policy .entries)) (getD (policy
 -- "stands in kernel mode on the first entry page"
 unfoldable pub startState : Policy → State
 startState policy =
-    record {
-      pages = policy .pages;
-      frames = policy .frames;
-      entries = policy .entries;
-      entry = entryPages policy;
-      mode = Kernel (getD (policy .listed) 0 0);
-    }
+    stateOf (policy .pages) (policy .frames) (policy .entries) (entryPages policy) (Kernel (getD (policy .listed) 0 0))
 
 -- "An accepted start sets the map and exclusion bits from the arrays, every other map place to 65535 and every other exclusion bit to 0,
 -- makes the shadow entry of each listed page an approved one, zeroes the others, and stands in kernel mode on the first entry page."
@@ -99,4 +93,4 @@ startGuard policy = guardOf (startState policy) (startTables policy)
 
 -- "A refused start, which has no state to keep, answers a state of zeros in user mode on page 0."
 unfoldable pub zeroState : State
-zeroState = record { pages = 0; frames = 0; entries = 0; entry = table 16 (λ i. 0); mode = User 0 }
+zeroState = stateOf 0 0 0 (table 16 (λ i. 0)) (User 0)

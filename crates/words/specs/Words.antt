@@ -11,7 +11,7 @@ use Rattle.model.specs.declared.Mode.{Mode}
 use Rattle.model.specs.Edges.{both, table, member}
 use Rattle.model.specs.Questions.{stateInOrder}
 use Rattle.model.specs.Calls.{Reply, settle}
-use Rattle.model.specs.Keeps.{inUser, running, modeOf}
+use Rattle.model.specs.Keeps.{inUser, running, modeOf, stateOf}
 
 -- The layout of a state run: V, F and e, the sixteen entry pages, kernel or user, the page now running.
 abbrev pub stateWords : ℕ
@@ -53,13 +53,7 @@ entryPages run = table 16 (λ i. field run (entryAt + i))
 -- The state that a run holds.
 unfoldable pub stateIn : List ℕ → State
 stateIn run =
-    record {
-      pages = field run pagesAt;
-      frames = field run framesAt;
-      entries = field run entriesAt;
-      entry = entryPages run;
-      mode = modeOf (eqb (getD run modeAt 0) 1) (field run runningAt);
-    }
+    stateOf (field run pagesAt) (field run framesAt) (field run entriesAt) (entryPages run) (modeOf (eqb (getD run modeAt 0) 1) (field run runningAt))
 
 -- The words that hold a state.
 unfoldable pub wordsOf : State → List ℕ
