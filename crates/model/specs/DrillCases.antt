@@ -5,6 +5,7 @@ use mathlib.Core.List.{List, [], _∷_, _++_}
 use mathlib.Core.Path.{_≡_}
 use lib.ListN.{replicate}
 use Rattle.model.specs.Cases.{Row, row, policyBytes}
+use Rattle.model.specs.Further.{twoEntries}
 use Rattle.model.specs.Drill.{policyExtent, kindOf, indexOf, lengthOf, valueOf, decimal, entryLines, shareLine, drillOutput}
 use Rattle.model.specs.Worked.{bytesOf, linesOf}
 
@@ -66,6 +67,40 @@ drillCases =
     ∷ "1 0 0 0 U 0"
     ∷ "X 14 0 0 U 0\n0000000000004007\n0000000000000000\n0000000000000000\nshare 11"
     ∷ []))
+    -- A policy with two entry pages, and in each call other numbers in the fields that its kind does not have.
+    ∷ row
+    (drillOutput
+    (twoEntries
+    ++ callBytes 3 4 9 9
+    ++ callBytes 0 0 9 0x6007
+    ++ callBytes 0 3 9 0x7007
+    ++ callBytes 2 9 9 9
+    ++ callBytes 1 0 9 9
+    ++ callBytes 4 9 17 12288
+    ++ callBytes 4 9 16 12288
+    ++ callBytes 4 9 16 16368
+    ++ callBytes 6 3 9 9
+    ++ callBytes 0 2 9 0x3001
+    ++ callBytes 1 2 9 9
+    ++ callBytes 5 1 9 9
+    ++ callBytes 7 9 8192 24576))
+    (linesOf
+    ("S 0 3 2 K 1"
+    ∷ "3 0 5 5 K 4"
+    ∷ "0 0 0 0 K 4"
+    ∷ "0 0 0 0 K 4"
+    ∷ "2 0 5 0 K 4"
+    ∷ "1 0 0 0 K 4"
+    ∷ "4 8 0 0 K 4"
+    ∷ "4 0 7 7 K 4"
+    ∷ "4 0 7 7 K 4"
+    ∷ "6 0 2 0 U 3"
+    ∷ "0 0 0 0 U 3"
+    ∷ "1 0 1 0 U 3"
+    ∷ "5 0 3 0 K 2"
+    ∷ "7 0 6 7 K 2"
+    ∷ "8000000000006007\n0000000000000000\n0000000000003401\n8000000000007007\n0000000000000000\n0000000000000000\nshare 25"
+    ∷ []))
     -- More pages than frames; an unknown kind ends the calls, and the call after it is not made.
     ∷ row (drillOutput (ninePages ++ callBytes 0 8 0 0x1003 ++ callBytes 2 0 0 0 ++ callBytes 8 0 0 0 ++ callBytes 3 8 0 0))
     (linesOf
@@ -91,10 +126,10 @@ drillCases =
     (0x10 ∷ 0x1312 ∷ 0x17161514 ∷ 0x1f1e1d1c1b1a1918 ∷ [])
     -- "8 bytes, and 4 × n more if n is 1 to 2,048": n 0, 1, 2,048 and 2,049
     ∷ row (extentOf 0 ∷ extentOf 1 ∷ extentOf 2048 ∷ extentOf 2049 ∷ []) (8 ∷ 12 ∷ 8200 ∷ 8 ∷ [])
-    -- Decimal numbers, hexadecimal digits, and the share, rounded down: 2 of 3 frames
+    -- Decimal numbers, hexadecimal digits, and the share, rounded down: 2 of 3 frames, 1 of 4, and all of 3, whatever the spare bits are
     ∷ row (decimal 10 ++ decimal 0 ++ decimal 18446744073709551615) (bytesOf "10018446744073709551615")
     ∷ row (entryLines (0xfedcba9876543210 ∷ 0xf ∷ [])) (linesOf ("fedcba9876543210" ∷ "000000000000000f" ∷ []))
-    ∷ row (shareLine 3 (5 ∷ [])) (linesOf ("share 66" ∷ []))
+    ∷ row (shareLine 3 (5 ∷ []) ++ shareLine 4 (2 ∷ []) ++ shareLine 3 (255 ∷ [])) (linesOf ("share 66" ∷ "share 25" ∷ "share 100" ∷ []))
     ∷ []
 
 -- A list so many times over.

@@ -1,15 +1,17 @@
 -- Cases beside the twelve of document 01, each from one of its sentences: a policy with two entry pages and a repeated frame, the calls that
 -- C1 to C12 do not make, and refusals with what comes before them. Rows as in Cases.
 use Prim.Native.Nat.{ℕ}
+use mathlib.Core.Bool.{true, false}
 use mathlib.Core.List.{List, [], _∷_}
 use lib.ListN.{replicate, set}
 use Rattle.model.specs.declared.State.{State}
 use Rattle.model.specs.declared.Mode.{Mode}
 use Rattle.model.specs.declared.Mode.the-variants.{Kernel, User}
-use Rattle.model.specs.Keeps.{Guard, guardOf, stateOf}
+use Rattle.model.specs.declared.Answer.the-variants.{Done, Refused}
+use Rattle.model.specs.Keeps.{tables, Guard, guardOf, withBit, stateOf}
 use Rattle.model.specs.Policy.{nothingGiven}
-use Rattle.model.specs.Calls.{Reply, Outcome, outcome, accepted, refused, startOf, Call, syncPage, syncAll, fetch, write, enter, leave, deviceWrite, answer}
-use Rattle.model.specs.Cases.{Case, row}
+use Rattle.model.specs.Calls.{Reply, Outcome, outcome, outcomeBy, accepted, refused, startOf, Call, syncPage, syncAll, fetch, write, enter, leave, deviceWrite, answer}
+use Rattle.model.specs.Cases.{Row, Case, row}
 
 -- V 6, F 8, n 3, e 2, pages 1, 2 and 4, frames 5, 3 and 5.
 unfoldable pub twoEntries : List ℕ
@@ -107,6 +109,7 @@ startCases =
     ∷ row (startOn (set twoEntries 10 1) 6 6 1) (startRefused 5 6 6 1)
     ∷ row (startOn (set (set twoEntries 12 6) 14 8) 6 6 1) (startRefused 5 6 6 1)
     ∷ row (startOn (set twoEntries 14 8) 6 6 1) (startRefused 6 6 6 1)
+    ∷ row (startOn (set twoEntries 18 8) 6 6 1) (startRefused 6 6 6 1)
     ∷ row (startOn twoEntries 5 6 1) (startRefused 7 5 6 1)
     ∷ row (startOn twoEntries 7 6 1) (startRefused 7 7 6 1)
     ∷ row (startOn twoEntries 6 5 1) (startRefused 7 6 5 1)
@@ -137,6 +140,20 @@ syncCases =
       map = 65535 ∷ 5 ∷ 3 ∷ 5 ∷ 5 ∷ 65535 ∷ [];
       exclusion = 0x28 ∷ [];
     })))
+    -- The same in user mode: an alias that joins and two approved pages get bit 63, a read-only entry with every ignored bit set stays read-only.
+    ∷ row (answer (with6 (User 1) shadow6) (syncAll (0x5003 ∷ 0x7003 ∷ 0 ∷ 0x7ff9 ∷ 0x9003 ∷ 0x6007 ∷ [])))
+    (outcome (accepted 6 1)
+    (guardOf (sixPages (User 1))
+    (record {
+      shadow = 0x8000000000005401 ∷ 0x8000000000005401 ∷ 0 ∷ 0x8000000000007001 ∷ 0x8000000000005401 ∷ 0x6007 ∷ [];
+      map = 5 ∷ 5 ∷ 3 ∷ 65535 ∷ 5 ∷ 65535 ∷ [];
+      exclusion = 0x28 ∷ [];
+    })))
+    -- A frame past F, and a damaged map's number past F, which counts as a frame
+    ∷ stays started6 (syncPage (replicate 6 0x9003) 0) (accepted 0 0)
+    ∷ row
+    (answer (guardOf (sixPages (Kernel 1)) (tables shadow6 (9 ∷ replicate 5 65535) (0x28 ∷ []))) (syncPage (replicate 6 0x4003) 0))
+    (outcome (accepted 1 0) (guardOf (sixPages (Kernel 1)) (tables (set shadow6 0 0x9401) (9 ∷ replicate 5 65535) (0x28 ∷ []))))
     -- 7 of the kernel table's length, and of each part of the state; 9 of the page
     ∷ stays started6 (syncAll (replicate 5 0)) (refused 7)
     ∷ stays started6 (syncPage (replicate 7 0) 0) (refused 7)
@@ -189,24 +206,36 @@ accessCases =
     -- "Fetch a page: its frame, twice; that page is now running. Needs bit 63 clear and, in user mode, bit 2."
     row (answer started6 (fetch 2)) (outcome (accepted 3 3) (with6 (Kernel 2) shadow6))
     ∷ row (answer (at0 (User 1) 0x4005) (fetch 0)) (outcome (accepted 4 4) (at0 (User 0) 0x4005))
+    -- page V - 1 with bit 9 set in user mode; in kernel mode an entry without the mark, whose frame has its highest bit set
+    ∷ row (answer (with6 (User 1) (set shadow6 5 0x6207)) (fetch 5)) (outcome (accepted 6 6) (with6 (User 5) (set shadow6 5 0x6207)))
+    ∷ row (answer (at0 (Kernel 1) 0x0018000000004001) (fetch 0)) (outcome (accepted 549755813892 549755813892) (at0 (Kernel 0) 0x0018000000004001))
     ∷ stays started6 (fetch 6) (refused 9)
     ∷ stays started6 (fetch 0) (refused 11)
     ∷ stays (at0 (User 1) 0x4001) (fetch 0) (refused 12)
     ∷ stays (at0 (Kernel 1) 0x8000000000004001) (fetch 0) (refused 12)
     -- A write that crosses into the next page: "first and last frame"; 11 of both pages, then 12 of both, then 13 of both.
     ∷ stays (at01 (Kernel 1) 0x8000000000006003 0x8000000000007003) (write 4095 2) (accepted 6 7)
+    ∷ stays (at01 (User 1) 0x6007 0x7007) (write 4095 2) (accepted 6 7)
     ∷ stays (at01 (Kernel 1) 0x8000000000006001 0) (write 4095 2) (refused 11)
+    ∷ stays (at01 (Kernel 1) 0x8000000000006002 0x8000000000007003) (write 4095 2) (refused 11)
+    ∷ stays (at01 (Kernel 1) 0x8000000000006001 0x8000000000007003) (write 4095 2) (refused 12)
+    ∷ stays (at01 (User 1) 0x8000000000006003 0x8000000000007007) (write 4095 2) (refused 12)
+    ∷ stays (at01 (Kernel 1) 0x8000000000005003 0x8000000000007001) (write 4095 2) (refused 12)
+    ∷ stays (at01 (Kernel 1) 0x8000000000005003 0x8000000000007003) (write 4095 2) (refused 13)
     ∷ stays (at01 (Kernel 1) 0x8000000000006003 0x8000000000007001) (write 4095 2) (refused 12)
     ∷ stays (at01 (User 1) 0x8000000000006007 0x8000000000007003) (write 4095 2) (refused 12)
     ∷ stays (at01 (Kernel 1) 0x8000000000006003 0x8000000000005003) (write 4095 2) (refused 13)
     ∷ stays (at01 (Kernel 1) 0x8000000000006003 0x8000000000008003) (write 4095 2) (refused 13)
     ∷ stays (at01 (Kernel 1) 0x8000000000006003 0x8000000000008003) (write 4094 2) (accepted 6 6)
+    ∷ stays (with6 (Kernel 1) leaving) (write 24575 1) (accepted 6 6)
     ∷ stays started6 (write 24575 2) (refused 9)
     ∷ stays started6 (write 18446744073709551615 16) (refused 9)
     -- Device write: "all touched frames"; 8 before 9; sums are exact
     ∷ stays started6 (deviceWrite 1 12287) (accepted 0 2)
     ∷ stays started6 (deviceWrite 1 12288) (refused 13)
     ∷ stays started6 (deviceWrite 16384 4097) (refused 13)
+    ∷ stays started6 (deviceWrite 20480 4097) (refused 13)
+    ∷ stays started6 (deviceWrite 8192 12288) (refused 13)
     ∷ stays started6 (deviceWrite 32767 1) (accepted 7 7)
     ∷ stays started6 (deviceWrite 0 0) (refused 8)
     ∷ stays started6 (deviceWrite 0 1048577) (refused 8)
@@ -218,6 +247,11 @@ switchCases =
     -- "Leave to a page: it needs bit 2 set and bit 9 clear." "Both switch the mode, run that page, and give the count of changed shadow
     -- entries and 0."
     row (answer (with6 (Kernel 1) leaving) (leave 5)) (outcome (accepted 4 0) (with6 (User 5) left6))
+    -- neither bit 63 nor the mark is asked; bit 9 keeps a page from running in user mode, and the mark does whatever the other bits say
+    ∷ row (answer (with6 (Kernel 1) (set shadow6 5 0x6c07)) (leave 5))
+    (outcome (accepted 4 0) (with6 (User 5) (set (set left6 3 0) 5 0x8000000000006c07)))
+    ∷ row (answer (with6 (Kernel 1) (set (set leaving 0 0x8000000000006207) 3 0x4000000000007dff)) (leave 5))
+    (outcome (accepted 5 0) (with6 (User 5) (set (set left6 0 0x8000000000006207) 3 0xc000000000007dff)))
     ∷ stays (with6 (Kernel 1) leaving) (leave 6) (refused 9)
     ∷ stays (with6 (User 5) left6) (leave 6) (refused 9)
     ∷ stays (with6 (User 5) left6) (leave 5) (refused 10)
@@ -226,9 +260,12 @@ switchCases =
     ∷ stays (at0 (Kernel 1) 0x8000000000006207) (leave 0) (refused 12)
     -- "Enter by entry index: the page needs bit 10."
     ∷ row (answer (with6 (User 5) left6) (enter 1)) (outcome (accepted 4 0) (with6 (Kernel 2) leaving))
+    ∷ row (answer (with6 (User 5) (set left6 2 0x3401)) (enter 1)) (outcome (accepted 3 0) (with6 (Kernel 2) leaving))
     ∷ stays (with6 (User 5) left6) (enter 2) (refused 9)
     ∷ stays started6 (enter 2) (refused 9)
-    -- "entry index below e with its page below V"
+    -- "entry index below e with its page below V", each index by its own page
+    ∷ stays (inState (stateOf 6 8 2 (1 ∷ 6 ∷ replicate 14 0) (User 1))) (enter 1) (refused 9)
+    ∷ stays (inState (stateOf 6 8 1 (5 ∷ replicate 15 0) (User 1))) (enter 0) (refused 11)
     ∷ stays (inState (stateOf 6 8 1 (6 ∷ replicate 15 0) (User 1))) (enter 0) (refused 9)
     ∷ stays started6 (enter 0) (refused 10)
     ∷ stays (with6 (User 5) (set left6 2 0x3400)) (enter 1) (refused 11)
@@ -236,4 +273,25 @@ switchCases =
     -- "sets bit 63 of each present shadow entry [..], approved mark and bits 2 and 9 as found, other bits kept": an absent entry keeps all bits
     ∷ row (answer (with6 (User 5) (set (set left6 0 0x8000000000006006) 3 0x8000000000007e1f)) (enter 1))
     (outcome (accepted 5 0) (with6 (Kernel 2) (set (set leaving 0 0x8000000000006006) 3 0x7e1f)))
+    ∷ []
+
+-- What an answer gives, with the tables that a call left.
+unfoldable pub answerCases : List Case
+answerCases =
+    row (outcomeBy (record { answer = Done 1 2; state = zeros }) (tables (3 ∷ []) (4 ∷ []) (5 ∷ [])))
+    (outcome (record { allowed = true; number = 0; first = 1; second = 2 })
+    (guardOf zeros (record { shadow = 3 ∷ []; map = 4 ∷ []; exclusion = 5 ∷ [] })))
+    ∷ row (outcomeBy (record { answer = Refused 7; state = zeros }) (tables [] [] []))
+    (outcome (record { allowed = false; number = 7; first = 0; second = 0 }) (guardOf zeros (record { shadow = []; map = []; exclusion = [] })))
+    ∷ []
+
+-- A vector with a bit set, cleared, and past its end.
+abbrev pub VectorCase : Type 0
+VectorCase = Row (List ℕ)
+
+unfoldable pub vectorCases : List VectorCase
+vectorCases =
+    row (withBit true (0 ∷ 1 ∷ []) 9) (0 ∷ 3 ∷ [])
+    ∷ row (withBit false (255 ∷ 3 ∷ []) 9) (255 ∷ 1 ∷ [])
+    ∷ row (withBit true (0 ∷ []) 9) (0 ∷ [])
     ∷ []

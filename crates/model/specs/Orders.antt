@@ -1,5 +1,5 @@
--- Document 01, "Questions in order": for each call and each of its questions a row whose input fails that question and every later one of
--- the call. "The first no gives its number", so that the rows of a call fix the order of its questions. The guard is that of Further.
+-- Document 01, "Questions in order": for each call and each of its questions but the last a row whose input fails that question and every
+-- later one of the call. "The first no gives its number", so that the rows of a call fix the order of its questions. The guard is that of Further.
 use Prim.Native.Nat.{ℕ}
 use mathlib.Core.List.{List, [], _∷_, _++_}
 use lib.ListN.{replicate, set}

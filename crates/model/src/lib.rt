@@ -7,7 +7,7 @@ ghost use Rattle.model.specs.Cases.{cases, Hold};
 ghost use Rattle.model.specs.Claim.{Claim};
 ghost use Rattle.model.specs.Drill.{drillOutput};
 ghost use Rattle.model.specs.DrillCases.{drillCases, Limit};
-ghost use Rattle.model.specs.Further.{startCases, syncCases, orderCases, accessCases, switchCases};
+ghost use Rattle.model.specs.Further.{startCases, syncCases, orderCases, accessCases, switchCases, answerCases, vectorCases};
 ghost use Rattle.model.specs.Orders.{startOrder, callOrder};
 ghost use Rattle.model.specs.Worked.{workedInput, workedOutput};
 
@@ -64,7 +64,7 @@ pub fn twelve_cases()
 
 // Cases beside the twelve: the calls and refusals that those do not make.
 pub fn further_cases()
-    ensures { λ _. ⌜ Hold (startCases ++ syncCases ++ orderCases ++ accessCases ++ switchCases) ⌝ }
+    ensures { λ _. ⌜ Hold (startCases ++ syncCases ++ orderCases ++ accessCases ++ switchCases ++ answerCases) × Hold vectorCases ⌝ }
 {}
 
 // The order of each call's questions, by inputs that fail several of them.

@@ -5,6 +5,8 @@ use crate::tally::Tally;
 use std::io::Write;
 use std::path::Path;
 use std::process::{Command, Output, Stdio};
+use std::thread::sleep;
+use std::time::Duration;
 
 /// "Policy V 4, F 4, n 1, e 1, page 1, frame 2."
 const POLICY: [u8; 12] = [4, 0, 4, 0, 1, 0, 1, 0, 1, 0, 2, 0];
@@ -21,20 +23,34 @@ fn call(kind: u8, index: u16, value: u64) -> Vec<u8> {
     bytes
 }
 
-/// What the built drill writes for an input, and how it ends. It may stop reading before the input ends.
-fn ran(input: &[u8]) -> Output {
+/// What the built drill writes for an input that comes in pieces of this size, and how it ends. It may stop reading before the input ends.
+fn ran(input: &[u8], piece: usize) -> Output {
     let drill = Path::new(env!("CARGO_MANIFEST_DIR")).join("../../target/bin/drill");
     let mut child = Command::new(drill)
         .stdin(Stdio::piped())
         .stdout(Stdio::piped())
         .spawn()
         .expect("the drill is built: rt check drill");
-    let _ = child.stdin.take().expect("a pipe").write_all(input);
+    let mut pipe = child.stdin.take().expect("a pipe");
+    for bytes in input.chunks(piece) {
+        if pipe.write_all(bytes).is_err() {
+            break;
+        }
+        if bytes.len() < input.len() {
+            // The drill is to find the pipe empty between two pieces.
+            sleep(Duration::from_millis(1));
+        }
+    }
+    drop(pipe);
     child.wait_with_output().expect("the drill ends")
 }
 
 fn drill(t: Tally, name: &str, input: &[u8], wanted: &str) -> Tally {
-    let Output { status, stdout, .. } = ran(input);
+    in_pieces(t, name, input, input.len().max(1), wanted)
+}
+
+fn in_pieces(t: Tally, name: &str, input: &[u8], piece: usize, wanted: &str) -> Tally {
+    let Output { status, stdout, .. } = ran(input, piece);
     if !status.success() {
         println!("the drill ended with {status}");
     }
@@ -68,6 +84,10 @@ fn starts(t: Tally) -> Tally {
 /// "14. Drill only: does a whole call of 16 bytes remain, where anything remains? 15. Drill only: is the kind 0 to 7?"
 fn ends(t: Tally) -> Tally {
     let t = after_start(t, "no call", &[], "");
+    let input = [POLICY.to_vec(), call(3, 1, 0).repeat(2), vec![2; 5]].concat();
+    let wanted = format!("{START}3 0 2 2 K 1\n3 0 2 2 K 1\nX 14 0 0 K 1\n{CLOSING}");
+    let t = in_pieces(t, "an input that comes byte by byte", &input, 1, &wanted);
+    let t = in_pieces(t, "an input in pieces of 7 bytes", &input, 7, &wanted);
     let t = after_start(t, "15 bytes of a call give 14", &call(2, 0, 0)[..15], "X 14 0 0 K 1\n");
     let t = after_start(t, "1 byte of a kind above 7 gives 14", &[9], "X 14 0 0 K 1\n");
     let t = after_start(t, "kind 8 gives 15", &call(8, 0, 0), "X 15 0 0 K 1\n");
