@@ -16,7 +16,7 @@ use Rattle.model.specs.Questions.{stateInOrder}
 use Rattle.model.specs.Calls.{replyOf, settle, outcomeBy, keptBy, Call, answer}
 use Rattle.model.proofs.QuestionLaws.{both-first, both-second}
 use Rattle.model.proofs.CallLaws.{answer-unfit}
-use Rattle.words.specs.Words.{stateIn, withMode, withNumbers, runsFit, lendable, runAfter}
+use Rattle.words.specs.Words.{stateWords, modeAt, stateIn, withMode, withNumbers, runsFit, lendable, runAfter}
 use Rattle.words.proofs.WordLaws.{run-lent}
 use Rattle.words.proofs.StateLaws.{mode-kept}
 use Rattle.boundary.specs.Boundary.{left, replied, callAt}
@@ -44,14 +44,14 @@ module _ (run numbers : List ℕ) (b : Bool) (asks : b ≡ usable run numbers) (
   lends : lendable run numbers ≡ true
   lends = both-first (lendable run numbers) (stateInOrder (stateIn run)) (sym asks ∙ not-false b used)
 
-  pub run-used : length run ≡ 21
+  pub run-used : length run ≡ stateWords
   run-used = run-lent run numbers true (sym lends) refl
 
   -- The words of a mode that stays.
   kept-run : (n : ℕ) → run ≡ settle n (withMode run (stateIn run .mode)) (λ _. run)
   unfolding settle lendable
   kept-run zero =
-      sym (mode-kept run (both-second (runsFit run numbers) (leb (getD run 19 0) 1) lends)
+      sym (mode-kept run (both-second (runsFit run numbers) (leb (getD run modeAt 0) 1) lends)
       (both-second (lendable run numbers) (stateInOrder (stateIn run)) (sym asks ∙ not-false b used)))
   kept-run (suc n) = refl
 

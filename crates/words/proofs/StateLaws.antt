@@ -1,10 +1,10 @@
 -- Laws of a state in a run: all words written, what was written decodes to the same state, and question 7 on the words.
-use Prim.Native.Nat.{ℕ, zero, suc, _+_, _≤_, _<_}
+use Prim.Native.Nat.{ℕ, zero, suc, _+_, _-_, _≤_, _<_}
 use mathlib.Core.Bool.{Bool, true, false}
-use mathlib.Core.List.{List, [], _∷_, _++_}
+use mathlib.Core.List.{List}
 use mathlib.Core.Path.{_≡_, refl, sym, ap, _∙_}
-use lib.ListN.{length, getD, set, drop, length-append, length-drop, length-set, List·getD-append}
-use lib.Seq.{paste, take-all, set-at, getD-at, getD-drop, getD-set-same, getD-set-other, set-getD, append-snoc}
+use lib.ListN.{length, getD, set, length-set, List·getD-append}
+use lib.Seq.{paste, drop-at, getD-drop, getD-set-same, getD-set-other, set-getD}
 use lib.Dec.{leb, ltb, eqb}
 use borrow.Author.Tests.{le-leb, leb-true, leb-false, ltb-true, eqb-true, eqb-false}
 use native.Mathlib.Omega.{arith}
@@ -18,35 +18,33 @@ use Rattle.model.specs.Keeps.{inUser, running, modeOf, inMode}
 use Rattle.model.specs.Questions.{stateInOrder}
 use Rattle.model.proofs.QuestionLaws.{both-first, both-second, both-yes, both-no-after, within-high}
 use Rattle.model.proofs.TableLaws.{is-table, table-same}
-use Rattle.words.specs.Words.{narrow, field, entryPages, stateIn, modeWord, wordsOf, withMode}
-use Rattle.words.proofs.WordLaws.{narrow-fits, narrow-wide, narrow-within, narrow-ltb}
+use Rattle.words.specs.Words.{stateWords, pagesAt, framesAt, entriesAt, entryAt, entryWords, modeAt, runningAt, widest}
+use Rattle.words.specs.Words.{narrow, field, entryPages, stateIn, modeWord, lastWords, wordsOf, withMode}
+use Rattle.words.proofs.WordLaws.{front-none, front-word, front-table, front-full, narrow-fits, narrow-wide, narrow-within, narrow-ltb}
 
--- The two words behind the entry pages.
-tail-written : (e d : List ℕ) (m r : ℕ) → length e ≡ 16 → length d ≡ 2 → set (set (e ++ d) 16 m) 17 r ≡ e ++ (m ∷ r ∷ [])
-tail-written e [] m r p q = absurd (omega arith)
-tail-written e (u ∷ []) m r p q = absurd (omega arith)
-tail-written e (u ∷ v ∷ []) m r p q =
-    let longer : length (e ++ (m ∷ [])) ≡ 17 = simp length-append (omega arith) in
-    ap (λ (l : List ℕ). set l 17 r) (set-at e u (v ∷ []) m 16 p ∙ sym (append-snoc e m (v ∷ [])))
-    ∙ (set-at (e ++ (m ∷ [])) v [] r 17 longer ∙ append-snoc e m (r ∷ []))
-tail-written e (u ∷ v ∷ w ∷ d) m r p q = absurd (omega arith)
+-- A run keeps its length where V, F and e are written before calls that keep it.
+pub sizes-kept : (run t : List ℕ) (a b d : ℕ) → length run ≡ stateWords
+    → length t ≡ length (set (set (set run pagesAt a) framesAt b) entriesAt d) → length t ≡ stateWords
+sizes-kept run t a b d e p = p ∙ simp length-set e
 
--- A run keeps its length where V, F and e are written between two calls that keep it.
-pub three-kept : (run t u : List ℕ) (a b d : ℕ) → length t ≡ length run → length u ≡ length (set (set (set t 0 a) 1 b) 2 d)
+pub words-kept : (run t u : List ℕ) (a b d : ℕ) → length t ≡ length (set (set (set run pagesAt a) framesAt b) entriesAt d) → length u ≡ length t
     → length u ≡ length run
-three-kept run t u a b d p q = q ∙ simp length-set p
+words-kept run t u a b d p q = q ∙ (p ∙ simp length-set refl)
 
--- All words of a state, written over a run of 21: the entry pages, V, F and e, the mode.
-pub words-written : (s : State) (run t u : List ℕ) → length run ≡ 21 → length (s .entry) ≡ 16 → t ≡ paste run 3 (s .entry) 16
-    → u ≡ withMode (set (set (set t 0 (s .pages)) 1 (s .frames)) 2 (s .entries)) (s .mode) → u ≡ wordsOf s
+-- All words of a state, written front to back: V, F and e, the entry pages, the mode.
+pub words-written : (s : State) (run t u : List ℕ) → length run ≡ stateWords → length (s .entry) ≡ entryWords
+    → t ≡ paste (set (set (set run pagesAt (s .pages)) framesAt (s .frames)) entriesAt (s .entries)) entryAt (s .entry) entryWords
+    → u ≡ withMode t (s .mode) → u ≡ wordsOf s
 unfolding wordsOf withMode
-words-written s [] t u n k e p = absurd (omega arith)
-words-written s (x ∷ []) t u n k e p = absurd (omega arith)
-words-written s (x ∷ y ∷ []) t u n k e p = absurd (omega arith)
-words-written s (x ∷ y ∷ z ∷ rest) t u n k e p =
-    rw (p, e, take-all 16 (s .entry) (omega arith))
-    (ap (λ (l : List ℕ). s .pages ∷ s .frames ∷ s .entries ∷ l)
-    (tail-written (s .entry) (drop 16 rest) (modeWord (s .mode)) (running (s .mode)) k (simp length-drop (omega arith))))
+words-written s run t u long k e p =
+    rw (p, e)
+    (front-full stateWords _ _
+    (front-word _ runningAt (running (s .mode)) _ _ (omega arith)
+    (front-word _ modeAt (modeWord (s .mode)) _ _ (omega arith)
+    (front-table _ entryAt entryWords (s .entry) _ _ k (omega arith)
+    (front-word _ entriesAt (s .entries) _ _ (omega arith)
+    (front-word _ framesAt (s .frames) _ _ (omega arith)
+    (front-word _ pagesAt (s .pages) _ _ (omega arith) (front-none _ run long))))))))
 
 -- The mode, by its two words.
 mode-back : (mode : Mode) → modeOf (eqb (modeWord mode) 1) (running mode) ≡ mode
@@ -63,22 +61,14 @@ state-made : (s : State) (p f n : ℕ) (e : List ℕ) (m : Mode) → p ≡ s .pa
 state-made s p f n e m a b c d h = rw (a, b, c, d, h) refl
 
 -- The words of a state decode to it where each fits its field.
-module _ (s : State) (long : length (s .entry) ≡ 16) where
-  entry-word : (i : ℕ) → i < 16 → getD (wordsOf s) (3 + i) 0 ≡ getD (s .entry) i 0
+module _ (s : State) (long : length (s .entry) ≡ entryWords) where
+  entry-word : (i : ℕ) → i < entryWords → getD (wordsOf s) (entryAt + i) 0 ≡ getD (s .entry) i 0
   unfolding wordsOf
-  entry-word i h =
-      sym (getD-drop 3 (wordsOf s) i 0) ∙ List·getD-append (s .entry) (modeWord (s .mode) ∷ running (s .mode) ∷ []) 0 i (omega arith)
+  entry-word i h = sym (getD-drop entryAt (wordsOf s) i 0) ∙ List·getD-append (s .entry) (lastWords s) 0 i (omega arith)
 
-  mode-word-back : getD (wordsOf s) 19 0 ≡ modeWord (s .mode)
+  last-word : (i : ℕ) → getD (wordsOf s) (modeAt + i) 0 ≡ getD (lastWords s) i 0
   unfolding wordsOf
-  mode-word-back = getD-at (s .entry) (modeWord (s .mode)) (running (s .mode) ∷ []) 0 16 long
-
-  running-word-back : getD (wordsOf s) 20 0 ≡ running (s .mode)
-  unfolding wordsOf
-  running-word-back =
-      let longer : length (s .entry ++ (modeWord (s .mode) ∷ [])) ≡ 17 = simp length-append (omega arith) in
-      ap (λ (l : List ℕ). getD l 17 0) (sym (append-snoc (s .entry) (modeWord (s .mode)) (running (s .mode) ∷ [])))
-      ∙ getD-at (s .entry ++ (modeWord (s .mode) ∷ [])) (running (s .mode)) [] 0 17 longer
+  last-word i = sym (getD-drop modeAt (wordsOf s) i 0) ∙ ap (λ (l : List ℕ). getD l i 0) (drop-at (s .entry) (lastWords s) entryWords long)
 
   field-back : (at x : ℕ) → getD (wordsOf s) at 0 ≡ x → x < 65536 → field (wordsOf s) at ≡ x
   unfolding field
@@ -87,46 +77,50 @@ module _ (s : State) (long : length (s .entry) ≡ 16) where
   entries-back : ((i : ℕ) → Fits w16 (getD (s .entry) i 0)) → entryPages (wordsOf s) ≡ s .entry
   unfolding entryPages
   entries-back fits =
-      sym (is-table (s .entry) 16 (λ i. field (wordsOf s) (3 + i)) long
-      (λ i h. sym (field-back (3 + i) (getD (s .entry) i 0) (entry-word i h) (fits i .fits))))
+      sym (is-table (s .entry) entryWords (λ i. field (wordsOf s) (entryAt + i)) long
+      (λ i h. sym (field-back (entryAt + i) (getD (s .entry) i 0) (entry-word i h) (fits i .fits))))
 
-  words-decoded : s .pages < 65536 → s .frames < 65536 → s .entries < 65536 → ((i : ℕ) → Fits w16 (getD (s .entry) i 0))
+  pub words-decoded : s .pages < 65536 → s .frames < 65536 → s .entries < 65536 → ((i : ℕ) → Fits w16 (getD (s .entry) i 0))
       → running (s .mode) < 65536 → stateIn (wordsOf s) ≡ s
   unfolding stateIn wordsOf
   words-decoded p f n fits r =
-      state-made s _ _ _ _ _ (field-back 0 (s .pages) refl p) (field-back 1 (s .frames) refl f) (field-back 2 (s .entries) refl n)
+      state-made s _ _ _ _ _
+      (field-back pagesAt (s .pages) refl p)
+      (field-back framesAt (s .frames) refl f)
+      (field-back entriesAt (s .entries) refl n)
       (entries-back fits)
-      (rw (mode-word-back, field-back 20 (running (s .mode)) running-word-back r) (mode-back (s .mode)))
-
-pub written-decoded : (s : State) (t : List ℕ) → t ≡ wordsOf s → length (s .entry) ≡ 16 → s .pages < 65536 → s .frames < 65536
-    → s .entries < 65536 → ((i : ℕ) → Fits w16 (getD (s .entry) i 0)) → running (s .mode) < 65536 → stateIn t ≡ s
-written-decoded s t e long p f n fits r = rw e (words-decoded s long p f n fits r)
+      (rw (last-word (modeAt - modeAt), field-back runningAt (running (s .mode)) (last-word (runningAt - modeAt)) r) (mode-back (s .mode)))
 
 -- A run with another mode decodes to the state in that mode: the other words are as they were.
-module _ (run : List ℕ) (mode : Mode) (long : length run ≡ 21) where
-  kept-word : (at : ℕ) → at < 19 → getD (withMode run mode) at 0 ≡ getD run at 0
-  unfolding withMode
-  kept-word at h =
-      getD-set-other (set run 19 (modeWord mode)) 20 at (running mode) 0 (λ q. omega arith) ∙ getD-set-other run 19 at (modeWord mode) 0 (λ q. omega arith)
+module _ (run : List ℕ) (mode : Mode) (long : length run ≡ stateWords) where
+  kept-field : (at : ℕ) → (at ≡ modeAt → ⊥) → (at ≡ runningAt → ⊥) → field (withMode run mode) at ≡ field run at
+  unfolding field withMode
+  kept-field at m r =
+      ap narrow (getD-set-other (set run modeAt (modeWord mode)) runningAt at (running mode) 0 r ∙ getD-set-other run modeAt at (modeWord mode) 0 m)
 
-  mode-put : getD (withMode run mode) 19 0 ≡ modeWord mode
+  mode-put : getD (withMode run mode) modeAt 0 ≡ modeWord mode
   unfolding withMode
-  mode-put = getD-set-other (set run 19 (modeWord mode)) 20 19 (running mode) 0 (λ q. omega arith) ∙ getD-set-same run 19 (modeWord mode) 0 (omega arith)
+  mode-put =
+      getD-set-other (set run modeAt (modeWord mode)) runningAt modeAt (running mode) 0 (λ q. omega arith)
+      ∙ getD-set-same run modeAt (modeWord mode) 0 (omega arith)
 
-  running-put : getD (withMode run mode) 20 0 ≡ running mode
-  unfolding withMode
-  running-put = getD-set-same (set run 19 (modeWord mode)) 20 (running mode) 0 (simp length-set (omega arith))
+  running-field : running mode < 65536 → field (withMode run mode) runningAt ≡ running mode
+  unfolding field withMode
+  running-field r =
+      ap narrow (getD-set-same (set run modeAt (modeWord mode)) runningAt (running mode) 0 (simp length-set (omega arith))) ∙ narrowed (running mode) r
 
   pub mode-decoded : running mode < 65536 → stateIn (withMode run mode) ≡ inMode (stateIn run) mode
-  unfolding stateIn inMode field entryPages
+  unfolding stateIn inMode entryPages
   mode-decoded r =
-      state-made (inMode (stateIn run) mode) _ _ _ _ _ (ap narrow (kept-word 0 (omega arith))) (ap narrow (kept-word 1 (omega arith)))
-      (ap narrow (kept-word 2 (omega arith)))
-      (table-same 16 _ _ (λ i h. ap narrow (kept-word (3 + i) (omega arith))))
-      (rw (mode-put, running-put, narrowed (running mode) r) (mode-back mode))
+      state-made (inMode (stateIn run) mode) _ _ _ _ _
+      (kept-field pagesAt (λ q. omega arith) (λ q. omega arith))
+      (kept-field framesAt (λ q. omega arith) (λ q. omega arith))
+      (kept-field entriesAt (λ q. omega arith) (λ q. omega arith))
+      (table-same entryWords _ _ (λ i h. kept-field (entryAt + i) (λ q. omega arith) (λ q. omega arith)))
+      (rw (mode-put, running-field r) (mode-back mode))
 
-pub mode-written : (run : List ℕ) (mode : Mode) (word r : ℕ) → length run ≡ 21 → word ≡ modeWord mode → r ≡ running mode → Fits w16 r
-    → stateIn (set (set run 19 word) 20 r) ≡ inMode (stateIn run) mode
+pub mode-written : (run : List ℕ) (mode : Mode) (word r : ℕ) → length run ≡ stateWords → word ≡ modeWord mode → r ≡ running mode → Fits w16 r
+    → stateIn (set (set run modeAt word) runningAt r) ≡ inMode (stateIn run) mode
 unfolding withMode
 mode-written run mode word r long e p h = rw (e, p) (mode-decoded run mode long (rw p at (h .fits)))
 
@@ -160,20 +154,22 @@ module _ (p f e r : ℕ) where
       by true h = let few : p ≤ 2048 = within-high 1 2048 p h in rw (narrow-ltb r p (omega arith), below few (ltb r p) refl) refl
       by false h = refl
 
-words-asked : (run : List ℕ) → onWords (getD run 0 0) (getD run 1 0) (getD run 2 0) (getD run 20 0) ≡ stateInOrder (stateIn run)
+words-asked : (run : List ℕ)
+    → onWords (getD run pagesAt 0) (getD run framesAt 0) (getD run entriesAt 0) (getD run runningAt 0) ≡ stateInOrder (stateIn run)
 unfolding stateInOrder stateIn field pagesInRange framesInRange
 words-asked run =
     rw (
       running-mode,
-      narrow-within 1 2048 (getD run 0 0) (omega arith),
-      narrow-within 1 4096 (getD run 1 0) (omega arith),
-      narrow-within 1 16 (getD run 2 0) (omega arith),
+      narrow-within 1 2048 (getD run pagesAt 0) (omega arith),
+      narrow-within 1 4096 (getD run framesAt 0) (omega arith),
+      narrow-within 1 16 (getD run entriesAt 0) (omega arith),
     )
-    (on-words (getD run 0 0) (getD run 1 0) (getD run 2 0) (getD run 20 0))
+    (on-words (getD run pagesAt 0) (getD run framesAt 0) (getD run entriesAt 0) (getD run runningAt 0))
 
 pub words-in-order : (run : List ℕ) (a b d q w y r : Bool) → r ≡ both q y → q ≡ both a b → y ≡ both d w
-    → w ≡ both (leb (getD run 20 0) 2047) (ltb (getD run 20 0) (getD run 0 0))
-    → a ≡ within 1 2048 (getD run 0 0) → b ≡ within 1 4096 (getD run 1 0) → d ≡ within 1 16 (getD run 2 0) → r ≡ stateInOrder (stateIn run)
+    → w ≡ both (leb (getD run runningAt 0) 2047) (ltb (getD run runningAt 0) (getD run pagesAt 0))
+    → a ≡ within 1 2048 (getD run pagesAt 0) → b ≡ within 1 4096 (getD run framesAt 0) → d ≡ within 1 16 (getD run entriesAt 0)
+    → r ≡ stateInOrder (stateIn run)
 words-in-order run a b d q w y r e1 e2 e3 e4 e5 e6 e7 = cc (words-asked run)
 
 -- A mode that stays: its words are as they were, where the mode word is 0 or 1 and the running page is in order.
@@ -187,21 +183,21 @@ mode-word-of word page h false e = by word h (eqb-false word 1 e)
     by (suc zero) l q = absurd (q refl)
     by (suc (suc n)) l q = absurd (omega arith)
 
-narrow-small : (word : ℕ) → narrow word < 65535 → narrow word ≡ word
-narrow-small word h = by (leb word 65535) refl
+narrow-small : (word : ℕ) → narrow word < widest → narrow word ≡ word
+narrow-small word h = by (leb word widest) refl
   where
-    by : (b : Bool) → leb word 65535 ≡ b → narrow word ≡ word
-    by true e = sym (narrow-fits word (leb-true word 65535 e))
-    by false e = absurd (let q : 65535 ≡ narrow word = narrow-wide word (leb-false word 65535 e) in omega arith)
+    by : (b : Bool) → leb word widest ≡ b → narrow word ≡ word
+    by true e = sym (narrow-fits word (leb-true word widest e))
+    by false e = absurd (let q : widest ≡ narrow word = narrow-wide word (leb-false word widest e) in omega arith)
 
-pub mode-kept : (run : List ℕ) → leb (getD run 19 0) 1 ≡ true → stateInOrder (stateIn run) ≡ true → withMode run (stateIn run .mode) ≡ run
+pub mode-kept : (run : List ℕ) → leb (getD run modeAt 0) 1 ≡ true → stateInOrder (stateIn run) ≡ true → withMode run (stateIn run .mode) ≡ run
 unfolding withMode stateIn field stateInOrder pagesInRange
 mode-kept run h p =
-    let few : field run 0 ≤ 2048 = within-high 1 2048 (field run 0) (both-first _ _ p) in
-    let below : field run 20 < field run 0 = ltb-true _ _ (rw running-mode at (both-second _ _ (both-second _ _ (both-second _ _ p)))) in
-    let same : field run 20 ≡ getD run 20 0 = running-same below few in
-    rw (mode-word-of (getD run 19 0) (field run 20) (leb-true _ _ h) (eqb (getD run 19 0) 1) refl, running-mode, same, set-getD run 19 0)
-    (set-getD run 20 0)
+    let few : field run pagesAt ≤ 2048 = within-high 1 2048 (field run pagesAt) (both-first _ _ p) in
+    let below : field run runningAt < field run pagesAt = ltb-true _ _ (rw running-mode at (both-second _ _ (both-second _ _ (both-second _ _ p)))) in
+    let same : field run runningAt ≡ getD run runningAt 0 = running-same below few in
+    rw (mode-word-of (getD run modeAt 0) (field run runningAt) (leb-true _ _ h) (eqb (getD run modeAt 0) 1) refl, running-mode, same, set-getD run modeAt 0)
+    (set-getD run runningAt 0)
   where
-    running-same : field run 20 < field run 0 → field run 0 ≤ 2048 → field run 20 ≡ getD run 20 0
-    running-same below few = narrow-small (getD run 20 0) (omega arith)
+    running-same : field run runningAt < field run pagesAt → field run pagesAt ≤ 2048 → field run runningAt ≡ getD run runningAt 0
+    running-same below few = narrow-small (getD run runningAt 0) (omega arith)

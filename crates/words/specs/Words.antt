@@ -14,6 +14,7 @@ use Rattle.model.specs.Calls.{Reply, settle}
 use Rattle.model.specs.Keeps.{inUser, running, modeOf, stateOf}
 
 -- The layout of a state run: V, F and e, the sixteen entry pages, kernel or user, the page now running.
+-- The proofs speak of a place by its name.
 abbrev pub stateWords : ℕ
 stateWords = 21
 
@@ -29,48 +30,66 @@ entriesAt = 2
 abbrev pub entryAt : ℕ
 entryAt = 3
 
+abbrev pub entryWords : ℕ
+entryWords = 16
+
 abbrev pub modeAt : ℕ
 modeAt = 19
 
 abbrev pub runningAt : ℕ
 runningAt = 20
 
+-- The layout of a numbers run: the two numbers of a reply.
+abbrev pub numbersWords : ℕ
+numbersWords = 2
+
+abbrev pub firstAt : ℕ
+firstAt = 0
+
+abbrev pub secondAt : ℕ
+secondAt = 1
+
 -- The mode word: 0 for kernel mode, 1 for user mode.
 unfoldable pub modeWord : Mode → ℕ
 modeWord mode = cond (inUser mode) 1 0
 
--- A word as a 16-bit field. A wider word is taken for 65535, which is above every V, F and e, so that question 7 refuses it in those
+-- A word as a 16-bit field. A wider word is taken for the widest field, which is above every V, F and e, so that question 7 refuses it in those
 -- fields and as the running page, and question 9 as the page of an entry index.
+abbrev pub widest : ℕ
+widest = 65535
+
 unfoldable pub narrow : ℕ → ℕ
-narrow word = cond (leb word 65535) word 65535
+narrow word = cond (leb word widest) word widest
 
 unfoldable pub field : List ℕ → ℕ → ℕ
 field run at = narrow (getD run at 0)
 
 unfoldable pub entryPages : List ℕ → List ℕ
-entryPages run = table 16 (λ i. field run (entryAt + i))
+entryPages run = table entryWords (λ i. field run (entryAt + i))
 
 -- The state that a run holds.
 unfoldable pub stateIn : List ℕ → State
 stateIn run =
     stateOf (field run pagesAt) (field run framesAt) (field run entriesAt) (entryPages run) (modeOf (eqb (getD run modeAt 0) 1) (field run runningAt))
 
--- The words that hold a state.
-unfoldable pub wordsOf : State → List ℕ
-wordsOf s =
-    s .pages ∷ s .frames ∷ s .entries ∷ (s .entry ++ (modeWord (s .mode) ∷ running (s .mode) ∷ []))
+-- The words that hold a state, in their order; the last of them stand behind the entry pages.
+abbrev pub lastWords : State → List ℕ
+lastWords s = modeWord (s .mode) ∷ running (s .mode) ∷ []
 
--- A run with another mode: words 19 and 20 alone.
+unfoldable pub wordsOf : State → List ℕ
+wordsOf s = s .pages ∷ s .frames ∷ s .entries ∷ (s .entry ++ lastWords s)
+
+-- A run with another mode: its two words alone.
 unfoldable pub withMode : List ℕ → Mode → List ℕ
 withMode run mode = set (set run modeAt (modeWord mode)) runningAt (running mode)
 
 -- A numbers run has two words. One of another length is not written.
 unfoldable pub withNumbers : List ℕ → ℕ → ℕ → List ℕ
-withNumbers numbers first second = cond (eqb (length numbers) 2) (first ∷ second ∷ []) numbers
+withNumbers numbers first second = cond (eqb (length numbers) numbersWords) (first ∷ second ∷ []) numbers
 
 -- The boundary's part of question 7. The start asks for the lengths of both runs; every other call also for a mode word of 0 or 1.
 unfoldable pub runsFit : List ℕ → List ℕ → Bool
-runsFit run numbers = both (eqb (length run) stateWords) (eqb (length numbers) 2)
+runsFit run numbers = both (eqb (length run) stateWords) (eqb (length numbers) numbersWords)
 
 unfoldable pub lendable : List ℕ → List ℕ → Bool
 lendable run numbers = both (runsFit run numbers) (leb (getD run modeAt 0) 1)
@@ -87,5 +106,5 @@ runStarted run reply s = settle (reply .number) (wordsOf s) (λ _. run)
 -- a state that question 7 of every call refuses.
 unfoldable pub WideRefused : Type 0
 WideRefused =
-    (run : List ℕ) (at : ℕ) → 65535 < getD run at 0 → member at (pagesAt ∷ framesAt ∷ entriesAt ∷ runningAt ∷ []) ≡ true
+    (run : List ℕ) (at : ℕ) → widest < getD run at 0 → member at (pagesAt ∷ framesAt ∷ entriesAt ∷ runningAt ∷ []) ≡ true
     → stateInOrder (stateIn run) ≡ false

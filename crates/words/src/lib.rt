@@ -11,7 +11,7 @@ ghost use Rattle.model.specs.Keeps.{modeOf, running, inMode};
 ghost use Rattle.model.specs.Questions.{stateInOrder};
 ghost use Rattle.model.specs.Calls.{replyOf};
 ghost use Rattle.words.specs.Words;
-ghost use Rattle.words.specs.Words.{stateWords, entryAt, entryPages, stateIn, modeWord, wordsOf, withMode, withNumbers, runsFit, runAfter, runStarted, WideRefused};
+ghost use Rattle.words.specs.Words.{stateWords, entryAt, entryWords, entryPages, stateIn, modeWord, wordsOf, withMode, withNumbers, runsFit, runAfter, runStarted, WideRefused};
 use model::Answer;
 use model::Called;
 use model::Mode;
@@ -39,11 +39,21 @@ pub const MODE_USER: u64 = 1;
 // The length of a numbers run.
 pub const NUMBERS: usize = 2;
 
-// A word as a 16-bit field; a wider one as 65535.
+// How many entry pages a state has room for.
+const ENTRY_PAGES: usize = 16;
+
+// The widest 16-bit field.
+const WIDEST: u16 = 65535;
+
+// A word as a 16-bit field; a wider one as the widest.
 fn narrow(word: u64) -> u16
     ensures { λ r. ⌜ r ≡ Words.narrow word ⌝ }
 {
-    if word <= 65535 { word as u16 } else { 65535 }
+    if word <= WIDEST as u64 {
+        word as u16
+    } else {
+        WIDEST
+    }
 }
 
 // The field at a place of a run that reaches so far.
@@ -76,13 +86,13 @@ fn mode_word(mode: Mode) -> u64
 }
 
 // The sixteen entry pages of a run.
-fn entry_pages(run: &[u64]) -> [u16; 16]
+fn entry_pages(run: &[u64]) -> [u16; ENTRY_PAGES]
     requires { ⌜ length (now run) ≡ stateWords ⌝ }
     ensures { λ r. ⌜ r ≡ entryPages (now (run .entry)) ⌝ }
 {
-    let mut entry = [0u16; 16];
+    let mut entry = [0u16; ENTRY_PAGES];
     let mut i: usize = 0;
-    while i < 16 {
+    while i < ENTRY_PAGES {
         entry[i] = field(run, STATE_ENTRY + i);
         i += 1;
     }
@@ -119,18 +129,18 @@ fn put_mode(run: &mut [u64], mode: Mode)
     run[STATE_RUNNING] = questions::running(mode) as u64;
 }
 
-fn put_entry_pages(run: &mut [u64], entry: [u16; 16])
+fn put_entry_pages(run: &mut [u64], entry: [u16; ENTRY_PAGES])
     requires { ⌜ length (now run) ≡ stateWords ⌝ }
-    ensures { λ _. ⌜ now (run .exit) ≡ paste (now (run .entry)) entryAt entry 16 ⌝ }
+    ensures { λ _. ⌜ now (run .exit) ≡ paste (now (run .entry)) entryAt entry entryWords ⌝ }
 {
     let mut i: usize = 0;
-    while i < 16 {
+    while i < ENTRY_PAGES {
         run[STATE_ENTRY + i] = entry[i] as u64;
         i += 1;
     }
 }
 
-// Writes all words of a state into a run. What was encoded decodes to the same state.
+// Writes all words of a state into a run, front to back. What was encoded decodes to the same state.
 fn put_state(run: &mut [u64], s: State)
     requires { ⌜ length (now run) ≡ stateWords ⌝ }
     ensures encoded { λ _. ⌜ now (run .exit) ≡ wordsOf s ⌝ }
@@ -138,10 +148,10 @@ fn put_state(run: &mut [u64], s: State)
 {
     let entry = s.entry;
     let mode = s.mode;
-    put_entry_pages(run, entry);
     run[STATE_PAGES] = s.pages as u64;
     run[STATE_FRAMES] = s.frames as u64;
     run[STATE_ENTRIES] = s.entries as u64;
+    put_entry_pages(run, entry);
     put_mode(run, mode);
 }
 

@@ -9,7 +9,7 @@ use Rattle.model.specs.Keeps.{Tables, Guard, guardOf, running}
 use Rattle.model.specs.Questions.{firstNo, seen}
 use Rattle.model.specs.Calls.{settle, Outcome, refusedOf, Call, broughtBy, questionsOf, effectOf, answer}
 use Rattle.model.proofs.CallLaws.{effect-reply, effect-state, effect-runs}
-use Rattle.words.specs.Words.{stateIn, field, lendable, runAfter}
+use Rattle.words.specs.Words.{pagesAt, runningAt, stateIn, field, lendable, runAfter}
 use Rattle.words.proofs.WordLaws.{narrow-below, run-lent}
 use Rattle.words.proofs.StateLaws.{mode-decoded, running-mode}
 use Rattle.boundary.specs.Boundary.{replied, callAt, StateHeld}
@@ -23,11 +23,11 @@ module _ (run numbers : List ℕ) (t : Tables) (call : Call) (lends : lendable r
   -- Every field of the decoded state has 16 bits.
   narrow-pages : stateIn run .pages ≤ 65536
   unfolding stateIn field
-  narrow-pages = omega (arith, narrow-below (getD run 0 0))
+  narrow-pages = omega (arith, narrow-below (getD run pagesAt 0))
 
   narrow-running : running (stateIn run .mode) < 65536
   unfolding stateIn field
-  narrow-running = rw running-mode (omega (arith, narrow-below (getD run 20 0)))
+  narrow-running = rw running-mode (omega (arith, narrow-below (getD run runningAt 0)))
 
   held : (n : ℕ) → firstNo (questionsOf (seen g) call) ≡ n
       → let o : Outcome = settle n (effectOf g call) (refusedOf g (broughtBy call)) in stateIn (runAfter run (o .reply) (o .guard .state)) ≡ o .guard .state

@@ -13,4 +13,4 @@ returns-2 c = search (needs, narrow-wide)
 pub narrow-spec : {M : Type 1} → statement M
 narrow-spec =
     tie.close
-    (tie.spec (λ c. search needs) returns returns-2)
+    (tie.spec (λ c. search needs) (λ c. search needs) returns returns-2)
