@@ -2,18 +2,19 @@
 //! The drill gives the number alone; the question behind it is asked once more here, of the same record.
 
 use crate::input::{DrillInput, Number, MOST_ENTRIES, MOST_FRAMES, MOST_PAGES, SIZES_BYTES};
+use crate::refusals::refusal;
 use crate::LineError;
 
 impl DrillInput {
     /// What made the start answer this number.
     pub(crate) fn cause(&self, number: u64) -> Option<LineError> {
-        match number {
-            1 => self.too_short(),
-            2 => self.size(),
-            3 => self.count(),
-            4 => self.length(),
-            5 => self.listed_page(),
-            6 => self.listed_frame(),
+        match refusal(number)?.constant {
+            "GUARD_RECORD_TOO_SHORT" => self.too_short(),
+            "GUARD_SIZE_OUT_OF_RANGE" => self.size(),
+            "GUARD_COUNT_OUT_OF_RANGE" => self.count(),
+            "GUARD_RECORD_LENGTH" => self.length(),
+            "GUARD_LISTED_PAGE" => self.listed_page(),
+            "GUARD_LISTED_FRAME" => self.listed_frame(),
             _ => None,
         }
     }
