@@ -1,7 +1,11 @@
 //! The calls of the proved archive on a state by value, as the cases make them.
-//! A state crosses the boundary as a run of words; the two numbers come back in a run of two.
+//! A state crosses the boundary as a run of words; the two numbers come back in a run of their own.
 
-use ::guard::archive;
+use ::guard::archive::{
+    self, MODE_KERNEL, MODE_USER, NUMBERS, STATE_ENTRIES, STATE_ENTRY, STATE_FRAMES, STATE_MODE,
+    STATE_PAGES, STATE_RUNNING, STATE_WORDS,
+};
+use ::guard::ENTRY_PAGES;
 
 #[derive(Clone, Copy, PartialEq, Eq)]
 pub enum Mode {
@@ -14,7 +18,7 @@ pub struct State {
     pub pages: u16,
     pub frames: u16,
     pub entries: u16,
-    pub entry: [u16; 16],
+    pub entry: [u16; ENTRY_PAGES],
     pub mode: Mode,
 }
 
@@ -30,25 +34,23 @@ pub struct Called {
     pub state: State,
 }
 
-pub const WORDS: usize = 21;
-
 /// A run of numbers that holds neither zeros nor an answer, so that a call which does not write it is seen.
-const UNWRITTEN: [u64; 2] = [0xdead, 0xbeef];
+const UNWRITTEN: [u64; NUMBERS] = [0xdead, 0xbeef];
 
-pub fn words(s: State) -> [u64; WORDS] {
-    let mut run = [0; WORDS];
-    run[0] = s.pages.into();
-    run[1] = s.frames.into();
-    run[2] = s.entries.into();
-    for (word, page) in run[3..19].iter_mut().zip(s.entry) {
+pub fn words(s: State) -> [u64; STATE_WORDS] {
+    let mut run = [0; STATE_WORDS];
+    run[STATE_PAGES] = s.pages.into();
+    run[STATE_FRAMES] = s.frames.into();
+    run[STATE_ENTRIES] = s.entries.into();
+    for (word, page) in run[STATE_ENTRY..].iter_mut().zip(s.entry) {
         *word = page.into();
     }
-    let (user, page) = match s.mode {
-        Mode::Kernel(page) => (0, page),
-        Mode::User(page) => (1, page),
+    let (mode, page) = match s.mode {
+        Mode::Kernel(page) => (MODE_KERNEL, page),
+        Mode::User(page) => (MODE_USER, page),
     };
-    run[19] = user;
-    run[20] = page.into();
+    run[STATE_MODE] = mode;
+    run[STATE_RUNNING] = page.into();
     run
 }
 
@@ -57,23 +59,23 @@ fn field(word: u64) -> u16 {
     word.try_into().expect("a word of the state run fits its field")
 }
 
-fn state(run: [u64; WORDS]) -> State {
-    let page = field(run[20]);
+fn state(run: [u64; STATE_WORDS]) -> State {
+    let page = field(run[STATE_RUNNING]);
     State {
-        pages: field(run[0]),
-        frames: field(run[1]),
-        entries: field(run[2]),
-        entry: std::array::from_fn(|i| field(run[3 + i])),
-        mode: match run[19] {
-            0 => Mode::Kernel(page),
-            1 => Mode::User(page),
+        pages: field(run[STATE_PAGES]),
+        frames: field(run[STATE_FRAMES]),
+        entries: field(run[STATE_ENTRIES]),
+        entry: std::array::from_fn(|i| field(run[STATE_ENTRY + i])),
+        mode: match run[STATE_MODE] {
+            MODE_KERNEL => Mode::Kernel(page),
+            MODE_USER => Mode::User(page),
             other => panic!("mode word {other}"),
         },
     }
 }
 
 /// "with the call's other numbers 0": a refused call that leaves other numbers is told apart from every wanted answer.
-fn answer(number: u64, numbers: [u64; 2]) -> Answer {
+fn answer(number: u64, numbers: [u64; NUMBERS]) -> Answer {
     match (number, numbers) {
         (0, [first, second]) => Answer::Done(first, second),
         (number, [0, 0]) => Answer::Refused(number),
@@ -84,7 +86,7 @@ fn answer(number: u64, numbers: [u64; 2]) -> Answer {
 /// The run is the caller's: a start takes one with any words, and a refused start leaves them as they were.
 pub fn start(
     policy: &[u8],
-    run: &mut [u64; WORDS],
+    run: &mut [u64; STATE_WORDS],
     shadow: &mut [u64],
     map: &mut [u16],
     exclusion: &mut [u8],

@@ -3,10 +3,11 @@
 use crate::calls::Answer;
 use crate::calls::Mode;
 use crate::calls::State;
+use ::guard::ENTRY_PAGES;
 
 // A state whose first four entry pages are given; the others are 0.
 pub fn state(pages: u16, frames: u16, entries: u16, entry: [u16; 4], mode: Mode) -> State {
-    let mut all = [0u16; 16];
+    let mut all = [0u16; ENTRY_PAGES];
     all[0] = entry[0];
     all[1] = entry[1];
     all[2] = entry[2];

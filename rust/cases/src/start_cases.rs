@@ -8,9 +8,9 @@ use crate::calls::Answer::Refused;
 use crate::calls::Mode::Kernel;
 use crate::calls::Mode::User;
 use crate::calls::State;
-use crate::calls::WORDS;
 use crate::guard;
 use crate::tally::Tally;
+use ::guard::archive::STATE_WORDS;
 
 #[derive(Clone, Copy)]
 struct Tables {
@@ -34,7 +34,7 @@ const STATE_BEFORE: State = State {
 };
 
 // The same, with each word one bit wider than its field: a start does not read the run.
-fn wide_run() -> [u64; WORDS] {
+fn wide_run() -> [u64; STATE_WORDS] {
     words(STATE_BEFORE).map(|word| word | 1 << 16)
 }
 

@@ -2,8 +2,10 @@
 //! Contents stay damaged through a list; the other kinds concern one call.
 
 use guard::archive::{
-    STATE_ENTRIES, STATE_ENTRY, STATE_FRAMES, STATE_MODE, STATE_PAGES, STATE_RUNNING,
+    MODE_KERNEL, MODE_USER, STATE_ENTRIES, STATE_ENTRY, STATE_FRAMES, STATE_MODE, STATE_PAGES,
+    STATE_RUNNING,
 };
+use guard::ENTRY_PAGES;
 use inputs::Random;
 
 use crate::call::Lent;
@@ -69,7 +71,7 @@ impl Damage {
                 lent.state[STATE_MODE] = random.pick(&[2, 3, wide, wide + 1, u64::MAX]);
             }
             Damage::WideWord => {
-                let entry = STATE_ENTRY + random.below(16) as usize;
+                let entry = STATE_ENTRY + random.below(ENTRY_PAGES as u64) as usize;
                 let fields =
                     [STATE_PAGES, STATE_FRAMES, STATE_ENTRIES, STATE_RUNNING, entry, entry];
                 let word = &mut lent.state[random.pick(&fields)];
@@ -124,11 +126,11 @@ pub fn damage_contents(random: &mut Random, lent: &mut Lent) {
     for byte in &mut lent.exclusion {
         *byte = (0..8).map(|bit| u8::from(random.one_in(share)) << bit).sum();
     }
-    for page in &mut lent.state[STATE_ENTRY..STATE_MODE] {
+    for page in &mut lent.state[STATE_ENTRY..][..ENTRY_PAGES] {
         *page = if random.one_in(8) { random.word() } else { random.below(v + 1) };
     }
-    lent.state[STATE_ENTRIES] = 1 + random.below(16);
-    lent.state[STATE_MODE] = random.below(2);
+    lent.state[STATE_ENTRIES] = 1 + random.below(ENTRY_PAGES as u64);
+    lent.state[STATE_MODE] = random.pick(&[MODE_KERNEL, MODE_USER]);
     lent.state[STATE_RUNNING] = random.below(v);
 }
 

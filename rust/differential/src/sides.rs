@@ -1,7 +1,8 @@
 //! One call on each side: the archive, the reference behind the same boundary, and the safe guard over the archive.
 //! Archive and reference are lent the same runs and tables.
 
-use guard::{archive, Guard};
+use guard::archive::{self, NUMBERS};
+use guard::Guard;
 use reference::claim::Call as Listed;
 use reference::{boundary, fault, Fault};
 
@@ -70,7 +71,7 @@ pub fn by_reference(fault: Fault, lent: &mut Lent, call: &Call) -> u64 {
 }
 
 /// The call on the safe guard: its number, and its two numbers as a run.
-pub fn by_guard(guard: &mut Guard, call: &Listed) -> (u64, [u64; 2]) {
+pub fn by_guard(guard: &mut Guard, call: &Listed) -> (u64, [u64; NUMBERS]) {
     let answer = match *call {
         Listed::SynchroniseOne { kernel, page } => {
             guard.synchronise_page(kernel, page).map(|counts| [counts.changed, counts.joined])
@@ -90,6 +91,6 @@ pub fn by_guard(guard: &mut Guard, call: &Listed) -> (u64, [u64; 2]) {
     };
     match answer {
         Ok(numbers) => (0, numbers),
-        Err(refusal) => (refusal.number().into(), [0, 0]),
+        Err(refusal) => (refusal.number().into(), [0; NUMBERS]),
     }
 }

@@ -8,6 +8,9 @@ use crate::archive::{
 };
 use crate::Refusal;
 
+/// How many entry pages a state run has room for.
+pub const ENTRY_PAGES: usize = STATE_MODE - STATE_ENTRY;
+
 /// The number in the approval map of a page without an approved frame.
 pub const NO_FRAME: u16 = u16::MAX;
 
@@ -176,6 +179,6 @@ fn answer(call: impl FnOnce(&mut [u64]) -> u64) -> Result<[u64; NUMBERS], Refusa
     let mut numbers = [0; NUMBERS];
     match call(&mut numbers) {
         0 => Ok(numbers),
-        number => Err(Refusal::from_number(number).expect("the archive answers 0 to 13")),
+        number => Err(Refusal::from_number(number).expect("the archive answers 0 or a refusal")),
     }
 }

@@ -23,5 +23,5 @@ pub mod archive;
 mod calls;
 mod refusal;
 
-pub use calls::{Frames, Guard, Mode, Synchronised, NO_FRAME};
+pub use calls::{Frames, Guard, Mode, Synchronised, ENTRY_PAGES, NO_FRAME};
 pub use refusal::Refusal;

@@ -1,7 +1,7 @@
 //! The cases and the worked example of document 01 through the safe guard, and calls at the edges of their arguments.
 //! C6 to C8 stand on the started guard with the mode replaced by user, so they call the archive's functions.
 
-use guard::archive::{self, MODE_USER, STATE_MODE};
+use guard::archive::{self, MODE_USER, NUMBERS, STATE_MODE};
 use guard::{Frames, Guard, Mode, Refusal, Synchronised, NO_FRAME};
 use inputs::{record, KernelEntry, Random};
 
@@ -58,7 +58,7 @@ fn c6_to_c8_in_user_mode() {
         let mut state = *guard.state();
         state[STATE_MODE] = MODE_USER;
         let (mut shadow, mut map) = (guard.shadow().to_vec(), guard.map().to_vec());
-        let mut numbers = [7; 2];
+        let mut numbers = [7; NUMBERS];
         let number = archive::sync_page(
             &state,
             &kernel(page, entry),

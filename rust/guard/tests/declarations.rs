@@ -1,4 +1,4 @@
-//! The declarations of src/archive.rs fit the exported functions and constants of crates/exports.
+//! The declarations of src/archive.rs fit the exported functions of crates/exports, and its constants those of crates/words.
 //! Names of parameters are compared too: of two runs of one type, only the name tells which comes first.
 
 use std::fs;
