@@ -1,4 +1,4 @@
--- The runs of words that cross the boundary: the state in a lent run of 21 words, and the two numbers of a reply in a lent run of two.
+-- The runs of words that cross the boundary: the state in a lent run, and the numbers of a reply in another.
 -- Documented for C in include/guard.h.
 use Prim.Native.Nat.{ℕ, _+_, _<_}
 use mathlib.Core.Bool.{Bool, true, false, cond}
@@ -83,7 +83,7 @@ wordsOf s = s .pages ∷ s .frames ∷ s .entries ∷ (s .entry ++ lastWords s)
 unfoldable pub withMode : List ℕ → Mode → List ℕ
 withMode run mode = set (set run modeAt (modeWord mode)) runningAt (running mode)
 
--- A numbers run has two words. One of another length is not written.
+-- The two numbers of a reply in a numbers run. One of another length is not written.
 unfoldable pub withNumbers : List ℕ → ℕ → ℕ → List ℕ
 withNumbers numbers first second = cond (eqb (length numbers) numbersWords) (first ∷ second ∷ []) numbers
 

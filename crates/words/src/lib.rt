@@ -1,4 +1,4 @@
-// The runs of words that cross the boundary: the state in 21 words, and a call's two numbers in two.
+// The runs of words that cross the boundary: the state in one, and a call's two numbers in another.
 // A function that takes a state run has a `requires`: its callers have asked for the length.
 
 ghost use mathlib.Core.Path.{_≡_};
