@@ -8,7 +8,7 @@ use Rattle.model.specs.declared.State.{State}
 use Rattle.model.specs.declared.Mode.{Mode}
 use Rattle.model.specs.declared.Mode.the-variants.{Kernel, User}
 use Rattle.model.specs.declared.Answer.the-variants.{Done, Refused}
-use Rattle.model.specs.Keeps.{tables, Guard, guardOf, withBit, stateOf}
+use Rattle.model.specs.Keeps.{tables, withShadow, withMap, withExclusion, Guard, guardOf, withBit, stateOf}
 use Rattle.model.specs.Policy.{nothingGiven}
 use Rattle.model.specs.Calls.{Reply, Outcome, outcome, outcomeBy, accepted, refused, startOf, Call, syncPage, syncAll, fetch, write, enter, leave, deviceWrite, answer}
 use Rattle.model.specs.Cases.{Row, Case, row}
@@ -281,6 +281,13 @@ answerCases =
     row (outcomeBy (record { answer = Done 1 2; state = zeros }) (tables (3 ∷ []) (4 ∷ []) (5 ∷ [])))
     (outcome (record { allowed = true; number = 0; first = 1; second = 2 })
     (guardOf zeros (record { shadow = 3 ∷ []; map = 4 ∷ []; exclusion = 5 ∷ [] })))
+    -- one table in its place, and the others as they were
+    ∷ row (outcome (accepted 0 0) (guardOf zeros (withShadow (6 ∷ []) (tables (3 ∷ []) (4 ∷ []) (5 ∷ [])))))
+    (outcome (accepted 0 0) (guardOf zeros (record { shadow = 6 ∷ []; map = 4 ∷ []; exclusion = 5 ∷ [] })))
+    ∷ row (outcome (accepted 0 0) (guardOf zeros (withMap (6 ∷ []) (tables (3 ∷ []) (4 ∷ []) (5 ∷ [])))))
+    (outcome (accepted 0 0) (guardOf zeros (record { shadow = 3 ∷ []; map = 6 ∷ []; exclusion = 5 ∷ [] })))
+    ∷ row (outcome (accepted 0 0) (guardOf zeros (withExclusion (6 ∷ []) (tables (3 ∷ []) (4 ∷ []) (5 ∷ [])))))
+    (outcome (accepted 0 0) (guardOf zeros (record { shadow = 3 ∷ []; map = 4 ∷ []; exclusion = 6 ∷ [] })))
     ∷ row (outcomeBy (record { answer = Refused 7; state = zeros }) (tables [] [] []))
     (outcome (record { allowed = false; number = 7; first = 0; second = 0 }) (guardOf zeros (record { shadow = []; map = []; exclusion = [] })))
     ∷ []
