@@ -37,8 +37,9 @@ extern "C" {
 
 /*
  * The layout of a state run. V, F, e and the running page are 16-bit fields, each in a word of its own. An entry page that is
- * wider than 16 bits counts as one that is not below V. guard_start writes all words; guard_fetch, guard_enter and guard_leave
- * write GUARD_STATE_MODE and GUARD_STATE_RUNNING alone; the other calls write none. A later version appends its fields.
+ * wider than 16 bits counts as one that is not below V. guard_start writes all words; guard_enter and guard_leave write
+ * GUARD_STATE_MODE and GUARD_STATE_RUNNING alone; guard_fetch writes GUARD_STATE_RUNNING alone; the other calls write none. A
+ * later version appends its fields.
  */
 #define GUARD_STATE_WORDS 21
 #define GUARD_STATE_PAGES 0    /* V, the number of virtual pages, 1 to 2048 */

@@ -13,8 +13,8 @@ use Rattle.model.specs.Questions.{firstNo, recordQuestions, Lengths, lengthsOf,
 use Rattle.model.specs.Calls.{replyOf, settle, Outcome, outcomeBy, startOf}
 use Rattle.model.proofs.QuestionLaws.{settle-accepted}
 use Rattle.policy.proofs.RecordLaws.{start-refused, start-asked}
-use Rattle.words.specs.Words.{runsFit, runStarted}
-use Rattle.boundary.specs.Boundary.{left, replied, startAt}
+use Rattle.words.specs.Words.{startNumbers, runsFit, runStarted}
+use Rattle.boundary.specs.Boundary.{returned, replied, startAt}
 use Rattle.boundary.proofs.BoundaryLaws.{Says}
 
 -- The number of a start is that of its first no.
@@ -41,15 +41,15 @@ by-record bytes l zero e =
     seven _ (lengthsFit (policyOf bytes) l) (start-asked bytes 0 l e refl) ∙ sym (settle-accepted 7 (λ k. k) refl)
 by-record bytes l (suc n) e = ap (λ (m : ℕ). settle m 7 (λ k. k)) (start-refused bytes (suc n) l e (λ z. omega arith))
 
-module _ (bytes run numbers after : List ℕ) (t : Tables) (r : ℕ) (b : Bool) (asks : b ≡ runsFit run numbers) where
+module _ (bytes run numbers after : List ℕ) (t : Tables) (r : ℕ) (b : Bool) (asks : b ≡ runsFit startNumbers run numbers) where
   pub start-unfit : (q : ℕ) → not b ≡ true → q ≡ settle (firstNo (recordQuestions nothingGiven bytes (policyOf bytes))) 7 (λ n. n)
-      → Says (Refused q) r numbers after → left r run after t ≡ startAt nothingGiven bytes run numbers t
+      → Says startNumbers (Refused q) r numbers after → returned r run after t ≡ startAt nothingGiven bytes run numbers t
   unfolding startAt replied replyOf
   start-unfit q short e says =
       rw (sym asks ∙ not-true b short, start-number nothingGiven bytes t, by-record bytes (lengthsOf t) _ refl, sym e, says .0, says .1) refl
 
-  pub started : (runs : List ℕ) (t′ : Tables) (c : Called) → not b ≡ false → outcomeBy c t′ ≡ startOf nothingGiven bytes t
-      → Says (c .answer) r numbers after → runs ≡ runStarted run (replyOf (c .answer)) (c .state)
-      → left r runs after t′ ≡ startAt nothingGiven bytes run numbers t
+  pub started : (run′ : List ℕ) (t′ : Tables) (c : Called) → not b ≡ false → outcomeBy c t′ ≡ startOf nothingGiven bytes t
+      → Says startNumbers (c .answer) r numbers after → run′ ≡ runStarted run (replyOf (c .answer)) (c .state)
+      → returned r run′ after t′ ≡ startAt nothingGiven bytes run numbers t
   unfolding startAt replied outcomeBy
-  started runs t′ c fits e says put = rw (sym asks ∙ not-false b fits, sym e, says .0, says .1, put) refl
+  started run′ t′ c fits e says put = rw (sym asks ∙ not-false b fits, sym e, says .0, says .1, put) refl

@@ -6,39 +6,43 @@ use mathlib.Core.Path.{_≡_}
 use Rattle.model.specs.Keeps.{Tables, guardOf}
 use Rattle.model.specs.Policy.{Givens}
 use Rattle.model.specs.Calls.{Reply, refused, settle, Outcome, startOf, Call, answer}
-use Rattle.words.specs.Words.{stateIn, withNumbers, runsFit, lendable, runAfter, runStarted}
+use Rattle.words.specs.Words.{stateIn, startNumbers, numbersBy, changedBy, withNumbers, runsFit, lendable, runAfter, runStarted}
 
 -- What a call returns, both runs at its exit, and the guard's tables then.
-pub record Left : Type 0 where
+pub record Returned : Type 0 where
   pub number : ℕ
   pub state : List ℕ
   pub numbers : List ℕ
   pub tables : Tables
 
-abbrev pub left : ℕ → List ℕ → List ℕ → Tables → Left
-left number state numbers t = record { number = number; state = state; numbers = numbers; tables = t }
+abbrev pub returned : ℕ → List ℕ → List ℕ → Tables → Returned
+returned number state numbers t = record { number = number; state = state; numbers = numbers; tables = t }
 
--- A reply: its number is returned, and its two numbers go to the numbers run.
-unfoldable pub replied : Reply → List ℕ → List ℕ → Tables → Left
-replied reply run numbers t = left (reply .number) run (withNumbers numbers (reply .first) (reply .second)) t
+-- A reply of a call that gives count numbers: its number is returned, and these go to the numbers run.
+unfoldable pub replied : ℕ → Reply → List ℕ → List ℕ → Tables → Returned
+replied count reply run numbers t = returned (reply .number) run (withNumbers count numbers reply) t
 
 -- Every call but the start. Question 7 comes first: where a run cannot be lent, it refuses, and changes neither the state run nor a table.
-unfoldable pub callAt : List ℕ → List ℕ → Tables → Call → Left
+-- A call puts into the state run what it can change, and no other word.
+unfoldable pub callAt : List ℕ → List ℕ → Tables → Call → Returned
 callAt run numbers t call =
     let o : Outcome = answer (guardOf (stateIn run) t) call in
-    cond (lendable run numbers) (replied (o .reply) (runAfter run (o .reply) (o .guard .state)) numbers (o .guard .tables))
-    (replied (refused 7) run numbers t)
+    let count : ℕ = numbersBy call in
+    cond (lendable count run numbers)
+    (replied count (o .reply) (runAfter run (changedBy call) (o .reply) (o .guard .state)) numbers (o .guard .tables))
+    (replied count (refused 7) run numbers t)
 
 -- The start asks its own questions first, whose last is 7, and then for the lengths of both runs. What the state run holds is not read.
-unfoldable pub startAt : Givens → List ℕ → List ℕ → List ℕ → Tables → Left
+unfoldable pub startAt : Givens → List ℕ → List ℕ → List ℕ → Tables → Returned
 startAt given bytes run numbers t =
     let o : Outcome = startOf given bytes t in
-    cond (runsFit run numbers) (replied (o .reply) (runStarted run (o .reply) (o .guard .state)) numbers (o .guard .tables))
-    (replied (refused (settle (o .reply .number) 7 (λ n. n))) run numbers t)
+    cond (runsFit startNumbers run numbers)
+    (replied startNumbers (o .reply) (runStarted run (o .reply) (o .guard .state)) numbers (o .guard .tables))
+    (replied startNumbers (refused (settle (o .reply .number) 7 (λ n. n))) run numbers t)
 
 -- Where both runs can be lent, the state run holds after every call the state that the call's definition answers. An accepted start's words
 -- decode to its state by `words::put_state`.
 unfoldable pub StateHeld : Type 0
 StateHeld =
-    (run numbers : List ℕ) (t : Tables) (call : Call) → lendable run numbers ≡ true
+    (run numbers : List ℕ) (t : Tables) (call : Call) → lendable (numbersBy call) run numbers ≡ true
     → stateIn (callAt run numbers t call .state) ≡ answer (guardOf (stateIn run) t) call .guard .state

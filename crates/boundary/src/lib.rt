@@ -7,7 +7,7 @@ ghost use Rattle.model.specs.Policy.{nothingGiven, policyOf};
 ghost use Rattle.model.specs.Questions.{firstNo, recordQuestions};
 ghost use Rattle.model.specs.Calls;
 ghost use Rattle.model.specs.Calls.{settle, syncPage, syncAll, deviceWrite};
-ghost use Rattle.boundary.specs.Boundary.{left, startAt, callAt, StateHeld};
+ghost use Rattle.boundary.specs.Boundary.{returned, startAt, callAt, StateHeld};
 use model::Answer;
 
 // The refusal of a start whose runs do not fit: the record's questions come first.
@@ -26,10 +26,10 @@ pub fn start(
     exclusion: &mut [u8],
     numbers: &mut [u64],
 ) -> u64
-    ensures { λ r. ⌜ left r (now (state .exit)) (now (numbers .exit)) (tables (now (shadow .exit)) (now (map .exit)) (now (exclusion .exit)))
+    ensures { λ r. ⌜ returned r (now (state .exit)) (now (numbers .exit)) (tables (now (shadow .exit)) (now (map .exit)) (now (exclusion .exit)))
         ≡ startAt nothingGiven (now (policy .entry)) (now (state .entry)) (now (numbers .entry)) (tables (now (shadow .entry)) (now (map .entry)) (now (exclusion .entry))) ⌝ }
 {
-    if !words::runs_fit(state, numbers) {
+    if !words::runs_fit(state, numbers, words::NUMBERS) {
         let number = start_refusal(policy);
         return words::reply(numbers, Answer::Refused(number));
     }
@@ -47,10 +47,10 @@ pub fn sync_page(
     page: u64,
     numbers: &mut [u64],
 ) -> u64
-    ensures { λ r. ⌜ ((t : Tables) → left r (now (state .entry)) (now (numbers .exit)) (withThree (now (shadow .exit)) (now (map .exit)) (now (exclusion .entry)) t)
+    ensures { λ r. ⌜ ((t : Tables) → returned r (now (state .entry)) (now (numbers .exit)) (withThree (now (shadow .exit)) (now (map .exit)) (now (exclusion .entry)) t)
         ≡ callAt (now (state .entry)) (now (numbers .entry)) (withThree (now (shadow .entry)) (now (map .entry)) (now (exclusion .entry)) t) (syncPage (now (kernel .entry)) page)) ⌝ }
 {
-    if !words::usable(state, numbers) {
+    if !words::usable(state, numbers, words::NUMBERS) {
         return words::reply(numbers, Answer::Refused(7));
     }
     let answer = sync::sync_page(words::state_in(state), kernel, shadow, map, exclusion, page);
@@ -66,10 +66,10 @@ pub fn sync_all(
     exclusion: &[u8],
     numbers: &mut [u64],
 ) -> u64
-    ensures { λ r. ⌜ ((t : Tables) → left r (now (state .entry)) (now (numbers .exit)) (withThree (now (shadow .exit)) (now (map .exit)) (now (exclusion .entry)) t)
+    ensures { λ r. ⌜ ((t : Tables) → returned r (now (state .entry)) (now (numbers .exit)) (withThree (now (shadow .exit)) (now (map .exit)) (now (exclusion .entry)) t)
         ≡ callAt (now (state .entry)) (now (numbers .entry)) (withThree (now (shadow .entry)) (now (map .entry)) (now (exclusion .entry)) t) (syncAll (now (kernel .entry)))) ⌝ }
 {
-    if !words::usable(state, numbers) {
+    if !words::usable(state, numbers, words::NUMBERS) {
         return words::reply(numbers, Answer::Refused(7));
     }
     let answer = sync::sync_all(words::state_in(state), kernel, shadow, map, exclusion);
@@ -77,14 +77,14 @@ pub fn sync_all(
 }
 
 pub fn fetch(state: &mut [u64], shadow: &[u64], page: u64, numbers: &mut [u64]) -> u64
-    ensures { λ r. ⌜ ((t : Tables) → left r (now (state .exit)) (now (numbers .exit)) (withShadow (now (shadow .entry)) t)
+    ensures { λ r. ⌜ ((t : Tables) → returned r (now (state .exit)) (now (numbers .exit)) (withShadow (now (shadow .entry)) t)
         ≡ callAt (now (state .entry)) (now (numbers .entry)) (withShadow (now (shadow .entry)) t) (Calls.fetch page)) ⌝ }
 {
-    if !words::usable(state, numbers) {
+    if !words::usable(state, numbers, words::NUMBERS) {
         return words::reply(numbers, Answer::Refused(7));
     }
     let called = access::fetch(words::state_in(state), shadow, page);
-    words::put_called(state, numbers, called)
+    words::put_fetched(state, numbers, called)
 }
 
 pub fn write(
@@ -95,10 +95,10 @@ pub fn write(
     length: u64,
     numbers: &mut [u64],
 ) -> u64
-    ensures { λ r. ⌜ ((t : Tables) → left r (now (state .entry)) (now (numbers .exit)) (withShadow (now (shadow .entry)) (withExclusion (now (exclusion .entry)) t))
+    ensures { λ r. ⌜ ((t : Tables) → returned r (now (state .entry)) (now (numbers .exit)) (withShadow (now (shadow .entry)) (withExclusion (now (exclusion .entry)) t))
         ≡ callAt (now (state .entry)) (now (numbers .entry)) (withShadow (now (shadow .entry)) (withExclusion (now (exclusion .entry)) t)) (Calls.write address length)) ⌝ }
 {
-    if !words::usable(state, numbers) {
+    if !words::usable(state, numbers, words::NUMBERS) {
         return words::reply(numbers, Answer::Refused(7));
     }
     let answer = access::write(words::state_in(state), shadow, exclusion, address, length);
@@ -106,25 +106,25 @@ pub fn write(
 }
 
 pub fn enter(state: &mut [u64], shadow: &mut [u64], index: u64, numbers: &mut [u64]) -> u64
-    ensures { λ r. ⌜ ((t : Tables) → left r (now (state .exit)) (now (numbers .exit)) (withShadow (now (shadow .exit)) t)
+    ensures { λ r. ⌜ ((t : Tables) → returned r (now (state .exit)) (now (numbers .exit)) (withShadow (now (shadow .exit)) t)
         ≡ callAt (now (state .entry)) (now (numbers .entry)) (withShadow (now (shadow .entry)) t) (Calls.enter index)) ⌝ }
 {
-    if !words::usable(state, numbers) {
+    if !words::usable(state, numbers, words::NUMBERS) {
         return words::reply(numbers, Answer::Refused(7));
     }
     let called = modes::enter(words::state_in(state), shadow, index);
-    words::put_called(state, numbers, called)
+    words::put_switched(state, numbers, called)
 }
 
 pub fn leave(state: &mut [u64], shadow: &mut [u64], page: u64, numbers: &mut [u64]) -> u64
-    ensures { λ r. ⌜ ((t : Tables) → left r (now (state .exit)) (now (numbers .exit)) (withShadow (now (shadow .exit)) t)
+    ensures { λ r. ⌜ ((t : Tables) → returned r (now (state .exit)) (now (numbers .exit)) (withShadow (now (shadow .exit)) t)
         ≡ callAt (now (state .entry)) (now (numbers .entry)) (withShadow (now (shadow .entry)) t) (Calls.leave page)) ⌝ }
 {
-    if !words::usable(state, numbers) {
+    if !words::usable(state, numbers, words::NUMBERS) {
         return words::reply(numbers, Answer::Refused(7));
     }
     let called = modes::leave(words::state_in(state), shadow, page);
-    words::put_called(state, numbers, called)
+    words::put_switched(state, numbers, called)
 }
 
 pub fn device_write(
@@ -134,10 +134,10 @@ pub fn device_write(
     length: u64,
     numbers: &mut [u64],
 ) -> u64
-    ensures { λ r. ⌜ ((t : Tables) → left r (now (state .entry)) (now (numbers .exit)) (withExclusion (now (exclusion .entry)) t)
+    ensures { λ r. ⌜ ((t : Tables) → returned r (now (state .entry)) (now (numbers .exit)) (withExclusion (now (exclusion .entry)) t)
         ≡ callAt (now (state .entry)) (now (numbers .entry)) (withExclusion (now (exclusion .entry)) t) (deviceWrite address length)) ⌝ }
 {
-    if !words::usable(state, numbers) {
+    if !words::usable(state, numbers, words::NUMBERS) {
         return words::reply(numbers, Answer::Refused(7));
     }
     let answer = access::device_write(words::state_in(state), exclusion, address, length);

@@ -5,7 +5,7 @@ ghost use mathlib.Core.Path.{_≡_};
 ghost use Rattle.model.specs.Keeps.{Tables, tables, withShadow, withExclusion, withThree};
 ghost use Rattle.model.specs.Policy.{nothingGiven};
 ghost use Rattle.model.specs.Calls.{syncPage, syncAll, fetch, write, enter, leave, deviceWrite};
-ghost use Rattle.boundary.specs.Boundary.{left, startAt, callAt};
+ghost use Rattle.boundary.specs.Boundary.{returned, startAt, callAt};
 
 #[no_mangle]
 pub extern "C" fn guard_start(
@@ -16,7 +16,7 @@ pub extern "C" fn guard_start(
     exclusion: &mut [u8],
     numbers: &mut [u64],
 ) -> u64
-    ensures { λ r. ⌜ left r (now (state .exit)) (now (numbers .exit)) (tables (now (shadow .exit)) (now (map .exit)) (now (exclusion .exit)))
+    ensures { λ r. ⌜ returned r (now (state .exit)) (now (numbers .exit)) (tables (now (shadow .exit)) (now (map .exit)) (now (exclusion .exit)))
         ≡ startAt nothingGiven (now (policy .entry)) (now (state .entry)) (now (numbers .entry)) (tables (now (shadow .entry)) (now (map .entry)) (now (exclusion .entry))) ⌝ }
 {
     boundary::start(policy, state, shadow, map, exclusion, numbers)
@@ -33,7 +33,7 @@ pub extern "C" fn guard_sync_page(
     page: u64,
     numbers: &mut [u64],
 ) -> u64
-    ensures { λ r. ⌜ ((t : Tables) → left r (now (state .entry)) (now (numbers .exit)) (withThree (now (shadow .exit)) (now (map .exit)) (now (exclusion .entry)) t)
+    ensures { λ r. ⌜ ((t : Tables) → returned r (now (state .entry)) (now (numbers .exit)) (withThree (now (shadow .exit)) (now (map .exit)) (now (exclusion .entry)) t)
         ≡ callAt (now (state .entry)) (now (numbers .entry)) (withThree (now (shadow .entry)) (now (map .entry)) (now (exclusion .entry)) t) (syncPage (now (kernel .entry)) page)) ⌝ }
 {
     boundary::sync_page(state, kernel, shadow, map, exclusion, page, numbers)
@@ -49,7 +49,7 @@ pub extern "C" fn guard_sync_all(
     exclusion: &[u8],
     numbers: &mut [u64],
 ) -> u64
-    ensures { λ r. ⌜ ((t : Tables) → left r (now (state .entry)) (now (numbers .exit)) (withThree (now (shadow .exit)) (now (map .exit)) (now (exclusion .entry)) t)
+    ensures { λ r. ⌜ ((t : Tables) → returned r (now (state .entry)) (now (numbers .exit)) (withThree (now (shadow .exit)) (now (map .exit)) (now (exclusion .entry)) t)
         ≡ callAt (now (state .entry)) (now (numbers .entry)) (withThree (now (shadow .entry)) (now (map .entry)) (now (exclusion .entry)) t) (syncAll (now (kernel .entry)))) ⌝ }
 {
     boundary::sync_all(state, kernel, shadow, map, exclusion, numbers)
@@ -62,7 +62,7 @@ pub extern "C" fn guard_fetch(
     page: u64,
     numbers: &mut [u64],
 ) -> u64
-    ensures { λ r. ⌜ ((t : Tables) → left r (now (state .exit)) (now (numbers .exit)) (withShadow (now (shadow .entry)) t)
+    ensures { λ r. ⌜ ((t : Tables) → returned r (now (state .exit)) (now (numbers .exit)) (withShadow (now (shadow .entry)) t)
         ≡ callAt (now (state .entry)) (now (numbers .entry)) (withShadow (now (shadow .entry)) t) (fetch page)) ⌝ }
 {
     boundary::fetch(state, shadow, page, numbers)
@@ -77,7 +77,7 @@ pub extern "C" fn guard_write(
     length: u64,
     numbers: &mut [u64],
 ) -> u64
-    ensures { λ r. ⌜ ((t : Tables) → left r (now (state .entry)) (now (numbers .exit)) (withShadow (now (shadow .entry)) (withExclusion (now (exclusion .entry)) t))
+    ensures { λ r. ⌜ ((t : Tables) → returned r (now (state .entry)) (now (numbers .exit)) (withShadow (now (shadow .entry)) (withExclusion (now (exclusion .entry)) t))
         ≡ callAt (now (state .entry)) (now (numbers .entry)) (withShadow (now (shadow .entry)) (withExclusion (now (exclusion .entry)) t)) (write address length)) ⌝ }
 {
     boundary::write(state, shadow, exclusion, address, length, numbers)
@@ -90,7 +90,7 @@ pub extern "C" fn guard_enter(
     index: u64,
     numbers: &mut [u64],
 ) -> u64
-    ensures { λ r. ⌜ ((t : Tables) → left r (now (state .exit)) (now (numbers .exit)) (withShadow (now (shadow .exit)) t)
+    ensures { λ r. ⌜ ((t : Tables) → returned r (now (state .exit)) (now (numbers .exit)) (withShadow (now (shadow .exit)) t)
         ≡ callAt (now (state .entry)) (now (numbers .entry)) (withShadow (now (shadow .entry)) t) (enter index)) ⌝ }
 {
     boundary::enter(state, shadow, index, numbers)
@@ -103,7 +103,7 @@ pub extern "C" fn guard_leave(
     page: u64,
     numbers: &mut [u64],
 ) -> u64
-    ensures { λ r. ⌜ ((t : Tables) → left r (now (state .exit)) (now (numbers .exit)) (withShadow (now (shadow .exit)) t)
+    ensures { λ r. ⌜ ((t : Tables) → returned r (now (state .exit)) (now (numbers .exit)) (withShadow (now (shadow .exit)) t)
         ≡ callAt (now (state .entry)) (now (numbers .entry)) (withShadow (now (shadow .entry)) t) (leave page)) ⌝ }
 {
     boundary::leave(state, shadow, page, numbers)
@@ -117,7 +117,7 @@ pub extern "C" fn guard_device_write(
     length: u64,
     numbers: &mut [u64],
 ) -> u64
-    ensures { λ r. ⌜ ((t : Tables) → left r (now (state .entry)) (now (numbers .exit)) (withExclusion (now (exclusion .entry)) t)
+    ensures { λ r. ⌜ ((t : Tables) → returned r (now (state .entry)) (now (numbers .exit)) (withExclusion (now (exclusion .entry)) t)
         ≡ callAt (now (state .entry)) (now (numbers .entry)) (withExclusion (now (exclusion .entry)) t) (deviceWrite address length)) ⌝ }
 {
     boundary::device_write(state, exclusion, address, length, numbers)

@@ -19,7 +19,7 @@ use Rattle.model.specs.Questions.{stateInOrder}
 use Rattle.model.proofs.QuestionLaws.{both-first, both-second, both-yes, both-no-after, within-high}
 use Rattle.model.proofs.TableLaws.{is-table, table-same}
 use Rattle.words.specs.Words.{stateWords, pagesAt, framesAt, entriesAt, entryAt, entryWords, modeAt, runningAt, widest}
-use Rattle.words.specs.Words.{narrow, field, entryPages, stateIn, modeWord, lastWords, wordsOf, withMode}
+use Rattle.words.specs.Words.{narrow, field, entryPages, stateIn, modeWord, lastWords, wordsOf, withWords, pageWords, modeWords}
 use Rattle.words.proofs.WordLaws.{front-none, front-word, front-table, front-full, narrow-fits, narrow-wide, narrow-within, narrow-ltb}
 
 -- A run keeps its length where V, F and e are written before calls that keep it.
@@ -30,21 +30,6 @@ sizes-kept run t a b d e p = p ∙ simp length-set e
 pub words-kept : (run t u : List ℕ) (a b d : ℕ) → length t ≡ length (set (set (set run pagesAt a) framesAt b) entriesAt d) → length u ≡ length t
     → length u ≡ length run
 words-kept run t u a b d p q = q ∙ (p ∙ simp length-set refl)
-
--- All words of a state, written front to back: V, F and e, the entry pages, the mode.
-pub words-written : (s : State) (run t u : List ℕ) → length run ≡ stateWords → length (s .entry) ≡ entryWords
-    → t ≡ paste (set (set (set run pagesAt (s .pages)) framesAt (s .frames)) entriesAt (s .entries)) entryAt (s .entry) entryWords
-    → u ≡ withMode t (s .mode) → u ≡ wordsOf s
-unfolding wordsOf withMode
-words-written s run t u long k e p =
-    rw (p, e)
-    (front-full stateWords _ _
-    (front-word _ runningAt (running (s .mode)) _ _ (omega arith)
-    (front-word _ modeAt (modeWord (s .mode)) _ _ (omega arith)
-    (front-table _ entryAt entryWords (s .entry) _ _ k (omega arith)
-    (front-word _ entriesAt (s .entries) _ _ (omega arith)
-    (front-word _ framesAt (s .frames) _ _ (omega arith)
-    (front-word _ pagesAt (s .pages) _ _ (omega arith) (front-none _ run long))))))))
 
 -- The mode, by its two words.
 mode-back : (mode : Mode) → modeOf (eqb (modeWord mode) 1) (running mode) ≡ mode
@@ -91,38 +76,80 @@ module _ (s : State) (long : length (s .entry) ≡ entryWords) where
       (entries-back fits)
       (rw (last-word (modeAt - modeAt), field-back runningAt (running (s .mode)) (last-word (runningAt - modeAt)) r) (mode-back (s .mode)))
 
--- A run with another mode decodes to the state in that mode: the other words are as they were.
-module _ (run : List ℕ) (mode : Mode) (long : length run ≡ stateWords) where
-  kept-field : (at : ℕ) → (at ≡ modeAt → ⊥) → (at ≡ runningAt → ⊥) → field (withMode run mode) at ≡ field run at
-  unfolding field withMode
-  kept-field at m r =
-      ap narrow (getD-set-other (set run modeAt (modeWord mode)) runningAt at (running mode) 0 r ∙ getD-set-other run modeAt at (modeWord mode) 0 m)
+-- The words that a call puts into a run, one by one.
+module _ (run : List ℕ) (s : State) (long : length (s .entry) ≡ entryWords) where
+  mode-words : withWords run s modeWords ≡ set (set run modeAt (modeWord (s .mode))) runningAt (running (s .mode))
+  unfolding withWords
+  mode-words = rw (last-word s long (modeAt - modeAt), last-word s long (runningAt - modeAt)) refl
 
-  mode-put : getD (withMode run mode) modeAt 0 ≡ modeWord mode
-  unfolding withMode
-  mode-put =
-      getD-set-other (set run modeAt (modeWord mode)) runningAt modeAt (running mode) 0 (λ q. omega arith)
-      ∙ getD-set-same run modeAt (modeWord mode) 0 (omega arith)
+  page-words : withWords run s pageWords ≡ set run runningAt (running (s .mode))
+  unfolding withWords
+  page-words = rw (last-word s long (runningAt - modeAt)) refl
 
-  running-field : running mode < 65536 → field (withMode run mode) runningAt ≡ running mode
-  unfolding field withMode
-  running-field r =
-      ap narrow (getD-set-same (set run modeAt (modeWord mode)) runningAt (running mode) 0 (simp length-set (omega arith))) ∙ narrowed (running mode) r
+  pub mode-put : (word r : ℕ) → word ≡ modeWord (s .mode) → r ≡ running (s .mode) → set (set run modeAt word) runningAt r ≡ withWords run s modeWords
+  mode-put word r e p = rw (e, p) (sym mode-words)
 
-  pub mode-decoded : running mode < 65536 → stateIn (withMode run mode) ≡ inMode (stateIn run) mode
-  unfolding stateIn inMode entryPages
-  mode-decoded r =
+  pub page-put : (r : ℕ) → r ≡ running (s .mode) → set run runningAt r ≡ withWords run s pageWords
+  page-put r p = rw p (sym page-words)
+
+-- All words of a state, written front to back: V, F and e, the entry pages, the mode.
+pub words-written : (s : State) (run t u : List ℕ) → length run ≡ stateWords → length (s .entry) ≡ entryWords
+    → t ≡ paste (set (set (set run pagesAt (s .pages)) framesAt (s .frames)) entriesAt (s .entries)) entryAt (s .entry) entryWords
+    → u ≡ withWords t s modeWords → u ≡ wordsOf s
+unfolding wordsOf
+words-written s run t u long k e p =
+    rw (p, mode-words t s k, e)
+    (front-full stateWords _ _
+    (front-word _ runningAt (running (s .mode)) _ _ (omega arith)
+    (front-word _ modeAt (modeWord (s .mode)) _ _ (omega arith)
+    (front-table _ entryAt entryWords (s .entry) _ _ k (omega arith)
+    (front-word _ entriesAt (s .entries) _ _ (omega arith)
+    (front-word _ framesAt (s .frames) _ _ (omega arith)
+    (front-word _ pagesAt (s .pages) _ _ (omega arith) (front-none _ run long))))))))
+
+-- A run with other words of the mode decodes to the state in that mode, and one with another page to the state on that page: the other
+-- words are as they were.
+module _ (run : List ℕ) (s : State) (size : length run ≡ stateWords) (long : length (s .entry) ≡ entryWords) (small : running (s .mode) < 65536) where
+  running-put : (t : List ℕ) → length t ≡ stateWords → field (set t runningAt (running (s .mode))) runningAt ≡ running (s .mode)
+  unfolding field
+  running-put t e = ap narrow (getD-set-same t runningAt (running (s .mode)) 0 (omega arith)) ∙ narrowed (running (s .mode)) small
+
+  page-field : (at : ℕ) → (at ≡ runningAt → ⊥) → getD (set run runningAt (running (s .mode))) at 0 ≡ getD run at 0
+  page-field at r = getD-set-other run runningAt at (running (s .mode)) 0 r
+
+  mode-field : (at : ℕ) → (at ≡ modeAt → ⊥) → (at ≡ runningAt → ⊥)
+      → getD (set (set run modeAt (modeWord (s .mode))) runningAt (running (s .mode))) at 0 ≡ getD run at 0
+  mode-field at m r =
+      getD-set-other (set run modeAt (modeWord (s .mode))) runningAt at (running (s .mode)) 0 r ∙ getD-set-other run modeAt at (modeWord (s .mode)) 0 m
+
+  mode-there : getD (set (set run modeAt (modeWord (s .mode))) runningAt (running (s .mode))) modeAt 0 ≡ modeWord (s .mode)
+  mode-there =
+      getD-set-other (set run modeAt (modeWord (s .mode))) runningAt modeAt (running (s .mode)) 0 (λ q. omega arith)
+      ∙ getD-set-same run modeAt (modeWord (s .mode)) 0 (omega arith)
+
+  -- A run that differs at the words of the mode alone.
+  same-fields : (run′ : List ℕ) (mode : Mode) → ((at : ℕ) → (at ≡ modeAt → ⊥) → (at ≡ runningAt → ⊥) → getD run′ at 0 ≡ getD run at 0)
+      → modeOf (eqb (getD run′ modeAt 0) 1) (field run′ runningAt) ≡ mode → stateIn run′ ≡ inMode (stateIn run) mode
+  unfolding stateIn inMode entryPages field
+  same-fields run′ mode same is =
       state-made (inMode (stateIn run) mode) _ _ _ _ _
-      (kept-field pagesAt (λ q. omega arith) (λ q. omega arith))
-      (kept-field framesAt (λ q. omega arith) (λ q. omega arith))
-      (kept-field entriesAt (λ q. omega arith) (λ q. omega arith))
-      (table-same entryWords _ _ (λ i h. kept-field (entryAt + i) (λ q. omega arith) (λ q. omega arith)))
-      (rw (mode-put, running-field r) (mode-back mode))
+      (ap narrow (same pagesAt (λ q. omega arith) (λ q. omega arith)))
+      (ap narrow (same framesAt (λ q. omega arith) (λ q. omega arith)))
+      (ap narrow (same entriesAt (λ q. omega arith) (λ q. omega arith)))
+      (table-same entryWords _ _ (λ i h. ap narrow (same (entryAt + i) (λ q. omega arith) (λ q. omega arith))))
+      is
 
-pub mode-written : (run : List ℕ) (mode : Mode) (word r : ℕ) → length run ≡ stateWords → word ≡ modeWord mode → r ≡ running mode → Fits w16 r
-    → stateIn (set (set run modeAt word) runningAt r) ≡ inMode (stateIn run) mode
-unfolding withMode
-mode-written run mode word r long e p h = rw (e, p) (mode-decoded run mode long (rw p at (h .fits)))
+  pub mode-decoded : stateIn (withWords run s modeWords) ≡ inMode (stateIn run) (s .mode)
+  mode-decoded =
+      rw (mode-words run s long)
+      (same-fields _ (s .mode) mode-field
+      (rw (mode-there, running-put (set run modeAt (modeWord (s .mode))) (simp length-set size)) (mode-back (s .mode))))
+
+  pub page-decoded : stateIn (withWords run s pageWords) ≡ inMode (stateIn run) (modeOf (eqb (getD run modeAt 0) 1) (running (s .mode)))
+  page-decoded =
+      rw (page-words run s long)
+      (same-fields _ _ (λ at m r. page-field at r)
+      (rw (page-field modeAt (λ q. omega arith), running-put run size) refl))
 
 -- The page of a mode, as a function that reads it gave it.
 pub running-fits : (mode : Mode) (r : ℕ) → r ≡ running mode → Fits w16 r → running mode < 65536
@@ -171,33 +198,3 @@ pub words-in-order : (run : List ℕ) (a b d q w y r : Bool) → r ≡ both q y 
     → a ≡ within 1 2048 (getD run pagesAt 0) → b ≡ within 1 4096 (getD run framesAt 0) → d ≡ within 1 16 (getD run entriesAt 0)
     → r ≡ stateInOrder (stateIn run)
 words-in-order run a b d q w y r e1 e2 e3 e4 e5 e6 e7 = cc (words-asked run)
-
--- A mode that stays: its words are as they were, where the mode word is 0 or 1 and the running page is in order.
-mode-word-of : (word page : ℕ) → word ≤ 1 → (b : Bool) → eqb word 1 ≡ b → modeWord (modeOf b page) ≡ word
-unfolding modeWord modeOf inUser
-mode-word-of word page h true e = sym (eqb-true word 1 e)
-mode-word-of word page h false e = by word h (eqb-false word 1 e)
-  where
-    by : (n : ℕ) → n ≤ 1 → (n ≡ 1 → ⊥) → 0 ≡ n
-    by zero l q = refl
-    by (suc zero) l q = absurd (q refl)
-    by (suc (suc n)) l q = absurd (omega arith)
-
-narrow-small : (word : ℕ) → narrow word < widest → narrow word ≡ word
-narrow-small word h = by (leb word widest) refl
-  where
-    by : (b : Bool) → leb word widest ≡ b → narrow word ≡ word
-    by true e = sym (narrow-fits word (leb-true word widest e))
-    by false e = absurd (let q : widest ≡ narrow word = narrow-wide word (leb-false word widest e) in omega arith)
-
-pub mode-kept : (run : List ℕ) → leb (getD run modeAt 0) 1 ≡ true → stateInOrder (stateIn run) ≡ true → withMode run (stateIn run .mode) ≡ run
-unfolding withMode stateIn field stateInOrder pagesInRange
-mode-kept run h p =
-    let few : field run pagesAt ≤ 2048 = within-high 1 2048 (field run pagesAt) (both-first _ _ p) in
-    let below : field run runningAt < field run pagesAt = ltb-true _ _ (rw running-mode at (both-second _ _ (both-second _ _ (both-second _ _ p)))) in
-    let same : field run runningAt ≡ getD run runningAt 0 = running-same below few in
-    rw (mode-word-of (getD run modeAt 0) (field run runningAt) (leb-true _ _ h) (eqb (getD run modeAt 0) 1) refl, running-mode, same, set-getD run modeAt 0)
-    (set-getD run runningAt 0)
-  where
-    running-same : field run runningAt < field run pagesAt → field run pagesAt ≤ 2048 → field run runningAt ≡ getD run runningAt 0
-    running-same below few = narrow-small (getD run runningAt 0) (omega arith)

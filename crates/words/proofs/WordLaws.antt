@@ -18,8 +18,8 @@ use Rattle.model.specs.Keeps.{inUser}
 use Rattle.model.specs.Calls.{replyOf}
 use Rattle.model.proofs.QuestionLaws.{both-no, both-first, within-above}
 use Rattle.model.proofs.TableLaws.{is-table}
-use Rattle.words.specs.Words.{stateWords, entryAt, entryWords, modeAt, numbersWords, firstAt, secondAt, widest}
-use Rattle.words.specs.Words.{narrow, field, entryPages, modeWord, withNumbers, runsFit, lendable}
+use Rattle.words.specs.Words.{stateWords, entryAt, entryWords, modeAt, firstAt, secondAt, widest}
+use Rattle.words.specs.Words.{narrow, field, entryPages, modeWord, overwritten, withNumbers, runsFit, lendable}
 
 -- A word that fits 16 bits, and a wider one.
 pub narrow-fits : (word : ℕ) → word ≤ widest → word ≡ narrow word
@@ -90,58 +90,56 @@ unfolding Front
 front-full size words run (e, f) = sym (append-nil run) ∙ (ap (λ (l : List ℕ). l ++ []) (sym (take-all size run (omega arith))) ∙ f [])
 
 -- A numbers run of its length is written, and one of another is not.
-pub numbers-written : (numbers : List ℕ) (a b : ℕ) → length numbers ≡ numbersWords
-    → set (set numbers firstAt a) secondAt b ≡ withNumbers numbers a b
-unfolding withNumbers
+pub numbers-written : (numbers : List ℕ) (a b : ℕ) → length numbers ≡ 2 → set (set numbers firstAt a) secondAt b ≡ overwritten numbers (a ∷ b ∷ [])
+unfolding overwritten
 numbers-written numbers a b p =
-    rw (eq-eqb (length numbers) numbersWords p)
-    (front-full numbersWords _ _ (front-word _ secondAt b _ _ (omega arith) (front-word _ firstAt a _ _ (omega arith) (front-none _ numbers p))))
+    rw (eq-eqb (length numbers) 2 p)
+    (front-full 2 _ _ (front-word _ secondAt b _ _ (omega arith) (front-word _ firstAt a _ _ (omega arith) (front-none _ numbers p))))
 
-pub numbers-left : (numbers : List ℕ) (a b : ℕ) → (length numbers ≡ numbersWords → ⊥) → numbers ≡ withNumbers numbers a b
-unfolding withNumbers
-numbers-left numbers a b p = rw (ne-eqb (length numbers) numbersWords p) refl
+pub numbers-left : (numbers : List ℕ) (a b : ℕ) → (length numbers ≡ 2 → ⊥) → numbers ≡ overwritten numbers (a ∷ b ∷ [])
+unfolding overwritten
+numbers-left numbers a b p = rw (ne-eqb (length numbers) 2 p) refl
 
 -- What an answer says to the numbers run.
-pub says-done : (answer : Answer) (numbers after : List ℕ) (a b : ℕ) → answer ≡ Done a b → after ≡ withNumbers numbers a b
-    → after ≡ withNumbers numbers (replyOf answer .first) (replyOf answer .second)
-unfolding replyOf
+pub says-done : (answer : Answer) (numbers after : List ℕ) (a b : ℕ) → answer ≡ Done a b → after ≡ overwritten numbers (a ∷ b ∷ [])
+    → after ≡ withNumbers 2 numbers (replyOf answer)
+unfolding withNumbers replyOf
 says-done answer numbers after a b p q = rw p q
 
-pub says-refused : (answer : Answer) (numbers after : List ℕ) (n : ℕ) → answer ≡ Refused n → after ≡ withNumbers numbers 0 0
-    → after ≡ withNumbers numbers (replyOf answer .first) (replyOf answer .second)
-unfolding replyOf
+pub says-refused : (answer : Answer) (numbers after : List ℕ) (n : ℕ) → answer ≡ Refused n → after ≡ overwritten numbers (0 ∷ 0 ∷ [])
+    → after ≡ withNumbers 2 numbers (replyOf answer)
+unfolding withNumbers replyOf
 says-refused answer numbers after n p q = rw p q
 
 -- The boundary's part of question 7, by the test of the lengths.
-pub lengths-wrong : (run numbers : List ℕ) (b : Bool) → b ≡ runsFit run numbers → not b ≡ true → false ≡ lendable run numbers
+module _ (count : ℕ) (run numbers : List ℕ) (b : Bool) where
+  pub lengths-wrong : b ≡ runsFit count run numbers → not b ≡ true → false ≡ lendable count run numbers
+  unfolding lendable
+  lengths-wrong p q = sym (both-no (leb (getD run modeAt 0) 1) (sym p ∙ not-true b q))
+
+  pub lengths-right : b ≡ runsFit count run numbers → not b ≡ false → leb (getD run modeAt 0) 1 ≡ lendable count run numbers
+  unfolding lendable both
+  lengths-right p q = rw (sym p ∙ not-false b q) refl
+
+  pub run-fits : b ≡ runsFit count run numbers → not b ≡ false → length run ≡ stateWords
+  unfolding runsFit
+  run-fits p q = eqb-true (length run) stateWords (both-first (eqb (length run) stateWords) (eqb (length numbers) count) (sym p ∙ not-false b q))
+
+  pub mode-inside : b ≡ runsFit count run numbers → not b ≡ false → modeAt < length run
+  mode-inside p q = let n : length run ≡ stateWords = run-fits p q in omega arith
+
+  -- The state's part asked after it, of runs that can be lent.
+  pub lent-wrong : (fit : Bool) → b ≡ lendable count run numbers → not b ≡ true → false ≡ both (lendable count run numbers) fit
+  lent-wrong fit p q = sym (both-no fit (sym p ∙ not-true b q))
+
+  pub lent-right : (fit r : Bool) → b ≡ lendable count run numbers → not b ≡ false → r ≡ fit → r ≡ both (lendable count run numbers) fit
+  unfolding both
+  lent-right fit r p q e = rw (sym p ∙ not-false b q) e
+
+pub run-lent : (count : ℕ) (run numbers : List ℕ) (b : Bool) → b ≡ lendable count run numbers → not b ≡ false → length run ≡ stateWords
 unfolding lendable
-lengths-wrong run numbers b p q = sym (both-no (leb (getD run modeAt 0) 1) (sym p ∙ not-true b q))
-
-pub lengths-right : (run numbers : List ℕ) (b : Bool) → b ≡ runsFit run numbers → not b ≡ false → leb (getD run modeAt 0) 1 ≡ lendable run numbers
-unfolding lendable both
-lengths-right run numbers b p q = rw (sym p ∙ not-false b q) refl
-
-pub run-fits : (run numbers : List ℕ) (b : Bool) → b ≡ runsFit run numbers → not b ≡ false → length run ≡ stateWords
-unfolding runsFit
-run-fits run numbers b p q =
-    eqb-true (length run) stateWords (both-first (eqb (length run) stateWords) (eqb (length numbers) numbersWords) (sym p ∙ not-false b q))
-
--- The state's part asked after it, of runs that can be lent.
-pub lent-wrong : (run numbers : List ℕ) (fit b : Bool) → b ≡ lendable run numbers → not b ≡ true → false ≡ both (lendable run numbers) fit
-lent-wrong run numbers fit b p q = sym (both-no fit (sym p ∙ not-true b q))
-
-pub lent-right : (run numbers : List ℕ) (fit b r : Bool) → b ≡ lendable run numbers → not b ≡ false → r ≡ fit
-    → r ≡ both (lendable run numbers) fit
-unfolding both
-lent-right run numbers fit b r p q e = rw (sym p ∙ not-false b q) e
-
-pub run-lent : (run numbers : List ℕ) (b : Bool) → b ≡ lendable run numbers → not b ≡ false → length run ≡ stateWords
-unfolding lendable
-run-lent run numbers b p q =
-    run-fits run numbers true (sym (both-first (runsFit run numbers) (leb (getD run modeAt 0) 1) (sym p ∙ not-false b q))) refl
-
-pub mode-inside : (run numbers : List ℕ) (b : Bool) → b ≡ runsFit run numbers → not b ≡ false → modeAt < length run
-mode-inside run numbers b p q = let n : length run ≡ stateWords = run-fits run numbers b p q in omega arith
+run-lent count run numbers b p q =
+    run-fits count run numbers true (sym (both-first (runsFit count run numbers) (leb (getD run modeAt 0) 1) (sym p ∙ not-false b q))) refl
 
 pub narrow-below : (word : ℕ) → narrow word ≤ widest
 narrow-below word = by (leb word widest) refl

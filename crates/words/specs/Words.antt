@@ -4,13 +4,13 @@ use Prim.Native.Nat.{ℕ, _+_, _<_}
 use mathlib.Core.Bool.{Bool, true, false, cond}
 use mathlib.Core.Path.{_≡_}
 use mathlib.Core.List.{List, [], _∷_, _++_}
-use lib.ListN.{length, getD, set}
+use lib.ListN.{length, getD, set, take}
 use lib.Dec.{leb, eqb}
 use Rattle.model.specs.declared.State.{State}
 use Rattle.model.specs.declared.Mode.{Mode}
 use Rattle.model.specs.Edges.{both, table, member}
 use Rattle.model.specs.Questions.{stateInOrder}
-use Rattle.model.specs.Calls.{Reply, settle}
+use Rattle.model.specs.Calls.{Reply, settle, Call, syncPage, syncAll, fetch, write, enter, leave, deviceWrite}
 use Rattle.model.specs.Keeps.{inUser, running, modeOf, stateOf}
 
 -- The layout of a state run: V, F and e, the sixteen entry pages, kernel or user, the page now running.
@@ -39,15 +39,25 @@ modeAt = 19
 abbrev pub runningAt : ℕ
 runningAt = 20
 
--- The layout of a numbers run: the two numbers of a reply.
-abbrev pub numbersWords : ℕ
-numbersWords = 2
-
+-- The layout of a numbers run: the numbers of a reply in their order.
 abbrev pub firstAt : ℕ
 firstAt = 0
 
 abbrev pub secondAt : ℕ
 secondAt = 1
+
+-- How many numbers a call gives, which is the length of its numbers run. The start gives two.
+abbrev pub startNumbers : ℕ
+startNumbers = 2
+
+abbrev pub numbersBy : Call → ℕ
+numbersBy (syncPage kernel page) = 2
+numbersBy (syncAll kernel) = 2
+numbersBy (fetch page) = 2
+numbersBy (write address length) = 2
+numbersBy (enter index) = 2
+numbersBy (leave page) = 2
+numbersBy (deviceWrite address length) = 2
 
 -- The mode word: 0 for kernel mode, 1 for user mode.
 unfoldable pub modeWord : Mode → ℕ
@@ -79,24 +89,45 @@ lastWords s = modeWord (s .mode) ∷ running (s .mode) ∷ []
 unfoldable pub wordsOf : State → List ℕ
 wordsOf s = s .pages ∷ s .frames ∷ s .entries ∷ (s .entry ++ lastWords s)
 
--- A run with another mode: its two words alone.
-unfoldable pub withMode : List ℕ → Mode → List ℕ
-withMode run mode = set (set run modeAt (modeWord mode)) runningAt (running mode)
+-- A run with the words of a state at some places, and its own at all others.
+unfoldable pub withWords : List ℕ → State → List ℕ → List ℕ
+withWords run s [] = run
+withWords run s (at ∷ places) = withWords (set run at (getD (wordsOf s) at 0)) s places
 
--- The two numbers of a reply in a numbers run. One of another length is not written.
-unfoldable pub withNumbers : List ℕ → ℕ → ℕ → List ℕ
-withNumbers numbers first second = cond (eqb (length numbers) numbersWords) (first ∷ second ∷ []) numbers
+-- The places of a state run that a call can change: the page now running, or the mode with it. A call that keeps the state writes nothing there.
+abbrev pub pageWords : List ℕ
+pageWords = runningAt ∷ []
+
+abbrev pub modeWords : List ℕ
+modeWords = modeAt ∷ runningAt ∷ []
+
+abbrev pub changedBy : Call → List ℕ
+changedBy (syncPage kernel page) = []
+changedBy (syncAll kernel) = []
+changedBy (fetch page) = pageWords
+changedBy (write address length) = []
+changedBy (enter index) = modeWords
+changedBy (leave page) = modeWords
+changedBy (deviceWrite address length) = []
+
+-- Values in a run that has a word for each. A run of another length is not written.
+unfoldable pub overwritten : List ℕ → List ℕ → List ℕ
+overwritten run values = cond (eqb (length run) (length values)) values run
+
+-- The numbers run of a call that gives count numbers: those of its reply.
+unfoldable pub withNumbers : ℕ → List ℕ → Reply → List ℕ
+withNumbers count numbers reply = overwritten numbers (take count (reply .first ∷ reply .second ∷ []))
 
 -- The boundary's part of question 7. The start asks for the lengths of both runs; every other call also for a mode word of 0 or 1.
-unfoldable pub runsFit : List ℕ → List ℕ → Bool
-runsFit run numbers = both (eqb (length run) stateWords) (eqb (length numbers) numbersWords)
+unfoldable pub runsFit : ℕ → List ℕ → List ℕ → Bool
+runsFit count run numbers = both (eqb (length run) stateWords) (eqb (length numbers) count)
 
-unfoldable pub lendable : List ℕ → List ℕ → Bool
-lendable run numbers = both (runsFit run numbers) (leb (getD run modeAt 0) 1)
+unfoldable pub lendable : ℕ → List ℕ → List ℕ → Bool
+lendable count run numbers = both (runsFit count run numbers) (leb (getD run modeAt 0) 1)
 
--- An accepted call that moves puts its mode into the state run. A refused one leaves the run as it was.
-unfoldable pub runAfter : List ℕ → Reply → State → List ℕ
-runAfter run reply s = settle (reply .number) (withMode run (s .mode)) (λ _. run)
+-- An accepted call puts the words that it can change into the state run, and no other. A refused one leaves the run as it was.
+unfoldable pub runAfter : List ℕ → List ℕ → Reply → State → List ℕ
+runAfter run places reply s = settle (reply .number) (withWords run s places) (λ _. run)
 
 -- An accepted start writes every word of the state run. A refused one leaves the run as it was: the zero state of document 01 is not written.
 unfoldable pub runStarted : List ℕ → Reply → State → List ℕ

@@ -2,16 +2,17 @@
 // A function that takes a state run has a `requires`: its callers have asked for the length.
 
 ghost use mathlib.Core.Path.{_≡_};
+ghost use mathlib.Core.List.{[], _∷_};
 ghost use Prim.Native.Nat.{_<_};
 ghost use lib.ListN.{length};
 ghost use lib.Seq.{paste};
 ghost use lib.Dec.{eqb};
 ghost use Rattle.model.specs.Edges;
-ghost use Rattle.model.specs.Keeps.{modeOf, running, inMode};
+ghost use Rattle.model.specs.Keeps.{modeOf, running};
 ghost use Rattle.model.specs.Questions.{stateInOrder};
 ghost use Rattle.model.specs.Calls.{replyOf};
 ghost use Rattle.words.specs.Words;
-ghost use Rattle.words.specs.Words.{stateWords, entryAt, entryWords, entryPages, stateIn, modeWord, wordsOf, withMode, withNumbers, runsFit, runAfter, runStarted, WideRefused};
+ghost use Rattle.words.specs.Words.{stateWords, entryAt, entryWords, startNumbers, entryPages, stateIn, modeWord, wordsOf, withWords, pageWords, modeWords, overwritten, withNumbers, runsFit, runAfter, runStarted, WideRefused};
 use model::Answer;
 use model::Called;
 use model::Mode;
@@ -118,13 +119,22 @@ pub fn state_in(run: &[u64]) -> State
     }
 }
 
-// Writes the words of a mode into a run. The run then decodes to the state in that mode. A mode's page is a 16-bit number, on which decoding rests.
-fn put_mode(run: &mut [u64], mode: Mode)
+// Writes the page of a state that now runs into a run, and no other word.
+fn put_page(run: &mut [u64], s: State)
     requires { ⌜ length (now run) ≡ stateWords ⌝ }
-    ensures words { λ _. ⌜ now (run .exit) ≡ withMode (now (run .entry)) mode ⌝ }
-    ensures decoded { λ _. ⌜ stateIn (now (run .exit)) ≡ inMode (stateIn (now (run .entry))) mode ⌝ }
-    ensures fits { λ _. ⌜ running mode < 65536 ⌝ }
+    ensures { λ _. ⌜ now (run .exit) ≡ withWords (now (run .entry)) s pageWords ⌝ }
 {
+    let mode = s.mode;
+    run[STATE_RUNNING] = questions::running(mode) as u64;
+}
+
+// Writes both words of a state's mode into a run, and no other. A mode's page is a 16-bit number, on which decoding rests.
+fn put_mode(run: &mut [u64], s: State)
+    requires { ⌜ length (now run) ≡ stateWords ⌝ }
+    ensures words { λ _. ⌜ now (run .exit) ≡ withWords (now (run .entry)) s modeWords ⌝ }
+    ensures fits { λ _. ⌜ running (s .mode) < 65536 ⌝ }
+{
+    let mode = s.mode;
     run[STATE_MODE] = mode_word(mode);
     run[STATE_RUNNING] = questions::running(mode) as u64;
 }
@@ -147,26 +157,25 @@ fn put_state(run: &mut [u64], s: State)
     ensures decoded { λ _. ⌜ stateIn (now (run .exit)) ≡ s ⌝ }
 {
     let entry = s.entry;
-    let mode = s.mode;
     run[STATE_PAGES] = s.pages as u64;
     run[STATE_FRAMES] = s.frames as u64;
     run[STATE_ENTRIES] = s.entries as u64;
     put_entry_pages(run, entry);
-    put_mode(run, mode);
+    put_mode(run, s);
 }
 
-// The boundary's part of question 7: the lengths of both runs, which the start asks for.
-pub fn runs_fit(run: &[u64], numbers: &[u64]) -> bool
-    ensures { λ r. ⌜ r ≡ runsFit (now (run .entry)) (now (numbers .entry)) ⌝ }
+// The boundary's part of question 7: the lengths of both runs, which the start asks for. A call's numbers run has a word for each of its numbers.
+pub fn runs_fit(run: &[u64], numbers: &[u64], count: usize) -> bool
+    ensures { λ r. ⌜ r ≡ runsFit count (now (run .entry)) (now (numbers .entry)) ⌝ }
 {
-    questions::both(run.len() == STATE_WORDS, numbers.len() == NUMBERS)
+    questions::both(run.len() == STATE_WORDS, numbers.len() == count)
 }
 
 // What every other call asks for: a mode word of 0 or 1 too.
-fn lendable(run: &[u64], numbers: &[u64]) -> bool
-    ensures { λ r. ⌜ r ≡ Words.lendable (now (run .entry)) (now (numbers .entry)) ⌝ }
+fn lendable(run: &[u64], numbers: &[u64], count: usize) -> bool
+    ensures { λ r. ⌜ r ≡ Words.lendable count (now (run .entry)) (now (numbers .entry)) ⌝ }
 {
-    if !runs_fit(run, numbers) {
+    if !runs_fit(run, numbers, count) {
         return false;
     }
     run[STATE_MODE] <= MODE_USER
@@ -190,10 +199,10 @@ fn words_in_order(run: &[u64]) -> bool
 }
 
 // Both runs can be lent, and the state is in order.
-pub fn usable(run: &[u64], numbers: &[u64]) -> bool
-    ensures { λ r. ⌜ r ≡ Edges.both (Words.lendable (now (run .entry)) (now (numbers .entry))) (stateInOrder (stateIn (now (run .entry)))) ⌝ }
+pub fn usable(run: &[u64], numbers: &[u64], count: usize) -> bool
+    ensures { λ r. ⌜ r ≡ Edges.both (Words.lendable count (now (run .entry)) (now (numbers .entry))) (stateInOrder (stateIn (now (run .entry)))) ⌝ }
 {
-    if !lendable(run, numbers) {
+    if !lendable(run, numbers, count) {
         return false;
     }
     words_in_order(run)
@@ -201,7 +210,7 @@ pub fn usable(run: &[u64], numbers: &[u64]) -> bool
 
 // Two numbers to a numbers run. A run of another length is not written.
 fn put_numbers(numbers: &mut [u64], first: u64, second: u64)
-    ensures { λ _. ⌜ now (numbers .exit) ≡ withNumbers (now (numbers .entry)) first second ⌝ }
+    ensures { λ _. ⌜ now (numbers .exit) ≡ overwritten (now (numbers .entry)) (first ∷ second ∷ []) ⌝ }
 {
     if numbers.len() == NUMBERS {
         numbers[0] = first;
@@ -212,7 +221,7 @@ fn put_numbers(numbers: &mut [u64], first: u64, second: u64)
 // An answer: the number to return, and the call's two numbers, which are 0 where it was refused.
 pub fn reply(numbers: &mut [u64], answer: Answer) -> u64
     ensures number { λ r. ⌜ r ≡ replyOf answer .number ⌝ }
-    ensures both { λ _. ⌜ now (numbers .exit) ≡ withNumbers (now (numbers .entry)) (replyOf answer .first) (replyOf answer .second) ⌝ }
+    ensures both { λ _. ⌜ now (numbers .exit) ≡ withNumbers 2 (now (numbers .entry)) (replyOf answer) ⌝ }
 {
     match answer {
         Answer::Done(first, second) => {
@@ -226,20 +235,36 @@ pub fn reply(numbers: &mut [u64], answer: Answer) -> u64
     }
 }
 
-// What a call gave that may move: its answer to the numbers run, and the mode of an accepted one to the state run.
+// What a fetch gave: its answer to the numbers run, and the page that an accepted one runs to the state run.
 // The state run has its length, which `usable` has asked for.
-pub fn put_called(run: &mut [u64], numbers: &mut [u64], called: Called) -> u64
+pub fn put_fetched(run: &mut [u64], numbers: &mut [u64], called: Called) -> u64
     requires { ⌜ length (now run) ≡ stateWords ⌝ }
     ensures number { λ r. ⌜ r ≡ replyOf (called .answer) .number ⌝ }
-    ensures mode { λ _. ⌜ now (run .exit) ≡ runAfter (now (run .entry)) (replyOf (called .answer)) (called .state) ⌝ }
-    ensures both { λ _. ⌜ now (numbers .exit) ≡ withNumbers (now (numbers .entry)) (replyOf (called .answer) .first) (replyOf (called .answer) .second) ⌝ }
+    ensures words { λ _. ⌜ now (run .exit) ≡ runAfter (now (run .entry)) pageWords (replyOf (called .answer)) (called .state) ⌝ }
+    ensures both { λ _. ⌜ now (numbers .exit) ≡ withNumbers 2 (now (numbers .entry)) (replyOf (called .answer)) ⌝ }
 {
     let answer = called.answer;
     let after = called.state;
-    let mode = after.mode;
     let number = reply(numbers, answer);
     if number == 0 {
-        put_mode(run, mode);
+        put_page(run, after);
+    }
+    number
+}
+
+// What enter or leave gave: its answer to the numbers run, and the mode of an accepted one to the state run.
+// The state run has its length, which `usable` has asked for.
+pub fn put_switched(run: &mut [u64], numbers: &mut [u64], called: Called) -> u64
+    requires { ⌜ length (now run) ≡ stateWords ⌝ }
+    ensures number { λ r. ⌜ r ≡ replyOf (called .answer) .number ⌝ }
+    ensures words { λ _. ⌜ now (run .exit) ≡ runAfter (now (run .entry)) modeWords (replyOf (called .answer)) (called .state) ⌝ }
+    ensures both { λ _. ⌜ now (numbers .exit) ≡ withNumbers 2 (now (numbers .entry)) (replyOf (called .answer)) ⌝ }
+{
+    let answer = called.answer;
+    let after = called.state;
+    let number = reply(numbers, answer);
+    if number == 0 {
+        put_mode(run, after);
     }
     number
 }
@@ -250,7 +275,7 @@ pub fn put_started(run: &mut [u64], numbers: &mut [u64], called: Called) -> u64
     requires { ⌜ length (now run) ≡ stateWords ⌝ }
     ensures number { λ r. ⌜ r ≡ replyOf (called .answer) .number ⌝ }
     ensures words { λ _. ⌜ now (run .exit) ≡ runStarted (now (run .entry)) (replyOf (called .answer)) (called .state) ⌝ }
-    ensures both { λ _. ⌜ now (numbers .exit) ≡ withNumbers (now (numbers .entry)) (replyOf (called .answer) .first) (replyOf (called .answer) .second) ⌝ }
+    ensures both { λ _. ⌜ now (numbers .exit) ≡ withNumbers startNumbers (now (numbers .entry)) (replyOf (called .answer)) ⌝ }
 {
     let answer = called.answer;
     let after = called.state;

@@ -10,8 +10,8 @@ returns c = search (needs, unused)
 state-in-requires : tie.Need-state-in-requires
 state-in-requires c κs = search (needs, run-used)
 
-put-called-requires : tie.Need-put-called-requires
-put-called-requires c κs = search (needs, run-used)
+put-switched-requires : tie.Need-put-switched-requires
+put-switched-requires c κs = search (needs, run-used)
 
 returns-2 : tie.Need-returns-2
 returns-2 c = search (needs, shadow-called)
@@ -20,5 +20,5 @@ pub enter-spec : {M : Type 1} → statement M
 enter-spec =
     tie.close
     (tie.spec (λ c κs. search needs) (λ c κs. search needs) (λ c. search needs) (λ c. search needs) returns
-    state-in-requires (λ c κs. search needs) put-called-requires (λ c. search needs) (λ c. search needs)
+    state-in-requires (λ c κs. search needs) put-switched-requires (λ c. search needs) (λ c. search needs)
     (λ c. search needs) returns-2)

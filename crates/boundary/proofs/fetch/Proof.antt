@@ -10,8 +10,8 @@ returns c = search (needs, unused)
 state-in-requires : tie.Need-state-in-requires
 state-in-requires c κs = search (needs, run-used)
 
-put-called-requires : tie.Need-put-called-requires
-put-called-requires c κs = search (needs, run-used)
+put-fetched-requires : tie.Need-put-fetched-requires
+put-fetched-requires c κs = search (needs, run-used)
 
 returns-2 : tie.Need-returns-2
 returns-2 c = search (needs, shadow-called)
@@ -20,4 +20,4 @@ pub fetch-spec : {M : Type 1} → statement M
 fetch-spec =
     tie.close
     (tie.spec (λ c κs. search needs) (λ c κs. search needs) (λ c. search needs) (λ c. search needs) returns
-    state-in-requires (λ c κs. search needs) put-called-requires (λ c. search needs) (λ c. search needs) returns-2)
+    state-in-requires (λ c κs. search needs) put-fetched-requires (λ c. search needs) (λ c. search needs) returns-2)

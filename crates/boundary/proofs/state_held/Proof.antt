@@ -1,26 +1,39 @@
--- `boundary::state_held` meets its contract: an accepted call puts a mode on a page below V, and a refused one leaves the run.
+-- `boundary::state_held` meets its contract: an accepted call puts the words that it can change, on a page below V, and a refused one leaves the
+-- run.
 use Prim.Native.Nat.{ℕ, zero, suc, _≤_, _<_}
-use mathlib.Core.Bool.{true}
+use mathlib.Core.Bool.{Bool, true, false}
 use mathlib.Core.List.{List}
-use mathlib.Core.Path.{_≡_, refl, sym, _∙_}
+use mathlib.Core.Path.{_≡_, refl, sym, ap, _∙_}
 use lib.ListN.{length, getD}
+use lib.Dec.{eqb}
 use native.Mathlib.Omega.{arith}
-use Rattle.model.specs.Keeps.{Tables, Guard, guardOf, running}
+use Rattle.model.specs.declared.State.{State}
+use Rattle.model.specs.Keeps.{Tables, Guard, guardOf, inUser, running, modeOf, inMode}
 use Rattle.model.specs.Questions.{firstNo, seen}
-use Rattle.model.specs.Calls.{settle, Outcome, refusedOf, Call, broughtBy, questionsOf, effectOf, answer}
+use Rattle.model.specs.Calls.{settle, Outcome, refusedOf, Call, syncPage, syncAll, fetch, write, enter, leave, deviceWrite, broughtBy, questionsOf, effectOf, answer, pageSynced, allSynced}
 use Rattle.model.proofs.CallLaws.{effect-reply, effect-state, effect-runs}
-use Rattle.words.specs.Words.{pagesAt, runningAt, stateIn, field, lendable, runAfter}
+use Rattle.model.proofs.TableLaws.{length-table}
+use Rattle.words.specs.Words.{stateWords, pagesAt, entryWords, modeAt, runningAt, entryPages, stateIn, field, numbersBy, modeWords, changedBy, withWords, lendable, runAfter}
 use Rattle.words.proofs.WordLaws.{narrow-below, run-lent}
-use Rattle.words.proofs.StateLaws.{mode-decoded, running-mode}
+use Rattle.words.proofs.StateLaws.{mode-decoded, page-decoded, running-mode}
 use Rattle.boundary.specs.Boundary.{replied, callAt, StateHeld}
 use Rattle.boundary.proofs.state_held.Statement.{statement}
 use Rattle.boundary.proofs.state_held.Tie as tie
 
-module _ (run numbers : List ℕ) (t : Tables) (call : Call) (lends : lendable run numbers ≡ true) where
+-- The mode word says whether a mode is user mode.
+user-mode : (b : Bool) (page : ℕ) → inUser (modeOf b page) ≡ b
+unfolding inUser modeOf
+user-mode true page = refl
+user-mode false page = refl
+
+module _ (run : List ℕ) (t : Tables) where
   abbrev g : Guard
   g = guardOf (stateIn run) t
 
-  -- Every field of the decoded state has 16 bits.
+  abbrev after : Call → State
+  after call = effectOf g call .guard .state
+
+  -- Every field of the decoded state has 16 bits, and there are sixteen entry pages.
   narrow-pages : stateIn run .pages ≤ 65536
   unfolding stateIn field
   narrow-pages = omega (arith, narrow-below (getD run pagesAt 0))
@@ -29,18 +42,44 @@ module _ (run numbers : List ℕ) (t : Tables) (call : Call) (lends : lendable r
   unfolding stateIn field
   narrow-running = rw running-mode (omega (arith, narrow-below (getD run runningAt 0)))
 
-  held : (n : ℕ) → firstNo (questionsOf (seen g) call) ≡ n
-      → let o : Outcome = settle n (effectOf g call) (refusedOf g (broughtBy call)) in stateIn (runAfter run (o .reply) (o .guard .state)) ≡ o .guard .state
-  unfolding settle runAfter
-  held zero e =
-      rw (effect-reply g call .0)
-      (mode-decoded run (effectOf g call .guard .state .mode) (run-lent run numbers true (sym lends) refl)
-      (effect-runs g call 65536 narrow-pages narrow-running e) ∙ sym (effect-state g call))
-  held (suc n) e = refl
+  entries-long : (call : Call) → length (after call .entry) ≡ entryWords
+  unfolding stateIn inMode entryPages
+  entries-long call = rw (effect-state g call) (length-table entryWords _)
 
-  whole : stateIn (callAt run numbers t call .state) ≡ answer g call .guard .state
-  unfolding callAt replied answer
-  whole = rw lends (held (firstNo (questionsOf (seen g) call)) refl)
+  -- A fetch keeps kernel or user.
+  mode-stays : (page : ℕ) → modeOf (eqb (getD run modeAt 0) 1) (running (after (fetch page) .mode)) ≡ after (fetch page) .mode
+  unfolding effectOf inMode stateIn
+  mode-stays page = rw (user-mode, running-mode) refl
+
+  module _ (size : length run ≡ stateWords) where
+    switched : (call : Call) → running (after call .mode) < 65536 → stateIn (withWords run (after call) modeWords) ≡ after call
+    switched call small = mode-decoded run (after call) size (entries-long call) small ∙ sym (effect-state g call)
+
+    words-hold : (call : Call) → running (after call .mode) < 65536 → stateIn (withWords run (after call) (changedBy call)) ≡ after call
+    unfolding withWords effectOf pageSynced allSynced
+    words-hold (syncPage kernel page) small = refl
+    words-hold (syncAll kernel) small = refl
+    words-hold (fetch page) small =
+        page-decoded run (after (fetch page)) size (entries-long (fetch page)) small
+        ∙ (ap (inMode (stateIn run)) (mode-stays page) ∙ sym (effect-state g (fetch page)))
+    words-hold (write address length) small = refl
+    words-hold (enter index) small = switched (enter index) small
+    words-hold (leave page) small = switched (leave page) small
+    words-hold (deviceWrite address length) small = refl
+
+    held : (call : Call) (n : ℕ) → firstNo (questionsOf (seen g) call) ≡ n
+        → let o : Outcome = settle n (effectOf g call) (refusedOf g (broughtBy call)) in
+        stateIn (runAfter run (changedBy call) (o .reply) (o .guard .state)) ≡ o .guard .state
+    unfolding settle runAfter
+    held call zero e = rw (effect-reply g call .0) (words-hold call (effect-runs g call 65536 narrow-pages narrow-running e))
+    held call (suc n) e = refl
+
+whole : (run numbers : List ℕ) (t : Tables) (call : Call) → lendable (numbersBy call) run numbers ≡ true
+    → stateIn (callAt run numbers t call .state) ≡ answer (guardOf (stateIn run) t) call .guard .state
+unfolding callAt replied answer
+whole run numbers t call lends =
+    rw lends
+    (held run t (run-lent (numbersBy call) run numbers true (sym lends) refl) call (firstNo (questionsOf (seen (guardOf (stateIn run) t)) call)) refl)
 
 returns : tie.Need-returns
 unfolding StateHeld

@@ -1,13 +1,11 @@
 -- `words::put_mode` meets its contract.
 use borrow.Author.Needs.{needs}
-use Rattle.words.specs.Words.{withMode}
-use Rattle.words.proofs.StateLaws.{mode-written, running-fits}
+use Rattle.words.proofs.StateLaws.{mode-put, running-fits}
 use Rattle.words.proofs.put_mode.Statement.{statement}
 use Rattle.words.proofs.put_mode.Tie as tie
 
 returns : tie.Need-returns
-unfolding withMode
-returns c = (cc, (search (needs, mode-written), search (needs, running-fits)))
+returns c = (search (needs, mode-put), search (needs, running-fits))
 
 pub put-mode-spec : {M : Type 1} → statement M
 put-mode-spec =

@@ -1,9 +1,9 @@
--- `words::put_called` meets its contract.
+-- `words::put_switched` meets its contract.
 use borrow.Author.Needs.{needs}
 use Rattle.words.specs.Words.{runAfter}
 use Rattle.words.proofs.SettleLaws.{settled-accepted, settled-refused}
-use Rattle.words.proofs.put_called.Statement.{statement}
-use Rattle.words.proofs.put_called.Tie as tie
+use Rattle.words.proofs.put_switched.Statement.{statement}
+use Rattle.words.proofs.put_switched.Tie as tie
 
 returns : tie.Need-returns
 unfolding runAfter
@@ -13,8 +13,8 @@ returns-2 : tie.Need-returns-2
 unfolding runAfter
 returns-2 c = search (needs, settled-refused)
 
-pub put-called-spec : {M : Type 1} → statement M
-put-called-spec =
+pub put-switched-spec : {M : Type 1} → statement M
+put-switched-spec =
     tie.close
     (tie.spec (λ c κs. search needs) (λ c κs. search needs) (λ c. search needs) (λ c. search needs) returns
     (λ c. search needs) returns-2)
