@@ -18,7 +18,8 @@ use Rattle.model.specs.Questions.{firstNo, seen, stateInOrder, inOrder, fetchPe
 use Rattle.model.specs.Calls.{replyOf, outcomeBy, fetch, questionsOf, effectOf, answer}
 use Rattle.model.proofs.QuestionLaws.{firstNo-yes}
 use Rattle.model.proofs.AcceptedLaws.{fetch-page}
-use Rattle.model.proofs.CallLaws.{passed, passed-always, stopped, none-left, pages-few, shadow-long, in-order, refused-by, accepted-by}
+use Rattle.model.proofs.StateLaws.{pages-few, in-order, shadow-long}
+use Rattle.model.proofs.CallLaws.{passed, passed-always, stopped, none-left, refused-by, accepted-by}
 use Rattle.access.specs.Lent.{lent}
 
 -- Question 12 of a fetch.

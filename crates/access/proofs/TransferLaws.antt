@@ -18,7 +18,8 @@ use Rattle.model.specs.Questions.{firstNo, seen, stateInOrder, inOrder, free, e
 use Rattle.model.specs.Calls.{replyOf, outcomeBy, keptBy, deviceWrite, questionsOf, effectOf, answer}
 use Rattle.model.proofs.QuestionLaws.{within-low, firstNo-yes}
 use Rattle.model.proofs.AcceptedLaws.{deviceWrite-some, deviceWrite-byte}
-use Rattle.model.proofs.CallLaws.{passed, passed-always, stopped, none-left, frames-few, in-order, refused-by, accepted-by}
+use Rattle.model.proofs.StateLaws.{frames-few, in-order}
+use Rattle.model.proofs.CallLaws.{passed, passed-always, stopped, none-left, refused-by, accepted-by}
 use Rattle.model.proofs.TouchLaws.{last-page-below, first-up-to-last, every-same}
 use Rattle.access.specs.Lent.{lent}
 

@@ -20,7 +20,8 @@ use Rattle.model.specs.Questions.{firstNo, seen, stateInOrder, inOrder, writePe
 use Rattle.model.specs.Calls.{replyOf, outcomeBy, keptBy, write, questionsOf, effectOf, answer}
 use Rattle.model.proofs.QuestionLaws.{within-low, firstNo-yes}
 use Rattle.model.proofs.AcceptedLaws.{write-some, write-page}
-use Rattle.model.proofs.CallLaws.{passed, passed-always, stopped, none-left, pages-few, in-order, refused-by, accepted-by}
+use Rattle.model.proofs.StateLaws.{pages-few, in-order}
+use Rattle.model.proofs.CallLaws.{passed, passed-always, stopped, none-left, refused-by, accepted-by}
 use Rattle.model.proofs.TouchLaws.{first-up-to-last, touched-both}
 use Rattle.access.specs.Lent.{lent, freeIn, entryQuestions}
 use Rattle.access.proofs.CommonLaws.{common-present, common-permitted}

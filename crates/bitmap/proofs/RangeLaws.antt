@@ -13,6 +13,7 @@ use lib.Pow.{mod-pow-add, shr-shr, shr-mod}
 use borrow.Author.Tests.{eq-eqb, ne-eqb, eqb-true, eqb-false, not-true, not-false}
 use Rattle.model.specs.Edges.{both, bit, everyFrom}
 use Rattle.model.specs.Keeps.{excludedIn}
+use Rattle.model.proofs.QuestionLaws.{both-true}
 use Rattle.model.proofs.VectorLaws.{below8}
 
 -- Two tests for 0 that hold of the same numbers.
@@ -47,11 +48,6 @@ both-assoc : (a b c : Bool) → both a (both b c) ≡ both (both a b) c
 unfolding both
 both-assoc true b c = refl
 both-assoc false b c = refl
-
-both-true : (b : Bool) → both b true ≡ b
-unfolding both
-both-true true = refl
-both-true false = refl
 
 -- The lowest bit is 0.
 even : (m : ℕ) → not (eqb (m % 2) 1) ≡ eqb (m % 2) 0

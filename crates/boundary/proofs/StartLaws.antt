@@ -8,7 +8,7 @@ use native.Mathlib.Omega.{arith}
 use Rattle.model.specs.declared.Answer.the-variants.{Refused}
 use Rattle.model.specs.declared.Called.{Called}
 use Rattle.model.specs.Keeps.{Tables}
-use Rattle.model.specs.Policy.{Givens, nothingGiven, policyOf}
+use Rattle.model.specs.Policy.{Givens, policyOf}
 use Rattle.model.specs.Questions.{firstNo, recordQuestions, Lengths, lengthsOf, lengthsFit, startQuestions}
 use Rattle.model.specs.Calls.{replyOf, settle, Outcome, outcomeBy, startOf}
 use Rattle.model.proofs.QuestionLaws.{settle-accepted}
@@ -35,21 +35,21 @@ unfolding settle
 seven n true e = rw e refl
 seven n false e = rw e refl
 
-by-record : (bytes : List ℕ) (l : Lengths) (n : ℕ) → n ≡ firstNo (recordQuestions nothingGiven bytes (policyOf bytes))
-    → settle (firstNo (startQuestions nothingGiven bytes (policyOf bytes) l)) 7 (λ k. k) ≡ settle n 7 (λ k. k)
-by-record bytes l zero e =
-    seven _ (lengthsFit (policyOf bytes) l) (start-asked bytes 0 l e refl) ∙ sym (settle-accepted 7 (λ k. k) refl)
-by-record bytes l (suc n) e = ap (λ (m : ℕ). settle m 7 (λ k. k)) (start-refused bytes (suc n) l e (λ z. omega arith))
+by-record : (given : Givens) (bytes : List ℕ) (l : Lengths) (n : ℕ) → n ≡ firstNo (recordQuestions given bytes (policyOf bytes))
+    → settle (firstNo (startQuestions given bytes (policyOf bytes) l)) 7 (λ k. k) ≡ settle n 7 (λ k. k)
+by-record given bytes l zero e =
+    seven _ (lengthsFit (policyOf bytes) l) (start-asked given bytes 0 l e refl) ∙ sym (settle-accepted 7 (λ k. k) refl)
+by-record given bytes l (suc n) e = ap (λ (m : ℕ). settle m 7 (λ k. k)) (start-refused given bytes (suc n) l e (λ z. omega arith))
 
-module _ (bytes run numbers after : List ℕ) (t : Tables) (r : ℕ) (b : Bool) (asks : b ≡ runsFit startNumbers run numbers) where
-  pub start-unfit : (q : ℕ) → not b ≡ true → q ≡ settle (firstNo (recordQuestions nothingGiven bytes (policyOf bytes))) 7 (λ n. n)
-      → Says startNumbers (Refused q) r numbers after → returned r run after t ≡ startAt nothingGiven bytes run numbers t
+module _ (given : Givens) (bytes run numbers after : List ℕ) (t : Tables) (r : ℕ) (b : Bool) (asks : b ≡ runsFit startNumbers run numbers) where
+  pub start-unfit : (q : ℕ) → not b ≡ true → q ≡ settle (firstNo (recordQuestions given bytes (policyOf bytes))) 7 (λ n. n)
+      → Says startNumbers (Refused q) r numbers after → returned r run after t ≡ startAt given bytes run numbers t
   unfolding startAt replied replyOf
   start-unfit q short e says =
-      rw (sym asks ∙ not-true b short, start-number nothingGiven bytes t, by-record bytes (lengthsOf t) _ refl, sym e, says .0, says .1) refl
+      rw (sym asks ∙ not-true b short, start-number given bytes t, by-record given bytes (lengthsOf t) _ refl, sym e, says .0, says .1) refl
 
-  pub started : (run′ : List ℕ) (t′ : Tables) (c : Called) → not b ≡ false → outcomeBy c t′ ≡ startOf nothingGiven bytes t
+  pub started : (run′ : List ℕ) (t′ : Tables) (c : Called) → not b ≡ false → outcomeBy c t′ ≡ startOf given bytes t
       → Says startNumbers (c .answer) r numbers after → run′ ≡ runStarted run (replyOf (c .answer)) (c .state)
-      → returned r run′ after t′ ≡ startAt nothingGiven bytes run numbers t
+      → returned r run′ after t′ ≡ startAt given bytes run numbers t
   unfolding startAt replied outcomeBy
   started run′ t′ c fits e says put = rw (sym asks ∙ not-false b fits, sym e, says .0, says .1, put) refl

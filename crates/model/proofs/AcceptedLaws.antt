@@ -5,10 +5,10 @@ use mathlib.Core.Bool.{Bool, true, false}
 use mathlib.Core.Path.{_≡_, refl}
 use lib.Dec.{ltb}
 use native.Mathlib.Omega.{arith}
-use borrow.Author.Tests.{ltb-true, eqb-true, not-true}
+use borrow.Author.Tests.{ltb-true, not-true}
 use Rattle.model.specs.Edges.{pageBytes, both, either, lastByte, lastPage}
 use Rattle.model.specs.Bits.{present, noExecute, frameOf}
-use Rattle.model.specs.Questions.{View, firstNo, inOrder, syncPageQuestions, syncAllQuestions, fetchPermitted, fetchQuestions, free, everyTouched, writeQuestions, enterQuestions, leaveQuestions, deviceWriteQuestions}
+use Rattle.model.specs.Questions.{View, firstNo, syncPageQuestions, fetchPermitted, fetchQuestions, free, everyTouched, writeQuestions, enterQuestions, leaveQuestions, deviceWriteQuestions}
 use Rattle.model.proofs.QuestionLaws.{asked, numbered, all-yes, both-first, both-second, within-low}
 use Rattle.model.proofs.TouchLaws.{touched-at}
 
@@ -19,14 +19,10 @@ unfolding lastPage lastByte
 every-byte test address length a h l m = touched-at test address length (a / pageBytes) h (omega arith) (omega arith)
 
 module _ (v : View) where
-  -- The page, the entry page and the kernel table's length.
+  -- The page, and the entry page.
   pub syncPage-page : (n page : ℕ) → firstNo (syncPageQuestions v n page) ≡ 0 → page < v .pages
   unfolding syncPageQuestions asked numbered both either
   syncPage-page n page h = ltb-true page (v .pages) (both-first _ _ (all-yes 9 (syncPageQuestions v n page) refl h))
-
-  pub syncAll-kernel : (n : ℕ) → firstNo (syncAllQuestions v n) ≡ 0 → n ≡ v .pages
-  unfolding syncAllQuestions asked numbered both either inOrder
-  syncAll-kernel n h = eqb-true n (v .pages) (both-first _ _ (both-first _ _ (all-yes 7 (syncAllQuestions v n) refl h)))
 
   pub fetch-page : (page : ℕ) → firstNo (fetchQuestions v page) ≡ 0 → page < v .pages
   unfolding fetchQuestions asked numbered both either

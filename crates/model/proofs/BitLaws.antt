@@ -1,12 +1,14 @@
 -- Laws of the bits of entries: those of an approved and of an ordinary entry, and those that a mode switch keeps and sets.
 use Prim.Native.Nat.{ℕ, _+_, _*_, _/_, _%_, _^_, _≤_, _<_}
 use mathlib.Core.Bool.{Bool, true, false, cond}
+use mathlib.Core.Logic.{_⊎_, inl, inr}
 use mathlib.Core.Path.{_≡_, refl}
 use native.Mathlib.Omega.{arith}
+use Rattle.model.specs.declared.Entry.the-variants.{Absent, Present}
 use Rattle.model.specs.declared.Fields.{Fields}
 use Rattle.model.specs.Edges.{bit}
 use Rattle.model.specs.Keeps.{flag}
-use Rattle.model.specs.Bits.{present, noExecute, frameOf, approvedMark, approvedNoExecute, approved, ordinaryNoExecute, ordinary, noExecuteIn, switched}
+use Rattle.model.specs.Bits.{present, noExecute, frameOf, approvedMark, approvedNoExecute, approved, fieldsOf, takenApart, ordinaryNoExecute, ordinary, noExecuteIn, switched}
 use Rattle.model.proofs.VectorLaws.{flag-weight, flag-small, flag-test}
 
 -- A bit that is a Boolean's digit, one that is 1, one that is 0, and two numbers that agree at a bit.
@@ -38,6 +40,15 @@ bit-flag : (b : Bool) (x : ℕ) → x < 2 ^ 63 → bit 63 (x + flag b 63) ≡ b
 unfolding flag
 bit-flag true x h = bit-on 63 (x + 2 ^ 63) (omega arith)
 bit-flag false x h = bit-off 63 (x + 0) (omega arith)
+
+-- A kernel entry is taken apart as absent, or as present with its own fields.
+pub taken-apart : (entry : ℕ) → (takenApart entry ≡ Absent) ⊎ (takenApart entry ≡ Present (fieldsOf entry))
+unfolding takenApart
+taken-apart entry = by (present entry)
+  where
+    by : (b : Bool) → (cond b (Present (fieldsOf entry)) Absent ≡ Absent) ⊎ (cond b (Present (fieldsOf entry)) Absent ≡ Present (fieldsOf entry))
+    by true = inr refl
+    by false = inl refl
 
 -- An approved entry: "bits 0 and 10, the frame; bit 63 set in user mode only".
 module _ (user : Bool) (f : ℕ) where

@@ -3,18 +3,16 @@ use Prim.Native.Nat.{ℕ, zero, suc, _≤_, _<_}
 use mathlib.Core.Bool.{Bool, true, false, not}
 use mathlib.Core.List.{List, [], _∷_}
 use mathlib.Core.Path.{_≡_, refl, sym, _∙_}
-use lib.Dec.{eqb}
 use lib.ListN.{getD}
 use native.Mathlib.Omega.{arith}
-use borrow.Author.Tests.{not-true, not-false, eqb-true}
-use Rattle.model.specs.declared.State.{State}
+use borrow.Author.Tests.{not-true, not-false}
 use Rattle.model.specs.declared.Answer.the-variants.{Refused}
 use Rattle.model.specs.declared.Called.{Called}
-use Rattle.model.specs.Edges.{pagesInRange, framesInRange}
 use Rattle.model.specs.Keeps.{Guard, running, modeOf, inMode}
-use Rattle.model.specs.Questions.{Question, question, firstNo, View, seen, stateInOrder, inOrder, syncPageQuestions, syncAllQuestions, fetchQuestions, writeQuestions, enterQuestions, leaveQuestions, deviceWriteQuestions}
+use Rattle.model.specs.Questions.{Question, question, firstNo, View, seen, stateInOrder, syncPageQuestions, syncAllQuestions, fetchQuestions, writeQuestions, enterQuestions, leaveQuestions, deviceWriteQuestions}
 use Rattle.model.specs.Calls.{replyOf, settle, Outcome, outcomeBy, refusedOf, Call, syncPage, syncAll, fetch, write, enter, leave, deviceWrite, broughtBy, questionsOf, pageSynced, allSynced, switchTo, effectOf, answer}
-use Rattle.model.proofs.QuestionLaws.{both-first, both-second, both-no-after, within-high, firstNo-yes, firstNo-no, settle-accepted}
+use Rattle.model.proofs.QuestionLaws.{firstNo-yes, firstNo-no, settle-accepted}
+use Rattle.model.proofs.StateLaws.{state-no}
 use Rattle.model.proofs.AcceptedLaws.{fetch-page, enter-page, leave-page}
 
 -- Down the questions: past a yes, past one that is always answered so, at a no, and at the end.
@@ -38,20 +36,6 @@ unfolding settle
 settle-refused-by zero done refusal t p = absurd (t refl)
 settle-refused-by (suc n) done refusal t p = rw p refl
 
--- Question 7: V is at most 2,048 and F at most 4,096, and a shadow table that is lent alone has V entries.
-pub pages-few : (s : State) → stateInOrder s ≡ true → s .pages ≤ 2048
-unfolding stateInOrder pagesInRange
-pages-few s p = within-high 1 2048 (s .pages) (both-first _ _ p)
-
-pub frames-few : (s : State) → stateInOrder s ≡ true → s .frames ≤ 4096
-unfolding stateInOrder framesInRange
-frames-few s p = within-high 1 4096 (s .frames) (both-first _ _ (both-second _ _ p))
-
-pub shadow-long : (s : State) (long : ℕ) (r7 : Bool) → r7 ≡ inOrder (stateInOrder s) (eqb long (s .pages) ∷ []) → not r7 ≡ false
-    → long ≡ s .pages
-unfolding inOrder
-shadow-long s long r7 p q = eqb-true long (s .pages) (both-first _ _ (sym p ∙ not-false r7 q))
-
 -- A call by the number that its questions settle: refused, and accepted.
 module _ (g : Guard) (call : Call) where
   pub refused-by : (r : Called) (number : ℕ) → firstNo (questionsOf (seen g) call) ≡ number → (number ≡ 0 → ⊥) → r .answer ≡ Refused number
@@ -63,24 +47,7 @@ module _ (g : Guard) (call : Call) where
   unfolding answer
   accepted-by o e p = p ∙ sym (settle-accepted _ _ e)
 
--- Question 7 was answered yes: so was each part of it.
-abbrev pub Fit : List Bool → Type 0
-Fit [] = Unit {0}
-Fit (fits ∷ lent) = (fits ≡ true) × Fit lent
-
-pub in-order : (stateFits : Bool) (lent : List Bool) → inOrder stateFits lent ≡ true → (stateFits ≡ true) × Fit lent
-unfolding inOrder
-in-order stateFits [] p = (p, tt)
-in-order stateFits (fits ∷ lent) p =
-    let rest = in-order stateFits lent (both-second fits (inOrder stateFits lent) p) in
-    (rest .0, (both-first fits (inOrder stateFits lent) p, rest .1))
-
 -- A state that is not in order: every call refuses it with 7, whatever else it asks.
-state-no : (stateFits : Bool) (lent : List Bool) → stateFits ≡ false → inOrder stateFits lent ≡ false
-unfolding inOrder
-state-no stateFits [] p = p
-state-no stateFits (fits ∷ lent) p = both-no-after fits (state-no stateFits lent p)
-
 pub state-refused : (v : View) (call : Call) → v .stateFits ≡ false → firstNo (questionsOf v call) ≡ 7
 unfolding questionsOf syncPageQuestions syncAllQuestions fetchQuestions writeQuestions enterQuestions leaveQuestions deviceWriteQuestions
 state-refused v (syncPage kernel page) p = firstNo-no 7 _ (state-no _ _ p)

@@ -11,21 +11,18 @@ use native.Mathlib.Omega.{arith}
 use borrow.Author.Tests.{ltb-true, ltb-false, eqb-true, eqb-false}
 use Rattle.model.specs.declared.Mode.{Mode}
 use Rattle.model.specs.declared.Mode.the-variants.{Kernel, User}
-use Rattle.model.specs.Edges.{bit, framesInRange}
 use Rattle.model.specs.Keeps.{none, withShadow, withMap, Guard, guardOf, inUser, running, modeOf, inMode}
 use Rattle.model.specs.Policy.{Policy}
-use Rattle.model.specs.Bits.{present, takenApart}
-use Rattle.model.specs.Sync.{Rules, Place, place, step, stepOf, stepFrom, Sweep, switchedAll, sweepFrom}
-use Rattle.model.specs.Questions.{firstNo, syncAllQuestions}
+use Rattle.model.specs.Sync.{Place, step, entryIn, stepFrom, Sweep, switchedAll, sweepFrom}
 use Rattle.model.specs.Calls.{Call, syncPage, syncAll, fetch, write, enter, leave, deviceWrite, questionsOf, rulesOf, pageSynced, allSynced, switchTo, effectOf}
 use Rattle.model.specs.OnePage.{synchronised, nothing, seenBy, settled, stepped, turned, told, news}
 use Rattle.model.specs.Claim.{Carried, carriedAfter}
-use Rattle.model.proofs.QuestionLaws.{within-high}
+use Rattle.model.proofs.StateLaws.{state-parts, frames-few, mode-fits}
 use Rattle.model.proofs.ClaimPages.{Good, told-good}
 use Rattle.model.proofs.SweepLaws.{sweep-shadow-length, sweep-map-length, sweep-at}
 use Rattle.model.proofs.SwitchLaws.{length-switched, switched-at}
-use Rattle.model.proofs.AcceptedLaws.{syncPage-page, syncAll-kernel, fetch-page, enter-page, leave-page}
-use Rattle.model.proofs.ClaimKept.{Sound, Kept, pageOf}
+use Rattle.model.proofs.AcceptedLaws.{syncPage-page, fetch-page, enter-page, leave-page}
+use Rattle.model.proofs.ClaimKept.{Kept, pageOf}
 
 inUser-modeOf : (user : Bool) (page : ℕ) → inUser (modeOf user page) ≡ user
 unfolding inUser modeOf
@@ -37,12 +34,7 @@ unfolding running modeOf
 running-modeOf true page = refl
 running-modeOf false page = refl
 
--- Past the tables nothing is mapped or approved, and a step or a switch leaves it so.
-step-nothing : (rules : Rules) (a : ℕ) → step rules 0 a ≡ place 0 a
-unfolding step takenApart present bit stepOf
-step-nothing rules a = refl
-
-module _ (policy : Policy) (carried : Carried) (g : Guard) (sound : Sound policy) (h : Kept policy carried g) where
+module _ (policy : Policy) (carried : Carried) (g : Guard) (h : Kept policy carried g) where
   -- A synchronised page is as its one-page guard is told, if the tables have the step's place at it.
   stepped-at : (shadow map : List ℕ) (p k : ℕ)
       → getD shadow p 0 ≡ (step (rulesOf (g .state) (g .tables .exclusion)) k (getD (g .tables .map) p none)) .entry
@@ -51,21 +43,23 @@ module _ (policy : Policy) (carried : Carried) (g : Guard) (sound : Sound policy
   unfolding stepped
   stepped-at shadow map p k entry approval = rw (← h .frames, entry, approval)
 
-  -- The same of a page that is in no table: it has no kernel entry either.
-  stepped-past : (shadow map : List ℕ) (p k : ℕ) → policy .pages ≤ p → k ≡ 0 → length shadow ≡ policy .pages → length map ≡ policy .pages
-      → stepped policy (pageOf g p) k ≡ pageOf (guardOf (g .state) (withShadow shadow (withMap map (g .tables)))) p
-  stepped-past shadow map p k past absent shadowLength mapLength =
-      let was : getD (g .tables .map) p none ≡ none = List·getD-eq-default (g .tables .map) none (omega (arith, h .mapLength)) in
-      let empty : step (rulesOf (g .state) (g .tables .exclusion)) k (getD (g .tables .map) p none) ≡ place 0 none = rw (absent, was) (step-nothing _ none) in
-      stepped-at shadow map p k (rw empty (List·getD-eq-default shadow 0 (omega arith))) (rw empty (List·getD-eq-default map none (omega arith)))
+  -- Past V no table has a page, and other tables of the same lengths show none either.
+  past-kept : (shadow map : List ℕ) (p : ℕ) → policy .pages ≤ p → length shadow ≡ policy .pages → length map ≡ policy .pages
+      → pageOf g p ≡ pageOf (guardOf (g .state) (withShadow shadow (withMap map (g .tables)))) p
+  past-kept shadow map p past shadowLength mapLength =
+      let entry : getD (g .tables .shadow) p 0 ≡ 0 = List·getD-eq-default (g .tables .shadow) 0 (omega (arith, h .shadowLength)) in
+      let approval : getD (g .tables .map) p none ≡ none = List·getD-eq-default (g .tables .map) none (omega (arith, h .mapLength)) in
+      let entry′ : getD shadow p 0 ≡ 0 = List·getD-eq-default shadow 0 (omega arith) in
+      let approval′ : getD map p none ≡ none = List·getD-eq-default map none (omega arith) in
+      rw (entry, approval, entry′, approval′) refl
 
   -- The page of a synchronise, and every other page.
   syncPage-here : (kernel : List ℕ) (page : ℕ) → page < policy .pages
-      → stepped policy (pageOf g page) (getD kernel page 0) ≡ pageOf ((effectOf g (syncPage kernel page)) .guard) page
+      → stepped policy (pageOf g page) (entryIn kernel page) ≡ pageOf ((effectOf g (syncPage kernel page)) .guard) page
   unfolding effectOf pageSynced stepFrom
   syncPage-here kernel page below =
       let after : Guard = (effectOf g (syncPage kernel page)) .guard in
-      stepped-at (after .tables .shadow) (after .tables .map) page (getD kernel page 0) (getD-set-same (g .tables .shadow) page _ 0 (omega (arith, h .shadowLength)))
+      stepped-at (after .tables .shadow) (after .tables .map) page (entryIn kernel page) (getD-set-same (g .tables .shadow) page _ 0 (omega (arith, h .shadowLength)))
       (getD-set-same (g .tables .map) page _ none (omega (arith, h .mapLength)))
 
   syncPage-other : (kernel : List ℕ) (page p : ℕ) → (p ≡ page → ⊥) → pageOf g p ≡ pageOf ((effectOf g (syncPage kernel page)) .guard) p
@@ -73,45 +67,41 @@ module _ (policy : Policy) (carried : Carried) (g : Guard) (sound : Sound policy
   syncPage-other kernel page p other = rw (getD-set-other (g .tables .shadow) page p _ 0 other, getD-set-other (g .tables .map) page p _ none other)
 
   syncPage-commutes : (kernel : List ℕ) (page : ℕ) → page < policy .pages → (p : ℕ)
-      → told policy (pageOf g p) (news p (syncPage kernel page)) ≡ pageOf ((effectOf g (syncPage kernel page)) .guard) p
+      → told policy (pageOf g p) (news policy p (syncPage kernel page)) ≡ pageOf ((effectOf g (syncPage kernel page)) .guard) p
   unfolding news told
   syncPage-commutes kernel page below p = at (eqb p page) refl
     where
       at : (b : Bool) → eqb p page ≡ b
-          → told policy (pageOf g p) (cond b (synchronised (getD kernel p 0)) nothing) ≡ pageOf ((effectOf g (syncPage kernel page)) .guard) p
+          → told policy (pageOf g p) (cond b (synchronised (entryIn kernel p)) nothing) ≡ pageOf ((effectOf g (syncPage kernel page)) .guard) p
       at true e = rw (eqb-true p page e) (syncPage-here kernel page below)
       at false e = syncPage-other kernel page p (eqb-false p page e)
 
-  syncAll-commutes : (kernel : List ℕ) → firstNo (syncAllQuestions (seenBy policy (pageOf g)) (length kernel)) ≡ 0 → (p : ℕ)
-      → told policy (pageOf g p) (news p (syncAll kernel)) ≡ pageOf ((effectOf g (syncAll kernel)) .guard) p
+  syncAll-commutes : (kernel : List ℕ) (p : ℕ)
+      → told policy (pageOf g p) (news policy p (syncAll kernel)) ≡ pageOf ((effectOf g (syncAll kernel)) .guard) p
   unfolding news told effectOf allSynced stepFrom
-  syncAll-commutes kernel passed p = at (ltb p (policy .pages)) refl
+  syncAll-commutes kernel p = at (ltb p (policy .pages)) refl
     where
-      whole : length kernel ≡ policy .pages
-      whole = syncAll-kernel (seenBy policy (pageOf g)) (length kernel) passed
-
       f : ℕ → ℕ → ℕ → Place
-      f = stepFrom (rulesOf (g .state) (g .tables .exclusion)) kernel
+      f = stepFrom (rulesOf (g .state) (g .tables .exclusion)) (entryIn kernel)
 
       after : Sweep
       after = sweepFrom f 0 (g .tables .shadow) (g .tables .map)
 
-      at : (b : Bool) → ltb p (policy .pages) ≡ b → stepped policy (pageOf g p) (getD kernel p 0) ≡ pageOf ((effectOf g (syncAll kernel)) .guard) p
+      at : (b : Bool) → ltb p (policy .pages) ≡ b
+          → told policy (pageOf g p) (cond b (synchronised (entryIn kernel p)) nothing) ≡ pageOf ((effectOf g (syncAll kernel)) .guard) p
       at true e =
           let below : p < policy .pages = ltb-true p (policy .pages) e in
           let there = rw add-zero at (sweep-at f 0 (g .tables .shadow) (g .tables .map) p 0 none (omega (arith, h .shadowLength)) (omega (arith, h .mapLength))) in
-          stepped-at (after .shadow) (after .map) p (getD kernel p 0) (there .0) (there .1)
+          stepped-at (after .shadow) (after .map) p (entryIn kernel p) (there .0) (there .1)
       at false e =
-          let past : policy .pages ≤ p = ltb-false p (policy .pages) e in
-          stepped-past (after .shadow) (after .map) p (getD kernel p 0) past (List·getD-eq-default kernel 0 (omega (arith, whole)))
-          (sweep-shadow-length f 0 (g .tables .shadow) (g .tables .map) ∙ h .shadowLength) (sweep-map-length f 0 (g .tables .shadow) (g .tables .map) ∙ h .mapLength)
+          past-kept (after .shadow) (after .map) p (ltb-false p (policy .pages) e) (sweep-shadow-length f 0 (g .tables .shadow) (g .tables .map) ∙ h .shadowLength) (sweep-map-length f 0 (g .tables .shadow) (g .tables .map) ∙ h .mapLength)
 
   -- Each accepted call, as the one-page guards are told of it.
   pub commutes : (call : Call) → settled policy (pageOf g) g call ≡ 0 → (p : ℕ)
-      → told policy (pageOf g p) (news p call) ≡ pageOf ((effectOf g call) .guard) p
+      → told policy (pageOf g p) (news policy p call) ≡ pageOf ((effectOf g call) .guard) p
   unfolding news told settled questionsOf effectOf switchTo inMode inUser turned
-  commutes (syncPage kernel page) passed p = syncPage-commutes kernel page (syncPage-page (seenBy policy (pageOf g)) (length kernel) page passed) p
-  commutes (syncAll kernel) passed p = syncAll-commutes kernel passed p
+  commutes (syncPage kernel page) passed p = syncPage-commutes kernel page (syncPage-page (seenBy policy (pageOf g) g) (length kernel) page passed) p
+  commutes (syncAll kernel) passed p = syncAll-commutes kernel p
   commutes (fetch page) passed p = rw inUser-modeOf
   commutes (write address size) passed p = refl
   commutes (enter index) passed p = rw switched-at
@@ -120,10 +110,9 @@ module _ (policy : Policy) (carried : Carried) (g : Guard) (sound : Sound policy
 
   -- Every page stays good.
   good-after : (call : Call) → settled policy (pageOf g) g call ≡ 0 → (p : ℕ) → Good (carried .code) (pageOf ((effectOf g call) .guard) p)
-  unfolding framesInRange
   good-after call passed p =
       subst (Good (carried .code)) (commutes call passed p)
-      (told-good policy (carried .code) (pageOf g p) (news p call) (within-high 1 4096 (policy .frames) (sound .frames)) (h .below)
+      (told-good policy (carried .code) (pageOf g p) (news policy p call) (rw (h .frames) at (frames-few (g .state) (h .fits))) (h .below)
       (λ f e. h .code f (sym (h .excluded f) ∙ e)) (h .good p))
 
   -- What always holds is kept by another mode on a page below V and by tables of the same lengths, if every page stays good.
@@ -137,7 +126,7 @@ module _ (policy : Policy) (carried : Carried) (g : Guard) (sound : Sound policy
         frames = h .frames;
         entries = h .entries;
         entry = h .entry;
-        runs = runs;
+        fits = mode-fits (g .state) mode (h .fits) (rw (h .pages) runs);
         shadowLength = shadowLength;
         mapLength = mapLength;
         exclusionLength = h .exclusionLength;
@@ -147,23 +136,26 @@ module _ (policy : Policy) (carried : Carried) (g : Guard) (sound : Sound policy
         good = good;
       }
 
+  now-runs : running (g .state .mode) < policy .pages
+  now-runs = rw (h .pages) at (state-parts (g .state) (h .fits) .runs)
+
   -- Every accepted call keeps what always holds.
   pub kept : (call : Call) → settled policy (pageOf g) g call ≡ 0 → Kept policy (carriedAfter 0 call (pageOf g) carried) ((effectOf g call) .guard)
   unfolding carriedAfter settled questionsOf effectOf pageSynced allSynced switchTo inMode running inUser
   kept (syncPage kernel page) passed =
-      kept-with (g .state .mode) _ _ (h .runs) (length-set (g .tables .shadow) page _ ∙ h .shadowLength) (length-set (g .tables .map) page _ ∙ h .mapLength)
+      kept-with (g .state .mode) _ _ now-runs (length-set (g .tables .shadow) page _ ∙ h .shadowLength) (length-set (g .tables .map) page _ ∙ h .mapLength)
       (good-after (syncPage kernel page) passed)
   kept (syncAll kernel) passed =
-      kept-with (g .state .mode) _ _ (h .runs) (sweep-shadow-length _ 0 (g .tables .shadow) (g .tables .map) ∙ h .shadowLength)
+      kept-with (g .state .mode) _ _ now-runs (sweep-shadow-length _ 0 (g .tables .shadow) (g .tables .map) ∙ h .shadowLength)
       (sweep-map-length _ 0 (g .tables .shadow) (g .tables .map) ∙ h .mapLength) (good-after (syncAll kernel) passed)
   kept (fetch page) passed =
       kept-with (modeOf (inUser (g .state .mode)) page) (g .tables .shadow) (g .tables .map)
-      (rw running-modeOf (fetch-page (seenBy policy (pageOf g)) page passed)) (h .shadowLength) (h .mapLength) (good-after (fetch page) passed)
+      (rw running-modeOf (fetch-page (seenBy policy (pageOf g) g) page passed)) (h .shadowLength) (h .mapLength) (good-after (fetch page) passed)
   kept (write address size) passed = h
   kept (enter index) passed =
       kept-with (Kernel (getD (g .state .entry) index 0)) (switchedAll false (g .tables .shadow)) (g .tables .map)
-      (rw (h .entry) (enter-page (seenBy policy (pageOf g)) index passed)) (length-switched false (g .tables .shadow) ∙ h .shadowLength) (h .mapLength) (good-after (enter index) passed)
+      (rw (h .entry) (enter-page (seenBy policy (pageOf g) g) index passed)) (length-switched false (g .tables .shadow) ∙ h .shadowLength) (h .mapLength) (good-after (enter index) passed)
   kept (leave page) passed =
-      kept-with (User page) (switchedAll true (g .tables .shadow)) (g .tables .map) (leave-page (seenBy policy (pageOf g)) page passed) (length-switched true (g .tables .shadow) ∙ h .shadowLength)
+      kept-with (User page) (switchedAll true (g .tables .shadow)) (g .tables .map) (leave-page (seenBy policy (pageOf g) g) page passed) (length-switched true (g .tables .shadow) ∙ h .shadowLength)
       (h .mapLength) (good-after (leave page) passed)
   kept (deviceWrite address size) passed = h

@@ -4,23 +4,14 @@ use Prim.Native.Nat.{ℕ, _<_}
 use mathlib.Core.Bool.{true}
 use mathlib.Core.Path.{_≡_, sym, ap, _∙_}
 use lib.ListN.{length, getD}
-use borrow.Author.Tests.{lt-ltb, eq-eqb}
-use Rattle.model.specs.Edges.{within, pagesInRange, framesInRange}
-use Rattle.model.specs.Keeps.{none, Guard, vectorBytes, excludedIn, inUser, running}
-use Rattle.model.specs.Policy.{Policy, named, entryPages}
+use borrow.Author.Tests.{eq-eqb}
+use Rattle.model.specs.Keeps.{none, Guard, vectorBytes, excludedIn, inUser}
+use Rattle.model.specs.Policy.{Policy, entryPages}
 use Rattle.model.specs.Questions.{View, firstNo, seen, stateInOrder}
 use Rattle.model.specs.Calls.{settle, refusedOf, broughtBy, Call, questionsOf, effectOf, answer}
 use Rattle.model.specs.OnePage.{Page, seenBy, settled}
 use Rattle.model.specs.Claim.{Carried}
-use Rattle.model.proofs.QuestionLaws.{both-yes}
 use Rattle.model.proofs.ClaimPages.{Good}
-
--- What an accepted start says of the policy.
-pub record Sound (policy : Policy) : Type 0 where
-  pub pages : pagesInRange (policy .pages) ≡ true
-  pub frames : framesInRange (policy .frames) ≡ true
-  pub entries : within 1 16 (policy .entries) ≡ true
-  pub below : (f : ℕ) → named policy f ≡ true → f < policy .frames
 
 -- The one-page guard of a page, as the tables show it: in the proof only. Beyond V it reads 0 and 65535.
 abbrev pub pageOf : Guard → ℕ → Page
@@ -34,12 +25,13 @@ pageOf g p =
 
 -- What holds of the guard after the start and after every call. What a later call excludes changes `excluded` and `code` alone.
 pub record Kept (policy : Policy) (carried : Carried) (g : Guard) : Type 0 where
-  -- the state's sizes and entry pages are the policy's, and the running page is one of its pages
+  -- the state's sizes and entry pages are the policy's
   pub pages : g .state .pages ≡ policy .pages
   pub frames : g .state .frames ≡ policy .frames
   pub entries : g .state .entries ≡ policy .entries
   pub entry : g .state .entry ≡ entryPages policy
-  pub runs : running (g .state .mode) < policy .pages
+  -- the state passes question 7
+  pub fits : stateInOrder (g .state) ≡ true
   -- the tables have their lengths
   pub shadowLength : length (g .tables .shadow) ≡ policy .pages
   pub mapLength : length (g .tables .map) ≡ policy .pages
@@ -51,15 +43,9 @@ pub record Kept (policy : Policy) (carried : Carried) (g : Guard) : Type 0 where
   -- every page is good
   pub good : (p : ℕ) → Good (carried .code) (pageOf g p)
 
-module _ (policy : Policy) (carried : Carried) (g : Guard) (sound : Sound policy) (h : Kept policy carried g) where
-  state-fits : stateInOrder (g .state) ≡ true
-  unfolding stateInOrder
-  state-fits =
-      rw (h .pages, h .frames, h .entries)
-      (both-yes (sound .pages) (both-yes (sound .frames) (both-yes (sound .entries) (lt-ltb (running (g .state .mode)) (policy .pages) (h .runs)))))
-
+module _ (policy : Policy) (carried : Carried) (g : Guard) (h : Kept policy carried g) where
   -- The questions see the same in the tables as in the one-page guards.
-  same-view : seen g ≡ seenBy policy (pageOf g)
+  same-view : seen g ≡ seenBy policy (pageOf g) g
   same-view i =
       record {
         pages = h .pages i;
@@ -70,7 +56,7 @@ module _ (policy : Policy) (carried : Carried) (g : Guard) (sound : Sound policy
         shadow = λ p. getD (g .tables .shadow) p 0;
         approval = λ p. getD (g .tables .map) p none;
         excluded = excludedIn (g .tables .exclusion);
-        stateFits = state-fits i;
+        stateFits = h .fits i;
         shadowFits = (eq-eqb (length (g .tables .shadow)) (g .state .pages) (h .shadowLength ∙ sym (h .pages))) i;
         mapFits = (eq-eqb (length (g .tables .map)) (g .state .pages) (h .mapLength ∙ sym (h .pages))) i;
         exclusionFits = (eq-eqb (length (g .tables .exclusion)) (vectorBytes (g .state .frames)) (h .exclusionLength ∙ sym (ap vectorBytes (h .frames)))) i;

@@ -13,10 +13,10 @@ use Rattle.model.specs.OnePage.{Page, firstPage, settled, pagesAfter}
 use Rattle.model.specs.Claim.{Agree, Carried, carriedFirst, carriedAfter, Always, Claim}
 use Rattle.model.proofs.QuestionLaws.{settle-accepted, settle-refused}
 use Rattle.model.proofs.CallLaws.{effect-reply}
-use Rattle.model.proofs.ClaimKept.{Sound, Kept, pageOf, answered}
+use Rattle.model.proofs.ClaimKept.{Kept, pageOf, answered}
 use Rattle.model.proofs.ClaimCalls.{commutes, kept}
 use Rattle.model.proofs.ClaimSafe.{safe}
-use Rattle.model.proofs.ClaimStart.{sound, first-pages, start-kept}
+use Rattle.model.proofs.ClaimStart.{first-pages, start-kept}
 
 -- A refused call changes none of the frames that a list carries.
 carried-refused : (n : ℕ) (call : Call) (ps : ℕ → Page) (carried : Carried) → carriedAfter (suc n) call ps carried ≡ carried
@@ -36,11 +36,11 @@ agree policy carried g h =
     }
 
 -- What always holds gives the whole of the claim, for any list.
-always : (policy : Policy) → Sound policy → (calls : List Call) (carried : Carried) (g : Guard) → Kept policy carried g
+always : (policy : Policy) (calls : List Call) (carried : Carried) (g : Guard) → Kept policy carried g
     → Always policy carried g (pageOf g) calls
 unfolding pagesAfter
-always policy sound [] carried g h = agree policy carried g h
-always policy sound (call ∷ calls) carried g h = by-number (settled policy (pageOf g) g call) refl (always policy sound calls)
+always policy [] carried g h = agree policy carried g h
+always policy (call ∷ calls) carried g h = by-number (settled policy (pageOf g) g call) refl (always policy calls)
   where
     number : ℕ
     number = settled policy (pageOf g) g call
@@ -50,18 +50,18 @@ always policy sound (call ∷ calls) carried g h = by-number (settled policy (pa
         → Always policy carried g (pageOf g) (call ∷ calls)
     by-number zero e rest =
         let outcome : answer g call ≡ effectOf g call =
-        answered policy carried g sound h call ∙ settle-accepted (effectOf g call) (refusedOf g (broughtBy call)) e in
+        answered policy carried g h call ∙ settle-accepted (effectOf g call) (refusedOf g (broughtBy call)) e in
         let pages : pagesAfter policy number call (pageOf g) ≡ pageOf ((effectOf g call) .guard) =
-        fun-ext (λ p. settle-accepted _ _ e ∙ commutes policy carried g sound h call e p) in (
+        fun-ext (λ p. settle-accepted _ _ e ∙ commutes policy carried g h call e p) in (
           agree policy carried g h,
           rw (outcome, e) (effect-reply g call .0),
           rw (outcome, e) (effect-reply g call .1),
           (λ _. rw outcome (safe policy carried g h call e)),
-          rw (outcome, pages, e) (rest _ _ (kept policy carried g sound h call e)),
+          rw (outcome, pages, e) (rest _ _ (kept policy carried g h call e)),
         )
     by-number (suc n) e rest =
         let outcome : answer g call ≡ refusedOf g (broughtBy call) (suc n) =
-        answered policy carried g sound h call ∙ settle-refused n (effectOf g call) (refusedOf g (broughtBy call)) e in
+        answered policy carried g h call ∙ settle-refused n (effectOf g call) (refusedOf g (broughtBy call)) e in
         let pages : pagesAfter policy number call (pageOf g) ≡ pageOf g = fun-ext (λ p. settle-refused n _ _ e) in (
           agree policy carried g h,
           rw (outcome, e) refl,
@@ -78,9 +78,9 @@ claim given bytes t calls accepted = by-number (firstNo (startQuestions given by
     by-number : (n : ℕ) → firstNo (startQuestions given bytes (policyOf bytes) (lengthsOf t)) ≡ n
         → Always (policyOf bytes) (carriedFirst (policyOf bytes)) ((startOf given bytes t) .guard) (firstPage (policyOf bytes)) calls
     by-number zero e =
-        let guard : (startOf given bytes t) .guard ≡ startGuard (policyOf bytes) = ap (λ (o : Outcome). o .guard) (settle-accepted _ _ e) in
+        let guard : (startOf given bytes t) .guard ≡ startGuard given (policyOf bytes) = ap (λ (o : Outcome). o .guard) (settle-accepted _ _ e) in
         rw (guard, ← (first-pages given bytes (lengthsOf t) e))
-        (always (policyOf bytes) (sound given bytes (lengthsOf t) e) calls (carriedFirst (policyOf bytes)) (startGuard (policyOf bytes))
+        (always (policyOf bytes) calls (carriedFirst (policyOf bytes)) (startGuard given (policyOf bytes))
         (start-kept given bytes (lengthsOf t) e))
     by-number (suc n) e =
         let number : (startOf given bytes t) .reply .number ≡ suc n = ap (λ (o : Outcome). o .reply .number) (settle-refused n _ _ e) in

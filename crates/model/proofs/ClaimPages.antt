@@ -6,6 +6,7 @@ use mathlib.Core.Path.{_≡_, refl, sym, _∙_}
 use lib.Dec.{leb, eqb}
 use native.Mathlib.Omega.{arith}
 use borrow.Author.Tests.{leb-false, ne-eqb, not-true}
+use mathlib.Core.Logic.{_⊎_, inl, inr}
 use Rattle.model.specs.declared.Entry.the-variants.{Absent, Present}
 use Rattle.model.specs.declared.Fields.{Fields}
 use Rattle.model.specs.Edges.{bit}
@@ -14,7 +15,7 @@ use Rattle.model.specs.Policy.{Policy}
 use Rattle.model.specs.Bits.{present, noExecute, frameOf, approvedMark, fieldsOf, takenApart, approvedNoExecute, approved, ordinaryNoExecute, ordinary, noExecuteIn}
 use Rattle.model.specs.Sync.{Rules, Place, place, stepOf, step}
 use Rattle.model.specs.OnePage.{Page, News, synchronised, entered, left, nothing, turned, stepped, told}
-use Rattle.model.proofs.BitLaws.{approvedMark-approved, frameOf-approved, approvedMark-ordinary, noExecute-ordinary, present-switched, approvedMark-switched, frameOf-switched, noExecute-switched}
+use Rattle.model.proofs.BitLaws.{taken-apart, approvedMark-approved, frameOf-approved, approvedMark-ordinary, noExecute-ordinary, present-switched, approvedMark-switched, frameOf-switched, noExecute-switched}
 
 -- A good page: its approval, if it has one, is a frame of code; an entry with bits 0 and 10 has its approval for its frame; and in kernel
 -- mode an entry with bit 0 set and bit 63 clear has bit 10.
@@ -83,16 +84,17 @@ pub step-cases : (P : Place → Type 0) (rules : Rules) (k a : ℕ)
     → (frameOf k < rules .frames → rules .excluded (frameOf k) ≡ true → P (place (approved (rules .user) (frameOf k)) (frameOf k)))
     → (frameOf k < rules .frames → rules .excluded (frameOf k) ≡ false → P (place (ordinary (rules .user) (fieldsOf k)) a))
     → P (step rules k a)
-unfolding step takenApart fieldsOf stepOf
-step-cases P rules k a absent mapped joins plain = by (present k)
+unfolding step fieldsOf stepOf
+step-cases P rules k a absent mapped joins plain = by (taken-apart k)
   where
-    by : (b : Bool) → P (stepOf rules (cond b (Present (fieldsOf k)) Absent) a)
-    by true =
-        cond-cases P (not (eqb a none)) (λ e. mapped (not-true (eqb a none) e)) (λ e.
+    by : (takenApart k ≡ Absent) ⊎ (takenApart k ≡ Present (fieldsOf k)) → P (stepOf rules (takenApart k) a)
+    by (inl e) = rw e absent
+    by (inr e) =
+        rw e
+        (cond-cases P (not (eqb a none)) (λ e. mapped (not-true (eqb a none) e)) (λ e.
         cond-cases P (leb (rules .frames) (frameOf k)) (λ e. absent) (λ e.
         let below : frameOf k < rules .frames = leb-false (rules .frames) (frameOf k) e in
-        cond-cases P (rules .excluded (frameOf k)) (joins below) (plain below)))
-    by false = absent
+        cond-cases P (rules .excluded (frameOf k)) (joins below) (plain below))))
 
 -- A synchronisation keeps a page good, if code is below F and every excluded frame is code.
 pub stepped-good : (policy : Policy) (code : ℕ → Bool) (page : Page) (k : ℕ) → policy .frames ≤ 4096

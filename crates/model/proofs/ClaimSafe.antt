@@ -21,7 +21,7 @@ use Rattle.model.proofs.ClaimKept.{Kept, pageOf}
 
 module _ (policy : Policy) (carried : Carried) (g : Guard) (h : Kept policy carried g) where
   -- Any byte of a frame that question 13 lets pass is clear.
-  free-clear : (f x : ℕ) → free (seenBy policy (pageOf g)) f ≡ true → x / pageBytes ≡ f → Clear policy carried x
+  free-clear : (f x : ℕ) → free (seenBy policy (pageOf g) g) f ≡ true → x / pageBytes ≡ f → Clear policy carried x
   unfolding free
   free-clear f x passed e =
       let below : f < policy .frames = ltb-true f (policy .frames) (both-first _ _ passed) in
@@ -40,8 +40,8 @@ module _ (policy : Policy) (carried : Carried) (g : Guard) (h : Kept policy carr
         first = refl;
         second = refl;
         code = λ kernel.
-            good-code (carried .code) (pageOf g page) (h .good page) kernel (fetch-there (seenBy policy (pageOf g)) page passed)
-            (fetch-executable (seenBy policy (pageOf g)) page passed);
+            good-code (carried .code) (pageOf g page) (h .good page) kernel (fetch-there (seenBy policy (pageOf g) g) page passed)
+            (fetch-executable (seenBy policy (pageOf g) g) page passed);
       }
   safe (write address size) passed =
       record {
@@ -49,9 +49,9 @@ module _ (policy : Policy) (carried : Carried) (g : Guard) (h : Kept policy carr
         second = refl;
         bytes = λ a l m.
             free-clear (frameOf (getD (g .tables .shadow) (a / pageBytes) 0)) (frameOf (getD (g .tables .shadow) (a / pageBytes) 0) * pageBytes + a % pageBytes)
-            (write-free (seenBy policy (pageOf g)) address size a passed l m) (omega arith);
+            (write-free (seenBy policy (pageOf g) g) address size a passed l m) (omega arith);
       }
   safe (enter index) passed = tt
   safe (leave page) passed = tt
   safe (deviceWrite address size) passed =
-      record { bytes = λ a l m. free-clear (a / pageBytes) a (deviceWrite-free (seenBy policy (pageOf g)) address size a passed l m) refl }
+      record { bytes = λ a l m. free-clear (a / pageBytes) a (deviceWrite-free (seenBy policy (pageOf g) g) address size a passed l m) refl }

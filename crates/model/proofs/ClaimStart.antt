@@ -13,15 +13,16 @@ use Rattle.model.specs.Edges.{both, either, pagesInRange, framesInRange,
 use Rattle.model.specs.Keeps.{none, vectorBytes, excludedIn, flag, byteOf, vectorOf, inUser, running}
 use Rattle.model.specs.Policy.{Givens, Policy, policyOf, frameFor, approvalFor, named, firstEntry, startState, startTables, startGuard}
 use Rattle.model.specs.Bits.{approved}
-use Rattle.model.specs.Questions.{firstNo, Lengths, startQuestions, rising}
+use Rattle.model.specs.Questions.{firstNo, stateInOrder, Lengths, startQuestions, rising}
 use Rattle.model.specs.OnePage.{Page, placeIn, firstPage}
 use Rattle.model.specs.Claim.{carriedFirst}
 use Rattle.model.proofs.QuestionLaws.{both-first, both-second, within-yes}
+use Rattle.model.proofs.StateLaws.{state-whole}
 use Rattle.model.proofs.TableLaws.{length-table, getD-table}
 use Rattle.model.proofs.PolicyLaws.{Passed, start-passed, length-numbersAt, allBelow-getD, allBelow-member, member-here, member-there, member-later, frameFor-unlisted, frameFor-member}
 use Rattle.model.proofs.VectorLaws.{byteOf-bit, byteOf-ext, vectorOf-length}
 use Rattle.model.proofs.ClaimPages.{Good, good-absent, good-approved}
-use Rattle.model.proofs.ClaimKept.{Sound, Kept, pageOf}
+use Rattle.model.proofs.ClaimKept.{Kept, pageOf}
 
 -- A test that holds only below a limit fails past it.
 past-no : (test : ℕ → Bool) (limit : ℕ) → ((x : ℕ) → test x ≡ true → x < limit) → (x : ℕ) → limit ≤ x → test x ≡ false
@@ -105,7 +106,7 @@ module _ (given : Givens) (bytes : List ℕ) (l : Lengths) (accepted : firstNo (
   abbrev frame : ℕ → ℕ
   frame p = frameFor (policy .listed) (policy .backing) p none
 
-  passed : Passed policy l
+  passed : Passed policy
   passed = start-passed given bytes policy l accepted
 
   listed-length : length (policy .listed) ≡ policy .count
@@ -116,15 +117,20 @@ module _ (given : Givens) (bytes : List ℕ) (l : Lengths) (accepted : firstNo (
   unfolding policyOf
   backing-length = length-numbersAt bytes _ (policy .count)
 
-  pub sound : Sound policy
-  unfolding pagesInRange framesInRange named
-  sound =
-      record {
+  named-below : (f : ℕ) → named policy f ≡ true → f < policy .frames
+  unfolding named
+  named-below f e = allBelow-member (policy .frames) f (policy .backing) (passed .backing-below) e
+
+  start-fits : stateInOrder (startState given policy) ≡ true
+  unfolding startState pagesInRange framesInRange running
+  start-fits =
+      state-whole (startState given policy)
+      (record {
         pages = within-yes 1 2048 (policy .pages) (passed .pages-low) (passed .pages-high);
         frames = within-yes 1 4096 (policy .frames) (passed .frames-low) (passed .frames-high);
         entries = within-yes 1 16 (policy .entries) (passed .entries-low) (passed .entries-high);
-        below = λ f e. allBelow-member (policy .frames) f (policy .backing) (passed .backing-below) e;
-      }
+        runs = allBelow-getD (policy .pages) (policy .listed) 0 (passed .listed-below) (omega (arith, passed .count-low, listed-length));
+      })
 
   -- The frame of a listed page is named in the policy, so it is not 65535. No page past V is listed.
   listed-named : (p : ℕ) → listed p ≡ true → named policy (frame p) ≡ true
@@ -132,7 +138,7 @@ module _ (given : Givens) (bytes : List ℕ) (l : Lengths) (accepted : firstNo (
   listed-named p e = frameFor-listed (policy .listed) (policy .backing) p none (listed-length ∙ sym backing-length) e
 
   listed-small : (p : ℕ) → listed p ≡ true → frame p < 4096
-  listed-small p e = omega (arith, sound .below (frame p) (listed-named p e), passed .frames-high)
+  listed-small p e = omega (arith, named-below (frame p) (listed-named p e), passed .frames-high)
 
   past-unlisted : (p : ℕ) → policy .pages ≤ p → listed p ≡ false
   past-unlisted = past-no listed (policy .pages) (λ p e. allBelow-member (policy .pages) p (policy .listed) (passed .listed-below) e)
@@ -162,7 +168,7 @@ module _ (given : Givens) (bytes : List ℕ) (l : Lengths) (accepted : firstNo (
   first-entry p false e = rw (first-approval p false e)
 
   -- The tables of the start show the one-page guards as they begin.
-  pub first-pages : pageOf (startGuard policy) ≡ firstPage policy
+  pub first-pages : pageOf (startGuard given policy) ≡ firstPage policy
   unfolding startGuard startState startTables inUser firstPage
   first-pages =
       fun-ext λ p i.
@@ -170,7 +176,7 @@ module _ (given : Givens) (bytes : List ℕ) (l : Lengths) (accepted : firstNo (
         user = false;
         entry = (at-entry p ∙ first-entry p (listed p) refl) i;
         approval = (at-approval p ∙ first-approval p (listed p) refl) i;
-        excluded = (fun-ext (excluded-is (policy .frames) (named policy) (sound .below))) i;
+        excluded = (fun-ext (excluded-is (policy .frames) (named policy) (named-below))) i;
       }
     where
       at-approval : (p : ℕ) → getD (table (policy .pages) (approvalFor policy)) p none ≡ approvalFor policy p
@@ -189,20 +195,20 @@ module _ (given : Givens) (bytes : List ℕ) (l : Lengths) (accepted : firstNo (
       at true e = good-approved (named policy) (firstPage policy p) (placed p) (placed-named p e) (placed-small p e)
       at false e = good-absent (named policy) (firstPage policy p) none (λ k. absurd (true≢false k))
 
-  pub start-kept : Kept policy (carriedFirst policy) (startGuard policy)
-  unfolding startGuard startState startTables running carriedFirst
+  pub start-kept : Kept policy (carriedFirst policy) (startGuard given policy)
+  unfolding startGuard startState startTables carriedFirst
   start-kept =
       record {
         pages = refl;
         frames = refl;
         entries = refl;
         entry = refl;
-        runs = allBelow-getD (policy .pages) (policy .listed) 0 (passed .listed-below) (omega (arith, passed .count-low, listed-length));
+        fits = start-fits;
         shadowLength = length-table (policy .pages) (λ p. firstEntry (approvalFor policy p));
         mapLength = length-table (policy .pages) (approvalFor policy);
         exclusionLength = vectorOf-length (policy .frames) (named policy);
-        excluded = excluded-is (policy .frames) (named policy) (sound .below);
+        excluded = excluded-is (policy .frames) (named policy) (named-below);
         code = λ f e. e;
-        below = sound .below;
+        below = named-below;
         good = λ p. subst (λ (ps : ℕ → Page). Good (named policy) (ps p)) (sym first-pages) (first-good p);
       }

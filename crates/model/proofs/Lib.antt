@@ -1,5 +1,6 @@
 -- Laws about the definitions, each stated once. Code crates cite them.
 pub mod QuestionLaws
+pub mod StateLaws
 pub mod BitLaws
 pub mod TableLaws
 pub mod PolicyLaws

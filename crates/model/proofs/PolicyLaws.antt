@@ -13,8 +13,9 @@ use borrow.Author.Tests.{ltb-true, lt-ltb, le-ltb, le-leb, lt-leb, eqb-true, eq-
 use Rattle.model.specs.Edges.{both, either, within, pagesInRange, framesInRange, member}
 use Rattle.model.specs.Keeps.{vectorBytes}
 use Rattle.model.specs.Policy.{Givens, Policy, numberAt, numbersAt, frameFor}
-use Rattle.model.specs.Questions.{firstNo, sizesInRange, countsInRange, rising, allBelow, inOrder, policyQuestions, givensInRange, recordQuestions, Lengths, lengthsFit, startQuestions}
-use Rattle.model.proofs.QuestionLaws.{either-second, both-yes, both-no, both-no-after, both-first, both-second, within-low, within-high, asked, numbered, all-yes}
+use Rattle.model.specs.Questions.{firstNo, sizesInRange, countsInRange, rising, allBelow, policyQuestions, recordQuestions, Lengths, lengthsFit, startQuestions}
+use Rattle.model.proofs.QuestionLaws.{either-second, both-yes, both-no, both-no-after, both-first, both-second, within-low, within-high, asked, numbered, all-yes, firstNo-both}
+use Rattle.model.proofs.StateLaws.{in-order}
 
 -- Numbers in a row: none, one more at the front, how many, and each of them.
 pub numbersAt-none : (bytes : List ℕ) (at : ℕ) {left : ℕ} → left ≡ 0 → numbersAt bytes at left ≡ []
@@ -163,8 +164,8 @@ frameFor-map h (p ∷ ps) (f ∷ fs) page other =
     at true = refl
     at false = refl
 
--- What the questions of an accepted start say of its policy and of the lengths of its tables.
-pub record Passed (policy : Policy) (l : Lengths) : Type 0 where
+-- What questions 2, 3, 5 and 6 say of a policy, wherever its sizes and lists come from.
+pub record Passed (policy : Policy) : Type 0 where
   pub pages-low : 1 ≤ policy .pages
   pub pages-high : policy .pages ≤ 2048
   pub frames-low : 1 ≤ policy .frames
@@ -177,17 +178,14 @@ pub record Passed (policy : Policy) (l : Lengths) : Type 0 where
   pub listed-rising : rising (policy .pages) 0 (policy .listed) ≡ true
   pub listed-below : allBelow (policy .pages) (policy .listed) ≡ true
   pub backing-below : allBelow (policy .frames) (policy .backing) ≡ true
-  pub shadow-fits : l .shadow ≡ policy .pages
-  pub map-fits : l .map ≡ policy .pages
-  pub exclusion-fits : l .exclusion ≡ vectorBytes (policy .frames)
 
-module _ (given : Givens) (bytes : List ℕ) (policy : Policy) (l : Lengths) (h : firstNo (startQuestions given bytes policy l) ≡ 0) where
-  answered : (n : ℕ) → asked n (startQuestions given bytes policy l) ≡ true
-  unfolding startQuestions recordQuestions policyQuestions numbered both
-  answered n = all-yes n (startQuestions given bytes policy l) refl h
+module _ (long more exact : Bool) (policy : Policy) (h : firstNo (policyQuestions long more exact policy) ≡ 0) where
+  answered : (n : ℕ) → asked n (policyQuestions long more exact policy) ≡ true
+  unfolding policyQuestions numbered both
+  answered n = all-yes n (policyQuestions long more exact policy) refl h
 
   sizes-yes : sizesInRange policy ≡ true
-  unfolding startQuestions recordQuestions policyQuestions asked both either
+  unfolding policyQuestions asked both either
   sizes-yes = both-first (sizesInRange policy) true (answered 2)
 
   pages-yes : pagesInRange (policy .pages) ≡ true
@@ -198,9 +196,20 @@ module _ (given : Givens) (bytes : List ℕ) (policy : Policy) (l : Lengths) (h 
   unfolding sizesInRange
   frames-yes = both-second (pagesInRange (policy .pages)) (framesInRange (policy .frames)) sizes-yes
 
+  third-yes : both (countsInRange policy) more ≡ true
+  unfolding policyQuestions asked both either
+  third-yes = both-first (both (countsInRange policy) more) true (answered 3)
+
   counts-yes : countsInRange policy ≡ true
-  unfolding startQuestions recordQuestions policyQuestions asked both either
-  counts-yes = both-first (countsInRange policy) (givensInRange given) (both-first _ true (answered 3))
+  counts-yes = both-first (countsInRange policy) more third-yes
+
+  -- What else question 3 asks, and question 4.
+  pub more-yes : more ≡ true
+  more-yes = both-second (countsInRange policy) more third-yes
+
+  pub exact-yes : exact ≡ true
+  unfolding policyQuestions asked both either
+  exact-yes = both-first exact true (answered 4)
 
   count-yes : within 1 (policy .pages) (policy .count) ≡ true
   unfolding countsInRange
@@ -211,20 +220,16 @@ module _ (given : Givens) (bytes : List ℕ) (policy : Policy) (l : Lengths) (h 
   entries-yes = both-second (within 1 (policy .pages) (policy .count)) (within 1 (min (policy .count) 16) (policy .entries)) counts-yes
 
   rises-yes : rising (policy .pages) 0 (policy .listed) ≡ true
-  unfolding startQuestions recordQuestions policyQuestions asked both either
+  unfolding policyQuestions asked both either
   rises-yes = both-first (rising (policy .pages) 0 (policy .listed)) true (answered 5)
 
   below-yes : allBelow (policy .frames) (policy .backing) ≡ true
-  unfolding startQuestions recordQuestions policyQuestions asked both either
+  unfolding policyQuestions asked both either
   below-yes = both-first (allBelow (policy .frames) (policy .backing)) true (answered 6)
 
-  lengths-yes : both (eqb (l .shadow) (policy .pages)) (both (eqb (l .map) (policy .pages)) (both (eqb (l .exclusion) (vectorBytes (policy .frames))) true)) ≡ true
-  unfolding startQuestions recordQuestions policyQuestions asked both either lengthsFit inOrder
-  lengths-yes = both-first _ true (answered 7)
-
-  pub start-passed : Passed policy l
+  pub policy-passed : Passed policy
   unfolding pagesInRange framesInRange
-  start-passed =
+  policy-passed =
       record {
         pages-low = within-low 1 2048 (policy .pages) pages-yes;
         pages-high = within-high 1 2048 (policy .pages) pages-yes;
@@ -238,7 +243,36 @@ module _ (given : Givens) (bytes : List ℕ) (policy : Policy) (l : Lengths) (h 
         listed-rising = rises-yes;
         listed-below = rising-below (policy .pages) 0 (policy .listed) rises-yes;
         backing-below = below-yes;
-        shadow-fits = eqb-true _ _ (both-first _ _ lengths-yes);
-        map-fits = eqb-true _ _ (both-first _ _ (both-second _ _ lengths-yes));
-        exclusion-fits = eqb-true _ _ (both-first _ true (both-second _ _ (both-second _ _ lengths-yes)));
       }
+
+-- What question 7 of the start says of the lengths of its tables.
+pub record Fitting (policy : Policy) (l : Lengths) : Type 0 where
+  pub shadow : l .shadow ≡ policy .pages
+  pub map : l .map ≡ policy .pages
+  pub exclusion : l .exclusion ≡ vectorBytes (policy .frames)
+
+-- An accepted start, by its record and by its tables.
+module _ (given : Givens) (bytes : List ℕ) (policy : Policy) (l : Lengths) (h : firstNo (startQuestions given bytes policy l) ≡ 0) where
+  pub start-record : firstNo (recordQuestions given bytes policy) ≡ 0
+  unfolding startQuestions
+  start-record = firstNo-both (recordQuestions given bytes policy) _ h
+
+  pub start-passed : Passed policy
+  unfolding recordQuestions
+  start-passed = policy-passed _ _ _ policy start-record
+
+  lengths-yes : lengthsFit policy l ≡ true
+  unfolding startQuestions recordQuestions policyQuestions asked numbered both either
+  lengths-yes = both-first _ true (all-yes 7 (startQuestions given bytes policy l) refl h)
+
+  pub start-fitting : Fitting policy l
+  unfolding lengthsFit
+  start-fitting =
+      let parts = in-order true _ lengths-yes .1 in
+      record { shadow = eqb-true _ _ (parts .0); map = eqb-true _ _ (parts .1 .0); exclusion = eqb-true _ _ (parts .1 .1 .0) }
+
+-- A record that passed question 4 has its length.
+pub record-length : (given : Givens) (bytes : List ℕ) (policy : Policy) (n : ℕ) → n ≡ firstNo (recordQuestions given bytes policy) → n ≡ 0
+    → length bytes ≡ 8 + 4 * policy .count
+unfolding recordQuestions
+record-length given bytes policy n e h = eqb-true _ _ (exact-yes _ _ _ policy (sym e ∙ h))

@@ -1,9 +1,10 @@
 -- Laws of answers and questions: both, either, within, the first no, a question looked up by its number, and what settles a call.
-use Prim.Native.Nat.{ℕ, suc, _≤_, _<_}
-use mathlib.Core.Bool.{Bool, true, false, not}
-use mathlib.Core.List.{List, [], _∷_}
+use Prim.Native.Nat.{ℕ, zero, suc, _≤_, _<_}
+use mathlib.Core.Bool.{Bool, true, false, not, cond}
+use mathlib.Core.List.{List, [], _∷_, _++_}
 use mathlib.Core.Path.{_≡_, refl, sym, _∙_}
 use lib.Dec.{leb, eqb}
+use native.Mathlib.Omega.{arith}
 use borrow.Author.Tests.{leb-true, le-leb, lt-leb, eq-eqb}
 use Rattle.model.specs.Edges.{both, either, within}
 use Rattle.model.specs.Questions.{Question, question, firstNo}
@@ -32,6 +33,11 @@ pub both-second : (a b : Bool) → both a b ≡ true → b ≡ true
 unfolding both
 both-second true b p = p
 both-second false b p = absurd (let z : false ≡ true = p in mathlib.Core.Bool.false≢true z)
+
+pub both-true : (a : Bool) → both a true ≡ a
+unfolding both
+both-true true = refl
+both-true false = refl
 
 -- A number within its range, and one outside.
 pub within-yes : (low high x : ℕ) → low ≤ x → x ≤ high → within low high x ≡ true
@@ -91,6 +97,35 @@ all-yes n (q ∷ qs) h p =
     head false e rest =
         absurd
         (not-zero (q .number) (both-first (not (eqb (q .number) 0)) (numbered qs) h) (sym (firstNo-no (q .number) qs e) ∙ p))
+
+-- The first no of two lists in a row: that of the first list, where it has one, and else that of the second.
+pub firstNo-front : (xs ys : List Question) → (firstNo xs ≡ 0 → ⊥) → firstNo (xs ++ ys) ≡ firstNo xs
+unfolding firstNo
+firstNo-front [] ys h = absurd (h refl)
+firstNo-front (x ∷ xs) ys h = at (x .holds) refl (firstNo-front xs ys)
+  where
+    at : (b : Bool) → x .holds ≡ b → ((firstNo xs ≡ 0 → ⊥) → firstNo (xs ++ ys) ≡ firstNo xs)
+        → cond (x .holds) (firstNo (xs ++ ys)) (x .number) ≡ cond (x .holds) (firstNo xs) (x .number)
+    at true e rest = rw e (rest (λ z. h (rw e z)))
+    at false e rest = rw e refl
+
+pub firstNo-back : (xs ys : List Question) → numbered xs ≡ true → firstNo xs ≡ 0 → firstNo (xs ++ ys) ≡ firstNo ys
+unfolding firstNo numbered
+firstNo-back [] ys n h = refl
+firstNo-back (x ∷ xs) ys n h = at (x .holds) refl (firstNo-back xs ys (both-second (not (eqb (x .number) 0)) (numbered xs) n))
+  where
+    at : (b : Bool) → x .holds ≡ b → (firstNo xs ≡ 0 → firstNo (xs ++ ys) ≡ firstNo ys)
+        → cond (x .holds) (firstNo (xs ++ ys)) (x .number) ≡ firstNo ys
+    at true e rest = rw e (rest (rw e at h))
+    at false e rest = absurd (not-zero (x .number) (both-first (not (eqb (x .number) 0)) (numbered xs) n) (rw e at h))
+
+-- Of two lists that are answered yes, the first is.
+pub firstNo-both : (xs ys : List Question) → firstNo (xs ++ ys) ≡ 0 → firstNo xs ≡ 0
+firstNo-both xs ys h = by (firstNo xs) refl
+  where
+    by : (n : ℕ) → firstNo xs ≡ n → n ≡ 0
+    by zero e = refl
+    by (suc n) e = sym e ∙ (sym (firstNo-front xs ys (λ z. omega arith)) ∙ h)
 
 -- What settles a call: an accepted one, and one refused by the question n.
 pub settle-accepted : {A : Type 0} {n : ℕ} (done : A) (refusal : ℕ → A) → n ≡ 0 → settle n done refusal ≡ done

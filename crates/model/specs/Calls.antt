@@ -13,7 +13,7 @@ use Rattle.model.specs.Edges.{pageBytes, lastPage}
 use Rattle.model.specs.Keeps.{none, Tables, withShadow, withMap, Guard, guardOf, excludedIn, inUser, modeOf, inMode}
 use Rattle.model.specs.Policy.{Givens, Policy, policyOf, startGuard, zeroState}
 use Rattle.model.specs.Bits.{frameOf}
-use Rattle.model.specs.Sync.{Rules, Place, differs, Sweep, sweepFrom, stepFrom, switchedAll, changes}
+use Rattle.model.specs.Sync.{Rules, Place, differs, Sweep, sweepFrom, entryIn, stepFrom, switchedAll, changes}
 use Rattle.model.specs.Questions.{Question, firstNo, View, seen, lengthsOf, startQuestions, syncPageQuestions, syncAllQuestions, fetchQuestions, writeQuestions, enterQuestions, leaveQuestions, deviceWriteQuestions}
 
 -- Whether a call was accepted; the number of the question that refused it, or 0; and the call's two numbers.
@@ -72,7 +72,7 @@ unfoldable pub startOf : Givens → List ℕ → Tables → Outcome
 startOf given bytes t =
     let policy : Policy = policyOf bytes in
     settle (firstNo (startQuestions given bytes policy (lengthsOf t)))
-    (outcome (accepted (policy .count) (policy .entries)) (startGuard policy))
+    (outcome (accepted (policy .count) (policy .entries)) (startGuard given policy))
     (refusedOf (guardOf zeroState t) nothingBrought)
 
 -- The other calls. "A list has synchronise one, synchronise all, fetch, write, enter, leave and device write calls [..] with any arguments".
@@ -128,9 +128,9 @@ switchTo g mode =
 unfoldable pub effectOf : Guard → Call → Outcome
 effectOf g (syncPage kernel page) =
     pageSynced g page
-    (stepFrom (rulesOf (g .state) (g .tables .exclusion)) kernel page (getD (g .tables .shadow) page 0) (getD (g .tables .map) page none))
+    (stepFrom (rulesOf (g .state) (g .tables .exclusion)) (entryIn kernel) page (getD (g .tables .shadow) page 0) (getD (g .tables .map) page none))
 effectOf g (syncAll kernel) =
-    allSynced g (sweepFrom (stepFrom (rulesOf (g .state) (g .tables .exclusion)) kernel) 0 (g .tables .shadow) (g .tables .map))
+    allSynced g (sweepFrom (stepFrom (rulesOf (g .state) (g .tables .exclusion)) (entryIn kernel)) 0 (g .tables .shadow) (g .tables .map))
 effectOf g (fetch page) =
     let frame : ℕ = frameOf (getD (g .tables .shadow) page 0) in
     outcome (accepted frame frame) (guardOf (inMode (g .state) (modeOf (inUser (g .state .mode)) page)) (g .tables))

@@ -4,12 +4,12 @@ use Prim.Native.Nat.{ℕ, suc}
 use mathlib.Core.Bool.{Bool, true, false, cond}
 use mathlib.Core.List.{List, [], _∷_}
 use lib.ListN.{getD}
-use lib.Dec.{eqb}
+use lib.Dec.{ltb, eqb}
 use Rattle.model.specs.Edges.{member}
 use Rattle.model.specs.Keeps.{none, Guard}
 use Rattle.model.specs.Policy.{Policy, named, entryPages}
 use Rattle.model.specs.Bits.{approved, switched}
-use Rattle.model.specs.Sync.{Place, step}
+use Rattle.model.specs.Sync.{Place, step, entryIn}
 use Rattle.model.specs.Questions.{View, firstNo}
 use Rattle.model.specs.Calls.{settle, Call, syncPage, syncAll, fetch, write, enter, leave, deviceWrite, questionsOf}
 
@@ -64,20 +64,22 @@ told policy page entered = turned false page
 told policy page left = turned true page
 told policy page nothing = page
 
--- What an accepted call tells the one-page guard of p. "Synchronising another page only, fetch, write, device write [..]: no change."
-unfoldable pub news : ℕ → Call → News
-news p (syncPage kernel page) = cond (eqb p page) (synchronised (getD kernel p 0)) nothing
-news p (syncAll kernel) = synchronised (getD kernel p 0)
-news p (fetch page) = nothing
-news p (write address length) = nothing
-news p (enter index) = entered
-news p (leave page) = left
-news p (deviceWrite address length) = nothing
+-- What an accepted call tells the one-page guard of p. "Synchronising another page only, fetch, write, device write [..]: no change." All pages
+-- are those below V.
+unfoldable pub news : Policy → ℕ → Call → News
+news policy p (syncPage kernel page) = cond (eqb p page) (synchronised (entryIn kernel p)) nothing
+news policy p (syncAll kernel) = cond (ltb p (policy .pages)) (synchronised (entryIn kernel p)) nothing
+news policy p (fetch page) = nothing
+news policy p (write address length) = nothing
+news policy p (enter index) = entered
+news policy p (leave page) = left
+news policy p (deviceWrite address length) = nothing
 
 -- What the questions look at, made of the policy and the one-page guards. They were all told the same switches, so that the mode, and the
--- excluded frames, are read off page 0's. "the state and guard tables pass question 7"
-abbrev pub seenBy : Policy → (ℕ → Page) → View
-seenBy policy ps =
+-- excluded frames, are read off page 0's. "the state and guard tables pass question 7". "Only what else a later request asks about is read from
+-- the state and tables that reach the call": the last guard argument, of which the base reads nothing.
+abbrev pub seenBy : Policy → (ℕ → Page) → Guard → View
+seenBy policy ps reaching =
     record {
       pages = policy .pages;
       frames = policy .frames;
@@ -94,11 +96,10 @@ seenBy policy ps =
     }
 
 -- "Whether a call is accepted, and else its number, is settled by the questions in order from its arguments and the policy, with the mode,
--- entries, approvals and excluded frames of the one-page guards". "Only what else a later request asks about is read from the state and
--- tables that reach the call": the last guard argument, of which the base reads nothing.
+-- entries, approvals and excluded frames of the one-page guards".
 unfoldable pub settled : Policy → (ℕ → Page) → Guard → Call → ℕ
-settled policy ps reaching call = firstNo (questionsOf (seenBy policy ps) call)
+settled policy ps reaching call = firstNo (questionsOf (seenBy policy ps reaching) call)
 
 -- The one-page guards after a call that was settled with this number: told of it if it was accepted. "any refused call: no change"
 unfoldable pub pagesAfter : Policy → ℕ → Call → (ℕ → Page) → ℕ → Page
-pagesAfter policy number call ps p = settle number (told policy (ps p) (news p call)) (λ n. ps p)
+pagesAfter policy number call ps p = settle number (told policy (ps p) (news policy p call)) (λ n. ps p)

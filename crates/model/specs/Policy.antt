@@ -74,8 +74,8 @@ unfoldable pub entryPages : Policy → List ℕ
 entryPages policy = table 16 (λ i. cond (ltb i (policy .entries)) (getD (policy .listed) i 0) 0)
 
 -- "stands in kernel mode on the first entry page"
-unfoldable pub startState : Policy → State
-startState policy =
+unfoldable pub startState : Givens → Policy → State
+startState given policy =
     stateOf (policy .pages) (policy .frames) (policy .entries) (entryPages policy) (Kernel (getD (policy .listed) 0 0))
 
 -- "An accepted start sets the map and exclusion bits from the arrays, every other map place to 65535 and every other exclusion bit to 0,
@@ -88,8 +88,8 @@ startTables policy =
       exclusion = vectorOf (policy .frames) (named policy);
     }
 
-unfoldable pub startGuard : Policy → Guard
-startGuard policy = guardOf (startState policy) (startTables policy)
+unfoldable pub startGuard : Givens → Policy → Guard
+startGuard given policy = guardOf (startState given policy) (startTables policy)
 
 -- "A refused start, which has no state to keep, answers a state of zeros in user mode on page 0."
 unfoldable pub zeroState : State

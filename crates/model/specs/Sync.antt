@@ -73,9 +73,13 @@ sweepFrom f page [] map = sweep [] map 0 0
 sweepFrom f page (s ∷ shadow) [] = sweep (s ∷ shadow) [] 0 0
 sweepFrom f page (s ∷ shadow) (m ∷ map) = before s m (f page s m) (sweepFrom f (suc page) shadow map)
 
--- Of a kernel table, the step of a page on its own kernel entry.
-unfoldable pub stepFrom : Rules → List ℕ → ℕ → ℕ → ℕ → Place
-stepFrom rules kernel page entry approval = step rules (getD kernel page 0) approval
+-- A page's entry in the kernel table.
+abbrev pub entryIn : List ℕ → ℕ → ℕ
+entryIn kernel page = getD kernel page 0
+
+-- Of what gives each page its kernel entry, the step of a page on its own.
+unfoldable pub stepFrom : Rules → (ℕ → ℕ) → ℕ → ℕ → ℕ → Place
+stepFrom rules kernel page entry approval = step rules (kernel page) approval
 
 -- "A mode switch [..] sets bit 63 of each present shadow entry".
 unfoldable pub switchedAll : Bool → List ℕ → List ℕ

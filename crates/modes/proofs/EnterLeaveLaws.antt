@@ -17,7 +17,8 @@ use Rattle.model.specs.Questions.{firstNo, seen, stateInOrder, inOrder, enterQu
 use Rattle.model.specs.Calls.{Outcome, outcomeBy, enter, leave, questionsOf, switchTo, effectOf, answer}
 use Rattle.model.proofs.QuestionLaws.{both-second}
 use Rattle.model.proofs.AcceptedLaws.{leave-page}
-use Rattle.model.proofs.CallLaws.{passed, stopped, pages-few, shadow-long, in-order, refused-by, accepted-by}
+use Rattle.model.proofs.StateLaws.{pages-few, in-order, shadow-long}
+use Rattle.model.proofs.CallLaws.{passed, stopped, refused-by, accepted-by}
 use Rattle.modes.specs.Switches.{switchPermitted, switchQuestions}
 
 module _ (s : State) (shadow : List ℕ) (r7 : Bool) (e7 : r7 ≡ inOrder (stateInOrder s) (eqb (length shadow) (s .pages) ∷ [])) where

@@ -7,11 +7,11 @@ use mathlib.Core.Path.{_≡_, refl, sym, _∙_}
 use lib.Dec.{leb, eqb}
 use lib.ListN.{length, getD, List·getD-eq-default}
 use native.Mathlib.Omega.{arith}
-use borrow.Author.Tests.{not-true, le-leb, lt-leb, eq-eqb, ne-eqb, eqb-true, eqb-false}
-use Rattle.model.specs.Edges.{both, either, within, pagesInRange, framesInRange}
-use Rattle.model.specs.Policy.{nothingGiven, numberAt, numbersAt, policyOf}
+use borrow.Author.Tests.{le-leb, lt-leb, eq-eqb, ne-eqb}
+use Rattle.model.specs.Edges.{both, within, pagesInRange, framesInRange}
+use Rattle.model.specs.Policy.{Givens, nothingGiven, numberAt, numbersAt, policyOf}
 use Rattle.model.specs.Questions.{Question, question, firstNo, sizesInRange, countsInRange, rising, allBelow, policyQuestions, givensInRange, recordQuestions, Lengths, lengthsFit, startQuestions}
-use Rattle.model.proofs.QuestionLaws.{both-first, both-second, firstNo-yes, firstNo-no, asked, numbered, all-yes}
+use Rattle.model.proofs.QuestionLaws.{both-true, firstNo-yes, firstNo-no, firstNo-front, firstNo-back, numbered}
 use Rattle.model.proofs.CallLaws.{passed, stopped, none-left}
 use Rattle.model.proofs.PolicyLaws.{numbersAt-none, numbersAt-more, rising-none, rising-more, rising-low, rising-high, allBelow-none, allBelow-more, allBelow-no}
 
@@ -66,15 +66,14 @@ module _ (bytes : List ℕ) (limit at left : ℕ) (whole : Bool) (e : allBelow l
     pub below-goes-on : frame < limit → allBelow limit (numbersAt bytes (at + 2) (left - 1)) ≡ whole
     below-goes-on h = sym (allBelow-more limit frame _ h) ∙ listed
 
--- Question 3 asks nothing more where the start is given nothing.
-nothing-more : (b : Bool) → both b true ≡ b
-unfolding both
-nothing-more true = refl
-nothing-more false = refl
+-- Of nothing that is given, question 3 asks nothing.
+pub nothing-asked : givensInRange nothingGiven ≡ true
+unfolding givensInRange
+nothing-asked = refl
 
--- Questions 1 to 6 in order, by the tests that the code makes of the numbers that it read.
-module _ (bytes : List ℕ) where
-  pub record-1 : length bytes < 8 → 1 ≡ firstNo (recordQuestions nothingGiven bytes (policyOf bytes))
+-- Questions 1 to 6 in order, by the tests that the code makes of the numbers that it read. What else is given is in its range.
+module _ (given : Givens) (in-range : givensInRange given ≡ true) (bytes : List ℕ) where
+  pub record-1 : length bytes < 8 → 1 ≡ firstNo (recordQuestions given bytes (policyOf bytes))
   unfolding recordQuestions policyQuestions
   record-1 h = sym (firstNo-no 1 _ (lt-leb 8 (length bytes) h))
 
@@ -87,32 +86,32 @@ module _ (bytes : List ℕ) where
     unfolding sizesInRange policyOf
     is2 = rw (← eV, ← eF) e2
 
-    pub record-2 : not sizes ≡ true → 2 ≡ firstNo (recordQuestions nothingGiven bytes (policyOf bytes))
+    pub record-2 : not sizes ≡ true → 2 ≡ firstNo (recordQuestions given bytes (policyOf bytes))
     unfolding recordQuestions policyQuestions
     record-2 h = past1 2 _ (stopped 2 sizes _ _ is2 h)
 
     module _ (h2 : not sizes ≡ false) (count entries : ℕ) (eN : count ≡ numberAt bytes 4) (eE : entries ≡ numberAt bytes 6) (counts : Bool)
         (e3 : counts ≡ both (within 1 pages count) (within 1 (min count 16) entries)) where
-      is3 : counts ≡ both (countsInRange (policyOf bytes)) (givensInRange nothingGiven)
-      unfolding countsInRange policyOf givensInRange
-      is3 = rw (← eV, ← eN, ← eE) (e3 ∙ sym (nothing-more _))
+      is3 : counts ≡ both (countsInRange (policyOf bytes)) (givensInRange given)
+      unfolding countsInRange policyOf
+      is3 = rw (← eV, ← eN, ← eE, in-range) (e3 ∙ sym (both-true _))
 
-      pub record-3 : not counts ≡ true → 3 ≡ firstNo (recordQuestions nothingGiven bytes (policyOf bytes))
+      pub record-3 : not counts ≡ true → 3 ≡ firstNo (recordQuestions given bytes (policyOf bytes))
       unfolding recordQuestions policyQuestions
       record-3 h = past1 3 _ (passed 2 3 sizes _ _ is2 h2 (stopped 3 counts _ _ is3 h))
 
       module _ (h3 : not counts ≡ false) where
         past3 : (k : ℕ) (qs : List Question) → k ≡ firstNo qs
-            → k ≡ firstNo (question 1 (leb 8 (length bytes)) ∷ question 2 (sizesInRange (policyOf bytes)) ∷ question 3 (both (countsInRange (policyOf bytes)) (givensInRange nothingGiven)) ∷ qs)
+            → k ≡ firstNo (question 1 (leb 8 (length bytes)) ∷ question 2 (sizesInRange (policyOf bytes)) ∷ question 3 (both (countsInRange (policyOf bytes)) (givensInRange given)) ∷ qs)
         past3 k qs rest = past1 k _ (passed 2 k sizes _ _ is2 h2 (passed 3 k counts _ _ is3 h3 rest))
 
-        pub record-4 : (length bytes ≡ 8 + 4 * count → ⊥) → 4 ≡ firstNo (recordQuestions nothingGiven bytes (policyOf bytes))
+        pub record-4 : (length bytes ≡ 8 + 4 * count → ⊥) → 4 ≡ firstNo (recordQuestions given bytes (policyOf bytes))
         unfolding recordQuestions policyQuestions policyOf
         record-4 h = past3 4 _ (sym (firstNo-no 4 _ (rw (← eN) (ne-eqb (length bytes) (8 + 4 * count) h))))
 
         module _ (h4 : length bytes ≡ 8 + 4 * count) (rises : Bool) (e5 : rises ≡ rising pages 0 (numbersAt bytes 8 count)) where
           past4 : (k : ℕ) (qs : List Question) → k ≡ firstNo qs → k ≡ firstNo (question 1 (leb 8 (length bytes)) ∷ question 2 (sizesInRange (policyOf bytes))
-              ∷ question 3 (both (countsInRange (policyOf bytes)) (givensInRange nothingGiven)) ∷ question 4 (eqb (length bytes) (8 + 4 * policyOf bytes .count)) ∷ qs)
+              ∷ question 3 (both (countsInRange (policyOf bytes)) (givensInRange given)) ∷ question 4 (eqb (length bytes) (8 + 4 * policyOf bytes .count)) ∷ qs)
           unfolding policyOf
           past4 k qs rest = past3 k _ (rest ∙ sym (firstNo-yes 4 qs (rw (← eN) (eq-eqb (length bytes) (8 + 4 * count) h4))))
 
@@ -120,7 +119,7 @@ module _ (bytes : List ℕ) where
           unfolding policyOf
           is5 = rw (← eV, ← eN) e5
 
-          pub record-5 : not rises ≡ true → 5 ≡ firstNo (recordQuestions nothingGiven bytes (policyOf bytes))
+          pub record-5 : not rises ≡ true → 5 ≡ firstNo (recordQuestions given bytes (policyOf bytes))
           unfolding recordQuestions policyQuestions
           record-5 h = past4 5 _ (stopped 5 rises _ _ is5 h)
 
@@ -129,53 +128,20 @@ module _ (bytes : List ℕ) where
             unfolding policyOf
             is6 = rw (← eF, ← eN) e6
 
-            pub record-6 : not below ≡ true → 6 ≡ firstNo (recordQuestions nothingGiven bytes (policyOf bytes))
+            pub record-6 : not below ≡ true → 6 ≡ firstNo (recordQuestions given bytes (policyOf bytes))
             unfolding recordQuestions policyQuestions
             record-6 h = past4 6 _ (passed 5 6 rises _ _ is5 h5 (stopped 6 below _ _ is6 h))
 
-            pub record-yes : not below ≡ false → 0 ≡ firstNo (recordQuestions nothingGiven bytes (policyOf bytes))
+            pub record-yes : not below ≡ false → 0 ≡ firstNo (recordQuestions given bytes (policyOf bytes))
             unfolding recordQuestions policyQuestions
             record-yes h = past4 0 _ (passed 5 0 rises _ _ is5 h5 (passed 6 0 below _ _ is6 h none-left))
 
--- A record with no first no has the length of question 4.
-pub record-length : (bytes : List ℕ) (n : ℕ) → n ≡ firstNo (recordQuestions nothingGiven bytes (policyOf bytes)) → n ≡ 0
-    → length bytes ≡ 8 + 4 * policyOf bytes .count
-unfolding recordQuestions policyQuestions asked numbered both either
-record-length bytes n e h = eqb-true _ _ (both-first _ true (all-yes 4 (recordQuestions nothingGiven bytes (policyOf bytes)) refl (sym e ∙ h)))
-
--- So has one that the start accepts.
-pub start-length : (bytes : List ℕ) (n : ℕ) (l : Lengths) → n ≡ firstNo (startQuestions nothingGiven bytes (policyOf bytes) l) → n ≡ 0
-    → length bytes ≡ 8 + 4 * policyOf bytes .count
-unfolding startQuestions recordQuestions policyQuestions asked numbered both either
-start-length bytes n l e h = eqb-true _ _ (both-first _ true (all-yes 4 (startQuestions nothingGiven bytes (policyOf bytes) l) refl (sym e ∙ h)))
-
--- The first no of two lists in a row: that of the first list, where it has one, and else that of the second.
-firstNo-front : (xs ys : List Question) → (firstNo xs ≡ 0 → ⊥) → firstNo (xs ++ ys) ≡ firstNo xs
-unfolding firstNo
-firstNo-front [] ys h = absurd (h refl)
-firstNo-front (x ∷ xs) ys h = at (x .holds) refl (firstNo-front xs ys)
-  where
-    at : (b : Bool) → x .holds ≡ b → ((firstNo xs ≡ 0 → ⊥) → firstNo (xs ++ ys) ≡ firstNo xs)
-        → cond (x .holds) (firstNo (xs ++ ys)) (x .number) ≡ cond (x .holds) (firstNo xs) (x .number)
-    at true e rest = rw e (rest (λ z. h (rw e z)))
-    at false e rest = rw e refl
-
-firstNo-back : (xs ys : List Question) → numbered xs ≡ true → firstNo xs ≡ 0 → firstNo (xs ++ ys) ≡ firstNo ys
-unfolding firstNo numbered
-firstNo-back [] ys n h = refl
-firstNo-back (x ∷ xs) ys n h = at (x .holds) refl (firstNo-back xs ys (both-second (not (eqb (x .number) 0)) (numbered xs) n))
-  where
-    at : (b : Bool) → x .holds ≡ b → (firstNo xs ≡ 0 → firstNo (xs ++ ys) ≡ firstNo ys)
-        → cond (x .holds) (firstNo (xs ++ ys)) (x .number) ≡ firstNo ys
-    at true e rest = rw e (rest (rw e at h))
-    at false e rest = absurd (eqb-false (x .number) 0 (not-true (eqb (x .number) 0) (both-first (not (eqb (x .number) 0)) (numbered xs) n)) (rw e at h))
-
 -- What the record's answer is to the start, whatever the lengths of the tables are: its number where it has one, and else question 7 decides.
-module _ (bytes : List ℕ) (n : ℕ) (l : Lengths) (e : n ≡ firstNo (recordQuestions nothingGiven bytes (policyOf bytes))) where
-  pub start-refused : (n ≡ 0 → ⊥) → firstNo (startQuestions nothingGiven bytes (policyOf bytes) l) ≡ n
+module _ (given : Givens) (bytes : List ℕ) (n : ℕ) (l : Lengths) (e : n ≡ firstNo (recordQuestions given bytes (policyOf bytes))) where
+  pub start-refused : (n ≡ 0 → ⊥) → firstNo (startQuestions given bytes (policyOf bytes) l) ≡ n
   unfolding startQuestions
-  start-refused h = firstNo-front (recordQuestions nothingGiven bytes (policyOf bytes)) _ (λ z. h (e ∙ z)) ∙ sym e
+  start-refused h = firstNo-front (recordQuestions given bytes (policyOf bytes)) _ (λ z. h (e ∙ z)) ∙ sym e
 
-  pub start-asked : n ≡ 0 → firstNo (startQuestions nothingGiven bytes (policyOf bytes) l) ≡ cond (lengthsFit (policyOf bytes) l) 0 7
+  pub start-asked : n ≡ 0 → firstNo (startQuestions given bytes (policyOf bytes) l) ≡ cond (lengthsFit (policyOf bytes) l) 0 7
   unfolding startQuestions recordQuestions policyQuestions firstNo numbered both
-  start-asked h = firstNo-back (recordQuestions nothingGiven bytes (policyOf bytes)) (question 7 (lengthsFit (policyOf bytes) l) ∷ []) refl (sym e ∙ h)
+  start-asked h = firstNo-back (recordQuestions given bytes (policyOf bytes)) (question 7 (lengthsFit (policyOf bytes) l) ∷ []) refl (sym e ∙ h)

@@ -11,25 +11,25 @@ use Rattle.model.specs.declared.Called.{Called}
 use Rattle.model.specs.declared.Answer.the-variants.{Done}
 use Rattle.model.specs.declared.Mode.the-variants.{Kernel}
 use Rattle.model.specs.Keeps.{Tables, tables, vectorBytes}
-use Rattle.model.specs.Policy.{nothingGiven, numberAt, policyOf, startState, startTables, startGuard}
+use Rattle.model.specs.Policy.{Givens, numberAt, policyOf, startState, startTables, startGuard}
 use Rattle.model.specs.Questions.{firstNo, allBelow, inOrder, recordQuestions, Lengths, lengthsOf, lengthsFit, startQuestions}
 use Rattle.model.specs.Calls.{replyOf, outcomeBy, startOf}
 use Rattle.model.proofs.QuestionLaws.{settle-accepted}
 use Rattle.model.proofs.CallLaws.{settle-refused-by}
-use Rattle.model.proofs.PolicyLaws.{allBelow-wider, Passed, start-passed}
-use Rattle.policy.proofs.RecordLaws.{record-length, start-length, start-refused, start-asked}
+use Rattle.model.proofs.PolicyLaws.{allBelow-wider, Passed, Fitting, start-record, start-passed, start-fitting, record-length}
+use Rattle.policy.proofs.RecordLaws.{start-refused, start-asked}
 use Rattle.start.specs.Start.{refusedWith, acceptedOn, entryTable, withEach}
 use Rattle.start.proofs.TablesSet.{entries-are, first-is, each-length}
 
 -- The answer of an accepted start, made of the numbers that were read.
-pub accepted-is : (bytes : List ℕ) (count entries pages frames first : ℕ) (entry : List ℕ) → count ≡ numberAt bytes 4 → entries ≡ numberAt bytes 6
+pub accepted-is : (given : Givens) (bytes : List ℕ) (count entries pages frames first : ℕ) (entry : List ℕ) → count ≡ numberAt bytes 4 → entries ≡ numberAt bytes 6
     → entry ≡ entryTable bytes entries → pages ≡ numberAt bytes 0 → frames ≡ numberAt bytes 2 → first ≡ numberAt bytes 8
     → policyOf bytes .entries ≤ policyOf bytes .count → 1 ≤ policyOf bytes .count
     → _≡_ {A = Called}
     (record { answer = Done count entries; state = record { pages = pages; frames = frames; entries = entries; entry = entry; mode = Kernel first } })
-    (acceptedOn bytes)
+    (acceptedOn given bytes)
 unfolding acceptedOn startState policyOf
-accepted-is bytes count entries pages frames first entry n e t v f p listed some =
+accepted-is given bytes count entries pages frames first entry n e t v f p listed some =
     rw (t, entries-are bytes entries e listed, n, e, v, f, p, first-is bytes some) refl
 
 -- The buffer is as long as every vector, whatever it began with.
@@ -38,61 +38,63 @@ unfolding vectorBytes
 buffer-room frames n v fs buffer e h b = rw (b, each-length, length-replicate) (omega arith)
 
 -- The start's questions: the record's, and then question 7 by the V and F that were read.
-module _ (bytes : List ℕ) (l : Lengths) (question : ℕ) (asked : question ≡ firstNo (recordQuestions nothingGiven bytes (policyOf bytes))) where
-  pub asks-record : (question ≡ 0 → ⊥) → question ≡ firstNo (startQuestions nothingGiven bytes (policyOf bytes) l)
-  asks-record named = sym (start-refused bytes question l asked named)
+module _ (given : Givens) (bytes : List ℕ) (l : Lengths) (question : ℕ) (asked : question ≡ firstNo (recordQuestions given bytes (policyOf bytes))) where
+  pub asks-record : (question ≡ 0 → ⊥) → question ≡ firstNo (startQuestions given bytes (policyOf bytes) l)
+  asks-record named = sym (start-refused given bytes question l asked named)
 
   module _ (six : question ≡ 0) (pages frames : ℕ) (eV : pages ≡ numberAt bytes 0) (eF : frames ≡ numberAt bytes 2) (fits : Bool)
       (e7 : fits ≡ inOrder true (eqb (l .shadow) pages ∷ eqb (l .map) pages ∷ eqb (l .exclusion) (vectorBytes frames) ∷ [])) where
-    last : firstNo (startQuestions nothingGiven bytes (policyOf bytes) l) ≡ cond fits 0 7
+    last : firstNo (startQuestions given bytes (policyOf bytes) l) ≡ cond fits 0 7
     unfolding policyOf lengthsFit
-    last = start-asked bytes question l asked six ∙ rw (e7, eV, eF) refl
+    last = start-asked given bytes question l asked six ∙ rw (e7, eV, eF) refl
 
-    pub asks-lengths : not fits ≡ true → 7 ≡ firstNo (startQuestions nothingGiven bytes (policyOf bytes) l)
+    pub asks-lengths : not fits ≡ true → 7 ≡ firstNo (startQuestions given bytes (policyOf bytes) l)
     asks-lengths short = sym (last ∙ rw (not-true fits short) refl)
 
-    pub asks-none : not fits ≡ false → 0 ≡ firstNo (startQuestions nothingGiven bytes (policyOf bytes) l)
+    pub asks-none : not fits ≡ false → 0 ≡ firstNo (startQuestions given bytes (policyOf bytes) l)
     asks-none ok = sym (last ∙ rw (not-false fits ok) refl)
 
 -- Past the record's questions the bytes of V and F are there.
-pub asks-inside : (bytes : List ℕ) (question : ℕ) → question ≡ firstNo (recordQuestions nothingGiven bytes (policyOf bytes)) → question ≡ 0
+pub asks-inside : (given : Givens) (bytes : List ℕ) (question : ℕ) → question ≡ firstNo (recordQuestions given bytes (policyOf bytes)) → question ≡ 0
     → (at : ℕ) → at < 4 → at < length bytes
-asks-inside bytes question asked six at h = omega (arith, record-length bytes question asked six)
+asks-inside given bytes question asked six at h = omega (arith, record-length given bytes (policyOf bytes) question asked six)
 
 -- All were yes: what the tables and the answer require.
-module _ (bytes : List ℕ) (l : Lengths) (question : ℕ) (asked : question ≡ firstNo (startQuestions nothingGiven bytes (policyOf bytes) l))
+module _ (given : Givens) (bytes : List ℕ) (l : Lengths) (question : ℕ) (asked : question ≡ firstNo (startQuestions given bytes (policyOf bytes) l))
     (none : question ≡ 0) where
-  passed : Passed (policyOf bytes) l
-  passed = start-passed nothingGiven bytes (policyOf bytes) l (sym asked ∙ none)
+  passed : Passed (policyOf bytes)
+  passed = start-passed given bytes (policyOf bytes) l (sym asked ∙ none)
 
   backing-below : allBelow 4096 (policyOf bytes .backing) ≡ true
   backing-below = allBelow-wider (policyOf bytes .frames) 4096 (policyOf bytes .backing) (passed .frames-high) (passed .backing-below)
 
-  -- Question 4.
+  fitting : Fitting (policyOf bytes) l
+  fitting = start-fitting given bytes (policyOf bytes) l (sym asked ∙ none)
+
   long : length bytes ≡ 8 + 4 * policyOf bytes .count
-  long = start-length bytes question l asked none
+  long = record-length given bytes (policyOf bytes) 0 (sym (start-record given bytes (policyOf bytes) l (sym asked ∙ none))) refl
 
   pub pages-ready : (length bytes ≡ 8 + 4 * policyOf bytes .count) × (l .shadow ≡ policyOf bytes .pages) × (l .map ≡ policyOf bytes .pages)
       × (allBelow (policyOf bytes .pages) (policyOf bytes .listed) ≡ true) × (allBelow 4096 (policyOf bytes .backing) ≡ true)
-  pages-ready = (long, passed .shadow-fits, passed .map-fits, passed .listed-below, backing-below)
+  pages-ready = (long, fitting .shadow, fitting .map, passed .listed-below, backing-below)
 
   pub vector-ready : (length bytes ≡ 8 + 4 * policyOf bytes .count) × (l .exclusion ≡ vectorBytes (policyOf bytes .frames))
       × (policyOf bytes .frames ≤ 4096) × (allBelow 4096 (policyOf bytes .backing) ≡ true)
-  vector-ready = (long, passed .exclusion-fits, passed .frames-high, backing-below)
+  vector-ready = (long, fitting .exclusion, passed .frames-high, backing-below)
 
   pub answer-ready : (length bytes ≡ 8 + 4 * policyOf bytes .count) × (policyOf bytes .entries ≤ 16)
       × (policyOf bytes .entries ≤ policyOf bytes .count) × (1 ≤ policyOf bytes .count)
   answer-ready = (long, passed .entries-high, passed .entries-listed, passed .count-low)
 
 -- The two answers. A refused start leaves the tables as they were.
-module _ (bytes : List ℕ) (t : Tables) (question : ℕ) (r : Called)
-    (asked : question ≡ firstNo (startQuestions nothingGiven bytes (policyOf bytes) (lengthsOf t))) where
-  pub start-refuses : (question ≡ 0 → ⊥) → r ≡ refusedWith question → outcomeBy r t ≡ startOf nothingGiven bytes t
+module _ (given : Givens) (bytes : List ℕ) (t : Tables) (question : ℕ) (r : Called)
+    (asked : question ≡ firstNo (startQuestions given bytes (policyOf bytes) (lengthsOf t))) where
+  pub start-refuses : (question ≡ 0 → ⊥) → r ≡ refusedWith question → outcomeBy r t ≡ startOf given bytes t
   unfolding startOf outcomeBy refusedWith replyOf
   start-refuses named e = rw e (sym (settle-refused-by question _ _ named (sym asked)))
 
-  pub start-accepts : (shadow map exclusion : List ℕ) → question ≡ 0 → r ≡ acceptedOn bytes → shadow ≡ startTables (policyOf bytes) .shadow
+  pub start-accepts : (shadow map exclusion : List ℕ) → question ≡ 0 → r ≡ acceptedOn given bytes → shadow ≡ startTables (policyOf bytes) .shadow
       → map ≡ startTables (policyOf bytes) .map → exclusion ≡ startTables (policyOf bytes) .exclusion
-      → outcomeBy r (tables shadow map exclusion) ≡ startOf nothingGiven bytes t
+      → outcomeBy r (tables shadow map exclusion) ≡ startOf given bytes t
   unfolding startOf outcomeBy acceptedOn replyOf startGuard
   start-accepts shadow map exclusion none e es em ex = rw (e, es, em, ex) (sym (settle-accepted _ _ (sym asked ∙ none)))

@@ -9,15 +9,15 @@ use Rattle.model.specs.declared.Answer.the-variants.{Done, Refused}
 use Rattle.model.specs.declared.Called.{Called}
 use Rattle.model.specs.Edges.{table}
 use Rattle.model.specs.Keeps.{withBit}
-use Rattle.model.specs.Policy.{numberAt, policyOf, startState, zeroState}
+use Rattle.model.specs.Policy.{Givens, numberAt, policyOf, startState, zeroState}
 use Rattle.model.specs.Bits.{approved}
 
--- A refused start, and an accepted one on these bytes.
+-- A refused start, and an accepted one of what it is given on these bytes.
 unfoldable pub refusedWith : ℕ → Called
 refusedWith number = record { answer = Refused number; state = zeroState }
 
-unfoldable pub acceptedOn : List ℕ → Called
-acceptedOn bytes = record { answer = Done (policyOf bytes .count) (policyOf bytes .entries); state = startState (policyOf bytes) }
+unfoldable pub acceptedOn : Givens → List ℕ → Called
+acceptedOn given bytes = record { answer = Done (policyOf bytes .count) (policyOf bytes .entries); state = startState given (policyOf bytes) }
 
 -- The table with a value stored at each of the places, in their order.
 unfoldable pub placed : List ℕ → List ℕ → List ℕ → List ℕ

@@ -152,7 +152,7 @@ fn refused(number: u64) -> Called
 fn accepted(bytes: &[u8]) -> Called
     requires { ⌜ (length (now bytes) ≡ 8 + 4 * policyOf (now bytes) .count) × (policyOf (now bytes) .entries ≤ 16)
         × (policyOf (now bytes) .entries ≤ policyOf (now bytes) .count) × (1 ≤ policyOf (now bytes) .count) ⌝ }
-    ensures { λ r. ⌜ r ≡ acceptedOn (now (bytes .entry)) ⌝ }
+    ensures { λ r. ⌜ r ≡ acceptedOn nothingGiven (now (bytes .entry)) ⌝ }
 {
     let count = policy::number_from(bytes, 4);
     let entries = policy::number_from(bytes, 6);

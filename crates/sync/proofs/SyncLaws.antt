@@ -2,6 +2,7 @@
 use Prim.Native.Nat.{ℕ, _+_, _/_, _≤_, _<_}
 use mathlib.Core.Bool.{Bool, true, false, not}
 use mathlib.Core.List.{List, [], _∷_}
+use mathlib.Core.Logic.{_⊎_, inl, inr}
 use mathlib.Core.Path.{_≡_, refl, sym, ap, _∙_}
 use native.Mathlib.Nat.{zero-add}
 use native.Mathlib.Omega.{arith}
@@ -14,14 +15,16 @@ use Rattle.model.specs.declared.Entry.the-variants.{Absent, Present}
 use Rattle.model.specs.declared.Fields.{Fields}
 use Rattle.model.specs.declared.State.{State}
 use Rattle.model.specs.declared.Answer.the-variants.{Done, Refused}
-use Rattle.model.specs.Keeps.{none, Tables, withShadow, withMap, withExclusion, Guard, guardOf, vectorBytes, inUser}
-use Rattle.model.specs.Bits.{present, fieldsOf, takenApart, approved, ordinary}
-use Rattle.model.specs.Sync.{Rules, Place, place, stepOf, step, differs, Sweep, sweep, sweepFrom, stepFrom}
+use Rattle.model.specs.Keeps.{none, Tables, withThree, Guard, guardOf, vectorBytes, inUser}
+use Rattle.model.specs.Bits.{fieldsOf, takenApart, approved, ordinary}
+use Rattle.model.specs.Sync.{Rules, Place, place, stepOf, step, differs, Sweep, sweep, sweepFrom, entryIn, stepFrom}
 use Rattle.model.specs.Questions.{stateInOrder, inOrder, syncAllQuestions, syncPageQuestions}
 use Rattle.model.specs.Calls.{replyOf, outcomeBy, keptBy, rulesOf, pageSynced, allSynced, syncPage, syncAll, questionsOf, effectOf, answer}
-use Rattle.model.proofs.CallLaws.{passed, stopped, none-left, refused-by, accepted-by, in-order}
+use Rattle.model.proofs.BitLaws.{taken-apart}
+use Rattle.model.proofs.StateLaws.{in-order}
+use Rattle.model.proofs.CallLaws.{passed, stopped, none-left, refused-by, accepted-by}
 use Rattle.model.proofs.SweepLaws.{getD-inside, whole, whole-more, whole-over}
-use Rattle.sync.specs.Steps.{rules, stepAt}
+use Rattle.sync.specs.Steps.{rules, stored}
 
 -- The fields of a present entry.
 held : Fields → Entry → Fields
@@ -29,12 +32,12 @@ held d Absent = d
 held d (Present x) = x
 
 fields-apart : (k : ℕ) (x : Fields) → takenApart k ≡ Present x → fieldsOf k ≡ x
-unfolding takenApart held
-fields-apart k x p = by (present k) refl ∙ ap (held (fieldsOf k)) p
+unfolding held
+fields-apart k x p = by (taken-apart k)
   where
-    by : (t : Bool) → present k ≡ t → fieldsOf k ≡ held (fieldsOf k) (takenApart k)
-    by true e = rw e refl
-    by false e = rw e refl
+    by : (takenApart k ≡ Absent) ⊎ (takenApart k ≡ Present (fieldsOf k)) → fieldsOf k ≡ x
+    by (inl e) = ap (held (fieldsOf k)) (sym e ∙ p)
+    by (inr e) = ap (held (fieldsOf k)) (sym e ∙ p)
 
 -- Steps 1 to 5.
 module _ (r : Rules) (k a : ℕ) (e : Entry) (apart : e ≡ takenApart k) where
@@ -79,26 +82,26 @@ unfolding differs
 other-counts n a b p = rw (ne-eqb a b p)
 
 -- A page's place stored in both tables.
-pub stored-step : (f : ℕ → ℕ → Place) (k i e a changed joined x y : ℕ) (shadow map shadow′ map′ : List ℕ) → place e a ≡ f k (getD map i 0)
+pub stored-step : (p : Place) (i e a changed joined x y : ℕ) (shadow map shadow′ map′ : List ℕ) → place e a ≡ p
     → shadow′ ≡ set shadow i e → map′ ≡ set map i a → x ≡ changed + differs (getD shadow i 0) e → y ≡ joined + differs (getD map i 0) a
-    → sweep shadow′ map′ x y ≡ stepAt f k i (sweep shadow map changed joined)
-unfolding stepAt
-stored-step f k i e a changed joined x y shadow map shadow′ map′ p ps pm px py = rw (← p, ps, pm, px, py)
+    → sweep shadow′ map′ x y ≡ stored i (sweep shadow map changed joined) p
+unfolding stored
+stored-step p i e a changed joined x y shadow map shadow′ map′ q ps pm px py = rw (← q, ps, pm, px, py)
 
 -- A sweep page by page: after page i, and after the last.
 pub sweep-more : (r : Rules) (kernel : List ℕ) (i : ℕ) (shadow map shadow′ map′ : List ℕ) (changed joined x y : ℕ) (all : Sweep)
-    → whole (stepFrom r kernel) i (sweep shadow map changed joined) ≡ all → i < length kernel → length shadow ≡ length kernel → length map ≡ length kernel
-    → sweep shadow′ map′ x y ≡ stepAt (step r) (getD kernel i 0) i (sweep shadow map changed joined)
-    → whole (stepFrom r kernel) (i + 1) (sweep shadow′ map′ x y) ≡ all
-unfolding stepAt stepFrom
+    → whole (stepFrom r (entryIn kernel)) i (sweep shadow map changed joined) ≡ all → i < length kernel → length shadow ≡ length kernel
+    → length map ≡ length kernel → sweep shadow′ map′ x y ≡ stored i (sweep shadow map changed joined) (step r (getD kernel i 0) (getD map i 0))
+    → whole (stepFrom r (entryIn kernel)) (i + 1) (sweep shadow′ map′ x y) ≡ all
+unfolding stored stepFrom
 sweep-more r kernel i shadow map shadow′ map′ changed joined x y all inv l ls lm p =
     let q : Place = step r (getD kernel i 0) (getD map i 0) in
-    rw p (whole-more (stepFrom r kernel) i shadow map changed joined (q .entry) (q .approval) _ _ all inv (omega arith) (omega arith) refl refl refl)
+    rw p (whole-more (stepFrom r (entryIn kernel)) i shadow map changed joined (q .entry) (q .approval) _ _ all inv (omega arith) (omega arith) refl refl refl)
 
 pub sweep-over : (r : Rules) (kernel : List ℕ) (i : ℕ) (shadow map : List ℕ) (changed joined : ℕ) (all : Sweep)
-    → whole (stepFrom r kernel) i (sweep shadow map changed joined) ≡ all → length shadow ≡ length kernel → length kernel ≤ i
+    → whole (stepFrom r (entryIn kernel)) i (sweep shadow map changed joined) ≡ all → length shadow ≡ length kernel → length kernel ≤ i
     → sweep shadow map changed joined ≡ all
-sweep-over r kernel i shadow map changed joined all inv ls past = whole-over (stepFrom r kernel) i shadow map changed joined all inv (omega arith)
+sweep-over r kernel i shadow map changed joined all inv ls past = whole-over (stepFrom r (entryIn kernel)) i shadow map changed joined all inv (omega arith)
 
 -- The answers to question 7 of each table, of lengths that may be any numbers.
 abbrev lentFit : State → ℕ → ℕ → ℕ → ℕ → List Bool
@@ -135,45 +138,41 @@ module _ (s : State) (kernel shadow map exclusion : ℕ) (r : Bool)
     pub page-in-map : page < map
     page-in-map = rw (fits .2) below
 
--- The tables that a synchronising call is lent, among any others.
-abbrev lent : List ℕ → List ℕ → List ℕ → Tables → Tables
-lent shadow map exclusion t = withShadow shadow (withMap map (withExclusion exclusion t))
-
 -- The calls, refused and accepted.
 module _ (s : State) (kernel shadow map exclusion : List ℕ) (r : Bool)
     (asked : r ≡ inOrder (stateInOrder s) (lentFit s (length kernel) (length shadow) (length map) (length exclusion))) where
   abbrev guard : Tables → Guard
-  guard t = guardOf s (lent shadow map exclusion t)
+  guard t = guardOf s (withThree shadow map exclusion t)
 
   pub all-refused : not r ≡ true → (t : Tables)
-      → keptBy (Refused 7) s (lent shadow map exclusion t) ≡ answer (guard t) (syncAll kernel)
+      → keptBy (Refused 7) s (withThree shadow map exclusion t) ≡ answer (guard t) (syncAll kernel)
   unfolding questionsOf syncAllQuestions
   all-refused p t = refused-by (guard t) (syncAll kernel) _ 7 (sym (stopped 7 r _ _ asked p)) (λ z. omega arith) refl refl
 
   pub page-refused : (page : ℕ) → not r ≡ true → (t : Tables)
-      → keptBy (Refused 7) s (lent shadow map exclusion t) ≡ answer (guard t) (syncPage kernel page)
+      → keptBy (Refused 7) s (withThree shadow map exclusion t) ≡ answer (guard t) (syncPage kernel page)
   unfolding questionsOf syncPageQuestions
   page-refused page p t = refused-by (guard t) (syncPage kernel page) _ 7 (sym (stopped 7 r _ _ asked p)) (λ z. omega arith) refl refl
 
   module _ (yes7 : not r ≡ false) where
     pub all-accepted : (u v : Bool) (shadow′ map′ : List ℕ) (x y : ℕ) → u ≡ inUser (s .mode) → u ≡ v
-        → sweep shadow′ map′ x y ≡ sweepFrom (stepFrom (rules v (s .frames) exclusion) kernel) 0 shadow map → (t : Tables)
-        → keptBy (Done x y) s (lent shadow′ map′ exclusion t) ≡ answer (guard t) (syncAll kernel)
+        → sweep shadow′ map′ x y ≡ sweepFrom (stepFrom (rules v (s .frames) exclusion) (entryIn kernel)) 0 shadow map → (t : Tables)
+        → keptBy (Done x y) s (withThree shadow′ map′ exclusion t) ≡ answer (guard t) (syncAll kernel)
     unfolding questionsOf syncAllQuestions effectOf allSynced outcomeBy replyOf
     all-accepted u v shadow′ map′ x y q i p t =
         accepted-by (guard t) (syncAll kernel) _ (sym (passed 7 0 r _ _ asked yes7 none-left)) (ap (allSynced (guard t)) (rw (sym i ∙ q) at p))
 
     module _ (page : ℕ) (b : Bool) (exists : b ≡ ltb page (s .pages)) where
       pub page-absent : not b ≡ true → (t : Tables)
-          → keptBy (Refused 9) s (lent shadow map exclusion t) ≡ answer (guard t) (syncPage kernel page)
+          → keptBy (Refused 9) s (withThree shadow map exclusion t) ≡ answer (guard t) (syncPage kernel page)
       unfolding questionsOf syncPageQuestions
       page-absent p t =
           refused-by (guard t) (syncPage kernel page) _ 9 (sym (passed 7 9 r _ _ asked yes7 (stopped 9 b _ _ exists p))) (λ z. omega arith) refl refl
 
       pub page-accepted : (u : Bool) (shadow′ map′ : List ℕ) (x y : ℕ) → not b ≡ false → u ≡ inUser (s .mode)
-          → sweep shadow′ map′ x y ≡ stepAt (step (rules u (s .frames) exclusion)) (getD kernel page 0) page (sweep shadow map 0 0) → (t : Tables)
-          → keptBy (Done x y) s (lent shadow′ map′ exclusion t) ≡ answer (guard t) (syncPage kernel page)
-      unfolding questionsOf syncPageQuestions effectOf stepFrom pageSynced allSynced stepAt outcomeBy replyOf
+          → sweep shadow′ map′ x y ≡ stored page (sweep shadow map 0 0) (step (rules u (s .frames) exclusion) (getD kernel page 0) (getD map page 0)) → (t : Tables)
+          → keptBy (Done x y) s (withThree shadow′ map′ exclusion t) ≡ answer (guard t) (syncPage kernel page)
+      unfolding questionsOf syncPageQuestions effectOf stepFrom pageSynced allSynced stored outcomeBy replyOf
       page-accepted u shadow′ map′ x y there q p t =
           let inside : page < length map = page-in-map s (length kernel) (length shadow) (length map) (length exclusion) r asked yes7 page b exists there in
           let z : Place = step (rulesOf s exclusion) (getD kernel page 0) (getD map page none) in

@@ -11,11 +11,7 @@ abbrev pub rules : Bool → ℕ → List ℕ → Rules
 rules user frames exclusion = record { user = user; frames = frames; excluded = excludedIn exclusion }
 
 -- The place p stored at page i of both tables, and counted where that changed them.
-abbrev pub stored : ℕ → Sweep → Place → Sweep
+unfoldable pub stored : ℕ → Sweep → Place → Sweep
 stored i r p =
     sweep (set (r .shadow) i (p .entry)) (set (r .map) i (p .approval)) (r .changed + differs (getD (r .shadow) i 0) (p .entry))
     (r .joined + differs (getD (r .map) i 0) (p .approval))
-
--- The step f of page i, on its kernel entry and its number in the map, stored and counted.
-unfoldable pub stepAt : (ℕ → ℕ → Place) → ℕ → ℕ → Sweep → Sweep
-stepAt f entry i r = stored i r (f entry (getD (r .map) i 0))

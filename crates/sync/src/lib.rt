@@ -9,9 +9,9 @@ ghost use Prim.Native.Nat.{_+_, _<_, _≤_};
 ghost use lib.ListN.{length, getD, set};
 ghost use Rattle.model.specs.Keeps.{Tables, withThree, guardOf, vectorBytes};
 ghost use Rattle.model.specs.Sync;
-ghost use Rattle.model.specs.Sync.{place, differs, sweep, sweepFrom, stepFrom};
+ghost use Rattle.model.specs.Sync.{place, differs, sweep, sweepFrom, entryIn, stepFrom};
 ghost use Rattle.model.specs.Calls.{keptBy, syncPage, syncAll, answer};
-ghost use Rattle.sync.specs.Steps.{rules, stepAt};
+ghost use Rattle.sync.specs.Steps.{rules, stored};
 
 // The map's number for a page that has no frame approved.
 const NONE: u16 = 65535;
@@ -101,8 +101,8 @@ fn sync_at(
     requires { ⌜ (i < length (now shadow)) × (i < length (now map)) × (counts .changed ≤ i) × (counts .joined ≤ i)
         × (length (now exclusion) ≡ vectorBytes frames) ⌝ }
     ensures { λ r. ⌜ (sweep (now (shadow .exit)) (now (map .exit)) (r .changed) (r .joined)
-        ≡ stepAt (Sync.step (rules user frames (now (exclusion .entry)))) entry i
-        (sweep (now (shadow .entry)) (now (map .entry)) (counts .changed) (counts .joined)))
+        ≡ stored i (sweep (now (shadow .entry)) (now (map .entry)) (counts .changed) (counts .joined))
+        (Sync.step (rules user frames (now (exclusion .entry))) entry (getD (now (map .entry)) i 0)))
         × (r .changed ≤ counts .changed + 1) × (r .joined ≤ counts .joined + 1) ⌝ }
 {
     let place = step(user, frames, exclusion, entry, map[i]);
@@ -123,7 +123,7 @@ fn sync_pages(
     requires { ⌜ (length (now shadow) ≡ length (now kernel)) × (length (now map) ≡ length (now kernel))
         × (length (now exclusion) ≡ vectorBytes frames) ⌝ }
     ensures { λ r. ⌜ sweep (now (shadow .exit)) (now (map .exit)) (r .changed) (r .joined)
-        ≡ sweepFrom (stepFrom (rules user frames (now (exclusion .entry))) (now (kernel .entry))) 0 (now (shadow .entry)) (now (map .entry)) ⌝ }
+        ≡ sweepFrom (stepFrom (rules user frames (now (exclusion .entry))) (entryIn (now (kernel .entry)))) 0 (now (shadow .entry)) (now (map .entry)) ⌝ }
 {
     let mut counts = Counts {
         changed: 0,

@@ -1,0 +1,74 @@
+-- Laws of question 7, by its parts: the tables that a call is lent, and of the state V, F and the page that runs. Another mode on a page below V
+-- keeps it.
+use Prim.Native.Nat.{ℕ, _≤_, _<_}
+use mathlib.Core.Bool.{Bool, true, false, not}
+use mathlib.Core.List.{List, [], _∷_}
+use mathlib.Core.Path.{_≡_, sym, _∙_}
+use lib.Dec.{eqb}
+use borrow.Author.Tests.{lt-ltb, ltb-true, eqb-true, not-false}
+use Rattle.model.specs.declared.Mode.{Mode}
+use Rattle.model.specs.declared.State.{State}
+use Rattle.model.specs.Edges.{within, pagesInRange, framesInRange}
+use Rattle.model.specs.Keeps.{running, inMode}
+use Rattle.model.specs.Questions.{stateInOrder, inOrder}
+use Rattle.model.proofs.QuestionLaws.{both-yes, both-no-after, both-first, both-second, within-high}
+
+-- The parts, each by its name. The two laws after it alone know their order.
+pub record Fits (s : State) : Type 0 where
+  pub pages : pagesInRange (s .pages) ≡ true
+  pub frames : framesInRange (s .frames) ≡ true
+  pub entries : within 1 16 (s .entries) ≡ true
+  pub runs : running (s .mode) < s .pages
+
+pub state-parts : (s : State) → stateInOrder s ≡ true → Fits s
+unfolding stateInOrder
+state-parts s p =
+    let rest = both-second _ _ p in
+    let last = both-second _ _ rest in
+    record {
+      pages = both-first _ _ p;
+      frames = both-first _ _ rest;
+      entries = both-first _ _ last;
+      runs = ltb-true (running (s .mode)) (s .pages) (both-second _ _ last);
+    }
+
+pub state-whole : (s : State) → Fits s → stateInOrder s ≡ true
+unfolding stateInOrder
+state-whole s f = both-yes (f .pages) (both-yes (f .frames) (both-yes (f .entries) (lt-ltb (running (s .mode)) (s .pages) (f .runs))))
+
+pub pages-few : (s : State) → stateInOrder s ≡ true → s .pages ≤ 2048
+unfolding pagesInRange
+pages-few s p = within-high 1 2048 (s .pages) (state-parts s p .pages)
+
+pub frames-few : (s : State) → stateInOrder s ≡ true → s .frames ≤ 4096
+unfolding framesInRange
+frames-few s p = within-high 1 4096 (s .frames) (state-parts s p .frames)
+
+pub mode-fits : (s : State) (m : Mode) → stateInOrder s ≡ true → running m < s .pages → stateInOrder (inMode s m) ≡ true
+unfolding inMode
+mode-fits s m p r =
+    let f : Fits s = state-parts s p in
+    state-whole (inMode s m) (record { pages = f .pages; frames = f .frames; entries = f .entries; runs = r })
+
+-- Question 7 was answered yes: so was each part of it.
+abbrev pub Fit : List Bool → Type 0
+Fit [] = Unit {0}
+Fit (fits ∷ others) = (fits ≡ true) × Fit others
+
+pub in-order : (stateFits : Bool) (others : List Bool) → inOrder stateFits others ≡ true → (stateFits ≡ true) × Fit others
+unfolding inOrder
+in-order stateFits [] p = (p, tt)
+in-order stateFits (fits ∷ others) p =
+    let rest = in-order stateFits others (both-second fits (inOrder stateFits others) p) in
+    (rest .0, (both-first fits (inOrder stateFits others) p, rest .1))
+
+-- A shadow table that is lent alone has V entries.
+pub shadow-long : (s : State) (long : ℕ) (r7 : Bool) → r7 ≡ inOrder (stateInOrder s) (eqb long (s .pages) ∷ []) → not r7 ≡ false
+    → long ≡ s .pages
+shadow-long s long r7 p q = eqb-true long (s .pages) (in-order _ (eqb long (s .pages) ∷ []) (sym p ∙ not-false r7 q) .1 .0)
+
+-- A state that is not in order: every call refuses it with 7, whatever else it asks.
+pub state-no : (stateFits : Bool) (others : List Bool) → stateFits ≡ false → inOrder stateFits others ≡ false
+unfolding inOrder
+state-no stateFits [] p = p
+state-no stateFits (fits ∷ others) p = both-no-after fits (state-no stateFits others p)
