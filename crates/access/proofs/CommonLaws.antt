@@ -5,7 +5,7 @@ use mathlib.Core.Path.{_≡_, refl, ap, _∙_}
 use native.Mathlib.Omega.{arith}
 use lib.Bits.{bitAnd, and-shr, and-mod}
 use lib.Dec.{eqb}
-use Rattle.model.specs.Edges.{both, either, bit}
+use Rattle.model.specs.Basics.{both, either, bit}
 use Rattle.model.specs.Bits.{present, writable, userBit}
 use Rattle.model.specs.Questions.{writePermitted}
 

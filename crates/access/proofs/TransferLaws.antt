@@ -12,7 +12,8 @@ use native.Mathlib.Omega.{arith}
 use Rattle.model.specs.declared.State.{State}
 use Rattle.model.specs.declared.Answer.{Answer}
 use Rattle.model.specs.declared.Answer.the-variants.{Done, Refused}
-use Rattle.model.specs.Edges.{both, within, everyFrom, lastByte, lastPage, touched}
+use Rattle.model.specs.Basics.{both, within, everyFrom}
+use Rattle.model.specs.Edges.{lastByte, lastPage, touched}
 use Rattle.model.specs.Keeps.{Tables, withExclusion, guardOf, vectorBytes, excludedIn}
 use Rattle.model.specs.Questions.{firstNo, seen, stateInOrder, inOrder, free, everyTouched, deviceWriteQuestions}
 use Rattle.model.specs.Calls.{replyOf, outcomeBy, keptBy, deviceWrite, questionsOf, effectOf, answer}

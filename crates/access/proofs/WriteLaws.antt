@@ -13,7 +13,8 @@ use native.Mathlib.Omega.{arith}
 use Rattle.model.specs.declared.State.{State}
 use Rattle.model.specs.declared.Answer.{Answer}
 use Rattle.model.specs.declared.Answer.the-variants.{Done, Refused}
-use Rattle.model.specs.Edges.{both, within, lastPage}
+use Rattle.model.specs.Basics.{both, within}
+use Rattle.model.specs.Edges.{lastPage}
 use Rattle.model.specs.Keeps.{Tables, withShadow, withExclusion, guardOf, vectorBytes, excludedIn, inUser}
 use Rattle.model.specs.Bits.{present, frameOf}
 use Rattle.model.specs.Questions.{firstNo, seen, stateInOrder, inOrder, writePermitted, free, writeQuestions}

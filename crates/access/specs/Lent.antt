@@ -5,7 +5,7 @@ use mathlib.Core.Bool.{Bool, true, not}
 use mathlib.Core.List.{List, [], _∷_}
 use lib.ListN.{getD}
 use lib.Dec.{ltb}
-use Rattle.model.specs.Edges.{both}
+use Rattle.model.specs.Basics.{both}
 use Rattle.model.specs.Keeps.{none, excludedIn}
 use Rattle.model.specs.Bits.{present, frameOf}
 use Rattle.model.specs.Questions.{Question, question, View, writePermitted}

@@ -9,8 +9,8 @@ use lib.Bits.{bitOr, or-add-and, and-high}
 use lib.Dec.{eqb}
 use lib.ListN.{length, getD, set, List·getD-eq-default}
 use lib.Seq.{set-out}
-use Rattle.model.specs.Edges.{bit}
-use Rattle.model.specs.Keeps.{excludedIn, flag, byteOf, withBit}
+use Rattle.model.specs.Basics.{bit, flag}
+use Rattle.model.specs.Keeps.{excludedIn, byteOf, withBit}
 use Rattle.model.proofs.VectorLaws.{below8, flag-bit, byteOf-sum, byteOf-bits}
 
 -- The or of a byte with the weight of bit k sets bit k and keeps the others.

@@ -11,7 +11,7 @@ use lib.Dec.{eqb}
 use lib.ListN.{getD}
 use lib.Pow.{mod-pow-add, shr-shr, shr-mod}
 use borrow.Author.Tests.{eq-eqb, ne-eqb, eqb-true, eqb-false, not-true, not-false}
-use Rattle.model.specs.Edges.{both, bit, everyFrom}
+use Rattle.model.specs.Basics.{both, bit, everyFrom}
 use Rattle.model.specs.Keeps.{excludedIn}
 use Rattle.model.proofs.QuestionLaws.{both-true}
 use Rattle.model.proofs.VectorLaws.{below8}

@@ -5,7 +5,7 @@ ghost use mathlib.Core.Path.{_≡_};
 ghost use mathlib.Core.Bool.{true, not};
 ghost use Prim.Native.Nat.{suc, _-_, _*_, _/_, _≤_, _<_};
 ghost use lib.ListN.{length};
-ghost use Rattle.model.specs.Edges.{bit, everyFrom};
+ghost use Rattle.model.specs.Basics.{bit, everyFrom};
 ghost use Rattle.model.specs.Keeps.{excludedIn, withBit};
 
 // The bit of a frame that has a byte in the vector, so that no length is tested: question 7 and the limit at F have settled that.

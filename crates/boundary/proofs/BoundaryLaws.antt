@@ -9,7 +9,7 @@ use Rattle.model.specs.declared.Answer.{Answer}
 use Rattle.model.specs.declared.Answer.the-variants.{Refused}
 use Rattle.model.specs.declared.Called.{Called}
 use Rattle.model.specs.declared.State.{State}
-use Rattle.model.specs.Edges.{both}
+use Rattle.model.specs.Basics.{both}
 use Rattle.model.specs.Keeps.{Tables, withShadow, withExclusion, withThree, guardOf}
 use Rattle.model.specs.Questions.{stateInOrder}
 use Rattle.model.specs.Calls.{replyOf, settle, outcomeBy, keptBy, Call, answer}

@@ -4,7 +4,7 @@ use mathlib.Core.Bool.{Bool, true, false, not, _||_}
 use mathlib.Core.Path.{_≡_, refl}
 use Rattle.model.specs.declared.Entry.the-variants.{Absent, Present}
 use Rattle.model.specs.declared.Fields.{Fields}
-use Rattle.model.specs.Edges.{either}
+use Rattle.model.specs.Basics.{either}
 use Rattle.model.specs.Bits.{present, writable, userBit, noExecute, frameOf, fieldsOf, takenApart, ordinaryNoExecute}
 
 pub fields-are : (entry : ℕ) {frame : ℕ} {w u x : Bool} → w ≡ writable entry → u ≡ userBit entry → x ≡ noExecute entry → frame ≡ frameOf entry

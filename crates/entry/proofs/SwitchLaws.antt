@@ -6,10 +6,9 @@ use native.Mathlib.Omega.{arith}
 use lib.Bits.{bitAnd, bitOr, bitXor, and-shr, or-shr, xor-shr, and-mod, xor-mod, or-lt, xor-lt, and-le-r, and-zero-r, xor-zero-r}
 use lib.Dec.{eqb}
 use borrow.Author.Tests.{eq-eqb, ne-eqb}
-use Rattle.model.specs.Edges.{bit, either}
-use Rattle.model.specs.Keeps.{flag}
-use Rattle.model.specs.Bits.{present, userBit, noExecute, kernelNoExecute, approvedMark, approvedNoExecute, ordinaryNoExecute, noExecuteIn, switched}
-use Rattle.model.specs.Sync.{differs}
+use Rattle.model.specs.Basics.{bit, either, flag, differs}
+use Rattle.model.specs.Bits.{present, userBit, noExecute, kernelNoExecute, approvedMark, approvedNoExecute, ordinaryNoExecute}
+use Rattle.model.specs.Switch.{noExecuteIn, switched}
 
 -- A digit is the flag of its test.
 below-2 : (n : ℕ) → n < 2 → n ≡ flag (eqb n 1) 0

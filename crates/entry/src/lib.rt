@@ -7,9 +7,9 @@ ghost use mathlib.Core.Path.{_≡_};
 ghost use mathlib.Core.Bool.{cond, not};
 ghost use Prim.Native.Nat.{_<_, _≤_, _^_, _/_};
 ghost use lib.Bits.{bitXor};
-ghost use Rattle.model.specs.Bits.{present, writable, userBit, noExecute, kernelNoExecute, approvedMark, frameOf, fieldsOf, takenApart, approved, ordinaryNoExecute, ordinary, noExecuteIn, switched};
-ghost use Rattle.model.specs.Sync.{differs};
-ghost use Rattle.model.specs.Keeps.{flag};
+ghost use Rattle.model.specs.Basics.{differs, flag};
+ghost use Rattle.model.specs.Bits.{present, writable, userBit, noExecute, kernelNoExecute, approvedMark, frameOf, fieldsOf, takenApart, approved, ordinaryNoExecute, ordinary};
+ghost use Rattle.model.specs.Switch.{noExecuteIn, switched};
 
 // The weights of the bits. Division and remainder by them are shifts and masks.
 const WRITABLE: u64 = 0x2;

@@ -6,7 +6,8 @@ use mathlib.Core.Path.{_≡_, refl}
 use lib.Dec.{ltb}
 use native.Mathlib.Omega.{arith}
 use borrow.Author.Tests.{ltb-true, not-true}
-use Rattle.model.specs.Edges.{pageBytes, both, either, lastByte, lastPage}
+use Rattle.model.specs.Basics.{both, either}
+use Rattle.model.specs.Edges.{pageBytes, lastByte, lastPage}
 use Rattle.model.specs.Bits.{present, noExecute, frameOf}
 use Rattle.model.specs.Questions.{View, firstNo, syncPageQuestions, fetchPermitted, fetchQuestions, free, everyTouched, writeQuestions, enterQuestions, leaveQuestions, deviceWriteQuestions}
 use Rattle.model.proofs.QuestionLaws.{asked, numbered, all-yes, both-first, both-second, within-low}

@@ -6,9 +6,9 @@ use mathlib.Core.Path.{_≡_, refl}
 use native.Mathlib.Omega.{arith}
 use Rattle.model.specs.declared.Entry.the-variants.{Absent, Present}
 use Rattle.model.specs.declared.Fields.{Fields}
-use Rattle.model.specs.Edges.{bit}
-use Rattle.model.specs.Keeps.{flag}
-use Rattle.model.specs.Bits.{present, noExecute, frameOf, approvedMark, approvedNoExecute, approved, fieldsOf, takenApart, ordinaryNoExecute, ordinary, noExecuteIn, switched}
+use Rattle.model.specs.Basics.{bit, flag}
+use Rattle.model.specs.Bits.{present, noExecute, frameOf, approvedMark, approvedNoExecute, approved, fieldsOf, takenApart, ordinaryNoExecute, ordinary}
+use Rattle.model.specs.Switch.{noExecuteIn, switched}
 use Rattle.model.proofs.VectorLaws.{flag-weight, flag-small, flag-test}
 
 -- A bit that is a Boolean's digit, one that is 1, one that is 0, and two numbers that agree at a bit.

@@ -13,7 +13,8 @@ use Rattle.model.specs.declared.Mode.{Mode}
 use Rattle.model.specs.declared.Mode.the-variants.{Kernel, User}
 use Rattle.model.specs.Keeps.{none, withShadow, withMap, Guard, guardOf, inUser, running, modeOf, inMode}
 use Rattle.model.specs.Policy.{Policy}
-use Rattle.model.specs.Sync.{Place, step, entryIn, stepFrom, Sweep, switchedAll, sweepFrom}
+use Rattle.model.specs.Sync.{Place, step, entryIn, stepFrom, Sweep, sweepFrom}
+use Rattle.model.specs.Switch.{switchedAll}
 use Rattle.model.specs.Calls.{Call, syncPage, syncAll, fetch, write, enter, leave, deviceWrite, questionsOf, rulesOf, pageSynced, allSynced, switchTo, effectOf}
 use Rattle.model.specs.OnePage.{synchronised, nothing, seenBy, settled, stepped, turned, told, news}
 use Rattle.model.specs.Claim.{Carried, carriedAfter}

@@ -9,11 +9,12 @@ use borrow.Author.Tests.{leb-false, ne-eqb, not-true}
 use mathlib.Core.Logic.{_⊎_, inl, inr}
 use Rattle.model.specs.declared.Entry.the-variants.{Absent, Present}
 use Rattle.model.specs.declared.Fields.{Fields}
-use Rattle.model.specs.Edges.{bit}
+use Rattle.model.specs.Basics.{bit}
 use Rattle.model.specs.Keeps.{none}
 use Rattle.model.specs.Policy.{Policy}
-use Rattle.model.specs.Bits.{present, noExecute, frameOf, approvedMark, fieldsOf, takenApart, approvedNoExecute, approved, ordinaryNoExecute, ordinary, noExecuteIn}
+use Rattle.model.specs.Bits.{present, noExecute, frameOf, approvedMark, fieldsOf, takenApart, approvedNoExecute, approved, ordinaryNoExecute, ordinary}
 use Rattle.model.specs.Sync.{Rules, Place, place, stepOf, step}
+use Rattle.model.specs.Switch.{noExecuteIn}
 use Rattle.model.specs.OnePage.{Page, News, synchronised, entered, left, nothing, turned, stepped, told}
 use Rattle.model.proofs.BitLaws.{taken-apart, approvedMark-approved, frameOf-approved, approvedMark-ordinary, noExecute-ordinary, present-switched, approvedMark-switched, frameOf-switched, noExecute-switched}
 

@@ -9,8 +9,9 @@ use lib.ListN.{length, getD, List·getD-eq-default}
 use native.Mathlib.Nat.{suc-inj}
 use native.Mathlib.Omega.{arith}
 use borrow.Author.Tests.{leb-true, ltb-true, ltb-false, eqb-true, ne-eqb}
-use Rattle.model.specs.Edges.{both, either, pagesInRange, framesInRange, table, member, bit}
-use Rattle.model.specs.Keeps.{none, vectorBytes, excludedIn, flag, byteOf, vectorOf, inUser, running}
+use Rattle.model.specs.Basics.{both, either, table, member, bit, flag}
+use Rattle.model.specs.Edges.{pagesInRange, framesInRange}
+use Rattle.model.specs.Keeps.{none, vectorBytes, excludedIn, byteOf, vectorOf, inUser, running}
 use Rattle.model.specs.Policy.{Givens, Policy, policyOf, frameFor, approvalFor, named, firstEntry, startState, startTables, startGuard}
 use Rattle.model.specs.Bits.{approved}
 use Rattle.model.specs.Questions.{firstNo, stateInOrder, Lengths, startQuestions, rising}

@@ -1,9 +1,11 @@
 -- One name that opens every definition of the guard and of the drill, for the proofs that only compute.
-use Rattle.model.specs.Edges.{both, either, within, pagesInRange, framesInRange, everyFrom, tableFrom, table, member, bit, lastByte, lastPage, touched}
-use Rattle.model.specs.Keeps.{vectorBytes, excludedIn, flag, byteOf, vectorOf, withBit, inUser, running, modeOf, inMode}
+use Rattle.model.specs.Basics.{both, either, within, everyFrom, tableFrom, table, member, bit, flag, differs}
+use Rattle.model.specs.Edges.{pagesInRange, framesInRange, lastByte, lastPage, touched}
+use Rattle.model.specs.Keeps.{vectorBytes, excludedIn, byteOf, vectorOf, withBit, inUser, running, modeOf, inMode}
 use Rattle.model.specs.Policy.{numberAt, numbersAt, policyOf, frameFor, approvalFor, named, firstEntry, entryPages, startState, startTables, startGuard, zeroState}
-use Rattle.model.specs.Bits.{present, writable, userBit, noExecute, frameOf, kernelNoExecute, approvedMark, fieldsOf, takenApart, approvedNoExecute, approved, ordinaryNoExecute, ordinary, noExecuteIn, switched}
-use Rattle.model.specs.Sync.{stepOf, step, differs, before, sweepFrom, stepFrom, switchedAll, changes}
+use Rattle.model.specs.Bits.{present, writable, userBit, noExecute, frameOf, kernelNoExecute, approvedMark, fieldsOf, takenApart, approvedNoExecute, approved, ordinaryNoExecute, ordinary}
+use Rattle.model.specs.Sync.{stepOf, step, before, sweepFrom, stepFrom}
+use Rattle.model.specs.Switch.{noExecuteIn, switched, switchedAll, changes}
 use Rattle.model.specs.Questions.{firstNo, stateInOrder, sizesInRange, countsInRange, rising, allBelow, inOrder, policyQuestions, givensInRange, recordQuestions, lengthsFit, startQuestions, syncAllQuestions, syncPageQuestions, fetchPermitted, fetchQuestions, writePermitted, free, everyTouched, writeQuestions, enterQuestions, leavePermitted, leaveQuestions, deviceWriteQuestions}
 use Rattle.model.specs.Calls.{replyOf, outcomeBy, settle, startOf, broughtBy, questionsOf, pageSynced, allSynced, switchTo, effectOf, answer}
 use Rattle.model.specs.Drill.{policyExtent, drillStart, begun, kindOf, indexOf, lengthOf, valueOf, withGuard, edited, callOf, performed, digits, decimal, line, startLine, turnOf, turn, hexDigit, hexDigits, entryLines, countFrom, share, shareLine, closing, callLimit, callLines, drillOutput}

@@ -10,7 +10,8 @@ use lib.ListN.{length, getD}
 use native.Mathlib.Nat.{le-of-suc-le-suc}
 use native.Mathlib.Omega.{arith}
 use borrow.Author.Tests.{ltb-true, lt-ltb, le-ltb, le-leb, lt-leb, eqb-true, eq-eqb}
-use Rattle.model.specs.Edges.{both, either, within, pagesInRange, framesInRange, member}
+use Rattle.model.specs.Basics.{both, either, within, member}
+use Rattle.model.specs.Edges.{pagesInRange, framesInRange}
 use Rattle.model.specs.Keeps.{vectorBytes}
 use Rattle.model.specs.Policy.{Givens, Policy, numberAt, numbersAt, frameFor}
 use Rattle.model.specs.Questions.{firstNo, sizesInRange, countsInRange, rising, allBelow, policyQuestions, recordQuestions, Lengths, lengthsFit, startQuestions}

@@ -6,7 +6,7 @@ use mathlib.Core.Path.{_≡_, refl, sym, _∙_}
 use lib.Dec.{leb, eqb}
 use native.Mathlib.Omega.{arith}
 use borrow.Author.Tests.{leb-true, le-leb, lt-leb, eq-eqb}
-use Rattle.model.specs.Edges.{both, either, within}
+use Rattle.model.specs.Basics.{both, either, within}
 use Rattle.model.specs.Questions.{Question, question, firstNo}
 use Rattle.model.specs.Calls.{settle}
 

@@ -5,7 +5,8 @@ use mathlib.Core.Path.{_≡_, refl, sym, _∙_}
 use lib.Dec.{leb, ltb, eqb}
 use borrow.Author.Tests.{leb-true, leb-false, le-leb, lt-leb, le-ltb, eqb-true, eqb-false}
 use native.Mathlib.Omega.{arith}
-use Rattle.model.specs.Edges.{both, within, everyFrom, lastByte, lastPage, touched}
+use Rattle.model.specs.Basics.{both, within, everyFrom}
+use Rattle.model.specs.Edges.{lastByte, lastPage, touched}
 use Rattle.model.specs.Questions.{everyTouched}
 use Rattle.model.proofs.QuestionLaws.{both-first, both-second, both-no, within-low, within-high}
 

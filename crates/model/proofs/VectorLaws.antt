@@ -9,8 +9,8 @@ use lib.ListN.{length, getD, length-set}
 use lib.Pow.{mod-pow-add}
 use lib.Seq.{getD-set-same, getD-set-other, ext-getD}
 use borrow.Author.Tests.{eq-eqb, ne-eqb, eqb-true, eqb-false}
-use Rattle.model.specs.Edges.{bit}
-use Rattle.model.specs.Keeps.{vectorBytes, flag, byteOf, vectorOf, withBit}
+use Rattle.model.specs.Basics.{bit, flag}
+use Rattle.model.specs.Keeps.{vectorBytes, byteOf, vectorOf, withBit}
 use Rattle.model.proofs.TableLaws.{length-table, getD-table}
 
 -- What holds of 0 to 7 holds of every number below 8.

@@ -4,8 +4,7 @@ use mathlib.Core.Bool.{Bool, true, not, cond}
 use Rattle.model.specs.declared.Entry.{Entry}
 use Rattle.model.specs.declared.Entry.the-variants.{Absent, Present}
 use Rattle.model.specs.declared.Fields.{Fields}
-use Rattle.model.specs.Edges.{bit, either}
-use Rattle.model.specs.Keeps.{flag}
+use Rattle.model.specs.Basics.{bit, either, flag}
 
 -- "bit 0 present, 1 writable, 2 user, 63 no-execute, 12 to 51 the frame": the same bits in kernel and shadow entries.
 unfoldable pub present : ℕ → Bool
@@ -53,12 +52,3 @@ unfoldable pub ordinary : Bool → Fields → ℕ
 ordinary user x =
     2 ^ 0 + flag (x .writable) 1 + flag (x .user) 2 + flag (x .noexec) 9 + x .frame * 2 ^ 12
     + flag (ordinaryNoExecute user (x .noexec) (x .user)) 63
-
--- The rule for bit 63 of a shadow entry, "approved mark and bits 2 and 9 as found".
-unfoldable pub noExecuteIn : Bool → ℕ → Bool
-noExecuteIn user entry =
-    cond (approvedMark entry) (approvedNoExecute user) (ordinaryNoExecute user (kernelNoExecute entry) (userBit entry))
-
--- "it sets bit 63 of each present shadow entry by these rules, [..] other bits kept": the bits below 63, with bit 63 anew.
-unfoldable pub switched : Bool → ℕ → ℕ
-switched user entry = cond (present entry) (entry % 2 ^ 63 + flag (noExecuteIn user entry) 63) entry

@@ -9,11 +9,13 @@ use Rattle.model.specs.declared.Mode.the-variants.{Kernel, User}
 use Rattle.model.specs.declared.Answer.{Answer}
 use Rattle.model.specs.declared.Answer.the-variants.{Done, Refused}
 use Rattle.model.specs.declared.Called.{Called}
+use Rattle.model.specs.Basics.{differs}
 use Rattle.model.specs.Edges.{pageBytes, lastPage}
 use Rattle.model.specs.Keeps.{none, Tables, withShadow, withMap, Guard, guardOf, excludedIn, inUser, modeOf, inMode}
 use Rattle.model.specs.Policy.{Givens, Policy, policyOf, startGuard, zeroState}
 use Rattle.model.specs.Bits.{frameOf}
-use Rattle.model.specs.Sync.{Rules, Place, differs, Sweep, sweepFrom, entryIn, stepFrom, switchedAll, changes}
+use Rattle.model.specs.Sync.{Rules, Place, Sweep, sweepFrom, entryIn, stepFrom}
+use Rattle.model.specs.Switch.{switchedAll, changes}
 use Rattle.model.specs.Questions.{Question, firstNo, View, seen, lengthsOf, startQuestions, syncPageQuestions, syncAllQuestions, fetchQuestions, writeQuestions, enterQuestions, leaveQuestions, deviceWriteQuestions}
 
 -- Whether a call was accepted; the number of the question that refused it, or 0; and the call's two numbers.

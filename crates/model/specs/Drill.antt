@@ -6,7 +6,7 @@ use mathlib.Core.List.{List, [], _∷_, _++_}
 use lib.ListN.{length, getD, take, drop, replicate, set}
 use lib.Dec.{ltb, eqb}
 use Rattle.model.specs.declared.Mode.{Mode}
-use Rattle.model.specs.Edges.{within}
+use Rattle.model.specs.Basics.{within}
 use Rattle.model.specs.Keeps.{Guard, vectorBytes, excludedIn, inUser, running}
 use Rattle.model.specs.Policy.{nothingGiven, Policy, policyOf, numberAt}
 use Rattle.model.specs.Questions.{question, firstNo}

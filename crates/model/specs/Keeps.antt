@@ -1,5 +1,5 @@
 -- Document 01, "What the guard keeps": the tables as lists of numbers, and the mode.
-use Prim.Native.Nat.{ℕ, _+_, _*_, _/_, _%_, _^_}
+use Prim.Native.Nat.{ℕ, _+_, _*_, _/_, _%_}
 use mathlib.Core.Bool.{Bool, true, false, cond}
 use mathlib.Core.List.{List}
 use lib.ListN.{getD, set}
@@ -7,7 +7,7 @@ use lib.Dec.{eqb}
 use Rattle.model.specs.declared.Mode.{Mode}
 use Rattle.model.specs.declared.Mode.the-variants.{Kernel, User}
 use Rattle.model.specs.declared.State.{State}
-use Rattle.model.specs.Edges.{bit, table}
+use Rattle.model.specs.Basics.{bit, flag, table}
 
 -- "the frame approved for that page, or 65535 for none"
 abbrev pub none : ℕ
@@ -51,10 +51,6 @@ vectorBytes frames = (frames + 7) / 8
 -- "bit f mod 8 (0 lowest) of byte f/8 belongs to frame f"
 unfoldable pub excludedIn : List ℕ → ℕ → Bool
 excludedIn exclusion f = bit (f % 8) (getD exclusion (f / 8) 0)
-
--- The weight of bit k where b holds, and else 0.
-unfoldable pub flag : Bool → ℕ → ℕ
-flag b k = cond b (2 ^ k) 0
 
 -- The byte whose bit j is h j.
 unfoldable pub byteOf : (ℕ → Bool) → ℕ

@@ -1,9 +1,11 @@
 -- The definitions of document 01, a file for each of its sections, in its order.
+pub mod Basics
 pub mod Edges
 pub mod Keeps
 pub mod Policy
 pub mod Bits
 pub mod Sync
+pub mod Switch
 pub mod Calls
 pub mod Questions
 pub mod OnePage

@@ -5,11 +5,12 @@ use mathlib.Core.Bool.{Bool, true, false, cond}
 use mathlib.Core.List.{List, [], _∷_}
 use lib.ListN.{getD}
 use lib.Dec.{ltb, eqb}
-use Rattle.model.specs.Edges.{member}
+use Rattle.model.specs.Basics.{member}
 use Rattle.model.specs.Keeps.{none, Guard}
 use Rattle.model.specs.Policy.{Policy, named, entryPages}
-use Rattle.model.specs.Bits.{approved, switched}
+use Rattle.model.specs.Bits.{approved}
 use Rattle.model.specs.Sync.{Place, step, entryIn}
+use Rattle.model.specs.Switch.{switched}
 use Rattle.model.specs.Questions.{View, firstNo}
 use Rattle.model.specs.Calls.{settle, Call, syncPage, syncAll, fetch, write, enter, leave, deviceWrite, questionsOf}
 

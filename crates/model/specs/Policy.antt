@@ -6,7 +6,7 @@ use lib.ListN.{getD}
 use lib.Dec.{ltb, eqb}
 use Rattle.model.specs.declared.Mode.the-variants.{Kernel, User}
 use Rattle.model.specs.declared.State.{State}
-use Rattle.model.specs.Edges.{table, member}
+use Rattle.model.specs.Basics.{table, member}
 use Rattle.model.specs.Keeps.{none, Tables, Guard, guardOf, vectorOf, stateOf}
 use Rattle.model.specs.Bits.{approved}
 

@@ -5,7 +5,8 @@ use mathlib.Core.List.{List, [], _∷_, _++_}
 use lib.ListN.{length, getD}
 use lib.Dec.{leb, ltb, eqb}
 use Rattle.model.specs.declared.State.{State}
-use Rattle.model.specs.Edges.{pageBytes, both, either, within, pagesInRange, framesInRange, everyFrom, lastByte, lastPage, touched}
+use Rattle.model.specs.Basics.{both, either, within, everyFrom}
+use Rattle.model.specs.Edges.{pageBytes, pagesInRange, framesInRange, lastByte, lastPage, touched}
 use Rattle.model.specs.Keeps.{none, Tables, Guard, vectorBytes, excludedIn, inUser, running}
 use Rattle.model.specs.Policy.{Policy, Givens}
 use Rattle.model.specs.Bits.{present, writable, userBit, noExecute, kernelNoExecute, approvedMark, frameOf}

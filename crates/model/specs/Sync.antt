@@ -1,13 +1,14 @@
--- Document 01, "Synchronising one page", and the same for all pages; the mode switch of a whole table.
+-- Document 01, "Synchronising one page", and the same for all pages.
 use Prim.Native.Nat.{ℕ, suc, _+_}
 use mathlib.Core.Bool.{Bool, not, cond}
-use mathlib.Core.List.{List, [], _∷_, map}
+use mathlib.Core.List.{List, [], _∷_}
 use lib.Dec.{leb, eqb}
 use lib.ListN.{getD}
 use Rattle.model.specs.declared.Entry.{Entry}
 use Rattle.model.specs.declared.Entry.the-variants.{Absent, Present}
+use Rattle.model.specs.Basics.{differs}
 use Rattle.model.specs.Keeps.{none}
-use Rattle.model.specs.Bits.{takenApart, approved, ordinary, switched}
+use Rattle.model.specs.Bits.{takenApart, approved, ordinary}
 
 -- What a step reads beside the kernel entry and the page's approval.
 pub record Rules : Type 0 where
@@ -41,10 +42,6 @@ stepOf rules (Present x) approval =
 -- Steps 1 to 5 on a kernel entry and the page's number in the map. The shadow entry that stood there is not read.
 unfoldable pub step : Rules → ℕ → ℕ → Place
 step rules entry approval = stepOf rules (takenApart entry) approval
-
--- 1 where two values differ: "shadow entries whose value changed", "pages that joined the map".
-unfoldable pub differs : ℕ → ℕ → ℕ
-differs a b = cond (eqb a b) 0 1
 
 -- Both tables after a synchronisation, with its two counts.
 pub record Sweep : Type 0 where
@@ -80,13 +77,3 @@ entryIn kernel page = getD kernel page 0
 -- Of what gives each page its kernel entry, the step of a page on its own.
 unfoldable pub stepFrom : Rules → (ℕ → ℕ) → ℕ → ℕ → ℕ → Place
 stepFrom rules kernel page entry approval = step rules (kernel page) approval
-
--- "A mode switch [..] sets bit 63 of each present shadow entry".
-unfoldable pub switchedAll : Bool → List ℕ → List ℕ
-switchedAll user shadow = map (switched user) shadow
-
--- "the count of changed shadow entries": places at which two tables of one length differ.
-unfoldable pub changes : List ℕ → List ℕ → ℕ
-changes [] after = 0
-changes (b ∷ before) [] = 0
-changes (b ∷ before) (a ∷ after) = differs b a + changes before after

@@ -5,8 +5,8 @@ use mathlib.Core.List.{List}
 use mathlib.Core.Path.{_≡_, sym, _∙_}
 use native.Mathlib.Omega.{arith}
 use lib.ListN.{length, getD, set}
-use Rattle.model.specs.Bits.{switched}
-use Rattle.model.specs.Sync.{differs, switchedAll, changes}
+use Rattle.model.specs.Basics.{differs}
+use Rattle.model.specs.Switch.{switched, switchedAll, changes}
 use Rattle.model.proofs.SwitchLaws.{switchedFrom, changesFrom, changes-start, switched-more, changes-more, switched-over, changes-over}
 
 pub count-start : (user : Bool) (l : List ℕ) → 0 + changesFrom user 0 l ≡ changes l (switchedAll user l)

@@ -6,8 +6,8 @@ ghost use mathlib.Core.Bool.{true};
 ghost use Prim.Native.Nat.{_<_};
 ghost use lib.ListN.{length, getD};
 ghost use Rattle.model.specs.Keeps.{Tables, withShadow, guardOf};
-ghost use Rattle.model.specs.Sync;
-ghost use Rattle.model.specs.Sync.{switchedAll};
+ghost use Rattle.model.specs.Switch.{switchedAll};
+ghost use Rattle.model.specs.Switch;
 ghost use Rattle.model.specs.Questions.{firstNo, leavePermitted};
 ghost use Rattle.model.specs.Calls;
 ghost use Rattle.model.specs.Calls.{outcomeBy, switchTo, answer};
@@ -20,7 +20,7 @@ use questions::both;
 
 // Bit 63 of every present entry by the rules of the mode; the count of entries whose value changed.
 fn switch_table(user: bool, shadow: &mut [u64]) -> u64
-    ensures { λ r. ⌜ (now (shadow .exit) ≡ switchedAll user (now (shadow .entry))) × (r ≡ Sync.changes (now (shadow .entry)) (switchedAll user (now (shadow .entry)))) ⌝ }
+    ensures { λ r. ⌜ (now (shadow .exit) ≡ switchedAll user (now (shadow .entry))) × (r ≡ Switch.changes (now (shadow .entry)) (switchedAll user (now (shadow .entry)))) ⌝ }
 {
     let mut changed = 0;
     let mut i = 0;

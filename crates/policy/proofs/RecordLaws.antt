@@ -8,7 +8,8 @@ use lib.Dec.{leb, eqb}
 use lib.ListN.{length, getD, List·getD-eq-default}
 use native.Mathlib.Omega.{arith}
 use borrow.Author.Tests.{le-leb, lt-leb, eq-eqb, ne-eqb}
-use Rattle.model.specs.Edges.{both, within, pagesInRange, framesInRange}
+use Rattle.model.specs.Basics.{both, within}
+use Rattle.model.specs.Edges.{pagesInRange, framesInRange}
 use Rattle.model.specs.Policy.{Givens, nothingGiven, numberAt, numbersAt, policyOf}
 use Rattle.model.specs.Questions.{Question, question, firstNo, sizesInRange, countsInRange, rising, allBelow, policyQuestions, givensInRange, recordQuestions, Lengths, lengthsFit, startQuestions}
 use Rattle.model.proofs.QuestionLaws.{both-true, firstNo-yes, firstNo-no, firstNo-front, firstNo-back, numbered}

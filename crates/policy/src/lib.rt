@@ -5,7 +5,8 @@
 ghost use mathlib.Core.Path.{_≡_};
 ghost use Prim.Native.Nat.{_+_, _*_, _<_, _≤_, _^_, min};
 ghost use lib.ListN.{length};
-ghost use Rattle.model.specs.Edges.{both, within, pagesInRange, framesInRange};
+ghost use Rattle.model.specs.Basics.{both, within};
+ghost use Rattle.model.specs.Edges.{pagesInRange, framesInRange};
 ghost use Rattle.model.specs.Policy.{nothingGiven, numberAt, numbersAt, policyOf};
 ghost use Rattle.model.specs.Questions.{firstNo, rising, allBelow, recordQuestions};
 

@@ -8,9 +8,10 @@ ghost use Prim.Native.Nat.{_*_};
 ghost use lib.Dec.{ltb, eqb};
 ghost use lib.ListN.{getD};
 ghost use Rattle.model.specs.declared.Answer.the-variants.{Refused};
-ghost use Rattle.model.specs.Edges;
+ghost use Rattle.model.specs.Basics;
+ghost use Rattle.model.specs.Basics.{within};
+ghost use Rattle.model.specs.Edges.{pagesInRange, framesInRange, lastByte, lastPage};
 ghost use Rattle.model.specs.Keeps;
-ghost use Rattle.model.specs.Edges.{within, pagesInRange, framesInRange, lastByte, lastPage};
 ghost use Rattle.model.specs.Keeps.{vectorBytes, inUser, modeOf, inMode};
 ghost use Rattle.model.specs.Questions.{stateInOrder, inOrder};
 use model::Answer;
@@ -75,7 +76,7 @@ pub fn refused(s: State, number: u64) -> Called
 
 // Both answers are yes.
 pub fn both(a: bool, b: bool) -> bool
-    ensures { λ r. ⌜ r ≡ Edges.both a b ⌝ }
+    ensures { λ r. ⌜ r ≡ Basics.both a b ⌝ }
 {
     a && b
 }
@@ -244,7 +245,7 @@ pub fn entry_page(s: State, index: u64) -> u16
 
 // An entry index is below e, and its page below V.
 pub fn entry_exists(s: State, index: u64) -> bool
-    ensures { λ r. ⌜ r ≡ Edges.both (ltb index (s .entries)) (ltb (getD (s .entry) index 0) (s .pages)) ⌝ }
+    ensures { λ r. ⌜ r ≡ Basics.both (ltb index (s .entries)) (ltb (getD (s .entry) index 0) (s .pages)) ⌝ }
 {
     both(index < s.entries as u64, entry_page(s, index) < s.pages)
 }

@@ -15,9 +15,10 @@ use Rattle.model.specs.declared.Entry.the-variants.{Absent, Present}
 use Rattle.model.specs.declared.Fields.{Fields}
 use Rattle.model.specs.declared.State.{State}
 use Rattle.model.specs.declared.Answer.the-variants.{Done, Refused}
+use Rattle.model.specs.Basics.{differs}
 use Rattle.model.specs.Keeps.{none, Tables, withThree, Guard, guardOf, vectorBytes, inUser}
 use Rattle.model.specs.Bits.{fieldsOf, takenApart, approved, ordinary}
-use Rattle.model.specs.Sync.{Rules, Place, place, stepOf, step, differs, Sweep, sweep, sweepFrom, entryIn, stepFrom}
+use Rattle.model.specs.Sync.{Rules, Place, place, stepOf, step, Sweep, sweep, sweepFrom, entryIn, stepFrom}
 use Rattle.model.specs.Questions.{stateInOrder, inOrder, syncAllQuestions, syncPageQuestions}
 use Rattle.model.specs.Calls.{replyOf, outcomeBy, keptBy, rulesOf, pageSynced, allSynced, syncPage, syncAll, questionsOf, effectOf, answer}
 use Rattle.model.proofs.BitLaws.{taken-apart}

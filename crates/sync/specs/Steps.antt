@@ -4,8 +4,9 @@ use Prim.Native.Nat.{ℕ, _+_}
 use mathlib.Core.Bool.{Bool}
 use mathlib.Core.List.{List}
 use lib.ListN.{getD, set}
+use Rattle.model.specs.Basics.{differs}
 use Rattle.model.specs.Keeps.{excludedIn}
-use Rattle.model.specs.Sync.{Rules, Place, Sweep, sweep, differs}
+use Rattle.model.specs.Sync.{Rules, Place, Sweep, sweep}
 
 abbrev pub rules : Bool → ℕ → List ℕ → Rules
 rules user frames exclusion = record { user = user; frames = frames; excluded = excludedIn exclusion }

@@ -7,9 +7,10 @@ use model::State;
 ghost use mathlib.Core.Path.{_≡_};
 ghost use Prim.Native.Nat.{_+_, _<_, _≤_};
 ghost use lib.ListN.{length, getD, set};
+ghost use Rattle.model.specs.Basics.{differs};
 ghost use Rattle.model.specs.Keeps.{Tables, withThree, guardOf, vectorBytes};
 ghost use Rattle.model.specs.Sync;
-ghost use Rattle.model.specs.Sync.{place, differs, sweep, sweepFrom, entryIn, stepFrom};
+ghost use Rattle.model.specs.Sync.{place, sweep, sweepFrom, entryIn, stepFrom};
 ghost use Rattle.model.specs.Calls.{keptBy, syncPage, syncAll, answer};
 ghost use Rattle.sync.specs.Steps.{rules, stored};
 

@@ -14,7 +14,8 @@ use Rattle.model.specs.declared.Answer.the-variants.{Done, Refused}
 use Rattle.model.specs.declared.Called.{Called}
 use Rattle.lines.specs.declared.Line.{Line}
 use Rattle.lines.specs.Text.{text}
-use Rattle.model.specs.Edges.{within, pagesInRange, framesInRange}
+use Rattle.model.specs.Basics.{within}
+use Rattle.model.specs.Edges.{pagesInRange, framesInRange}
 use Rattle.model.specs.Keeps.{Tables, Guard, guardOf, vectorBytes}
 use Rattle.model.specs.Policy.{policyOf, numberAt}
 use Rattle.model.specs.Questions.{firstNo}

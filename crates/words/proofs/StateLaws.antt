@@ -13,7 +13,8 @@ use mir.Val.{Fits}
 use Rattle.model.specs.declared.Mode.{Mode}
 use Rattle.model.specs.declared.Mode.the-variants.{Kernel, User}
 use Rattle.model.specs.declared.State.{State}
-use Rattle.model.specs.Edges.{both, within, pagesInRange, framesInRange}
+use Rattle.model.specs.Basics.{both, within}
+use Rattle.model.specs.Edges.{pagesInRange, framesInRange}
 use Rattle.model.specs.Keeps.{inUser, running, modeOf, inMode}
 use Rattle.model.specs.Questions.{stateInOrder}
 use Rattle.model.proofs.QuestionLaws.{both-first, both-second, both-yes, both-no-after, within-high}

@@ -13,7 +13,7 @@ use native.Mathlib.Omega.{arith}
 use Rattle.model.specs.declared.Answer.{Answer}
 use Rattle.model.specs.declared.Answer.the-variants.{Done, Refused}
 use Rattle.model.specs.declared.Mode.{Mode}
-use Rattle.model.specs.Edges.{both, within}
+use Rattle.model.specs.Basics.{both, within}
 use Rattle.model.specs.Keeps.{inUser}
 use Rattle.model.specs.Calls.{replyOf}
 use Rattle.model.proofs.QuestionLaws.{both-no, both-first, within-above}

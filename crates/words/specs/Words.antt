@@ -8,10 +8,10 @@ use lib.ListN.{length, getD, set, take}
 use lib.Dec.{leb, eqb}
 use Rattle.model.specs.declared.State.{State}
 use Rattle.model.specs.declared.Mode.{Mode}
-use Rattle.model.specs.Edges.{both, table, member}
+use Rattle.model.specs.Basics.{both, table, member}
+use Rattle.model.specs.Keeps.{inUser, running, modeOf, stateOf}
 use Rattle.model.specs.Questions.{stateInOrder}
 use Rattle.model.specs.Calls.{Reply, settle, Call, syncPage, syncAll, fetch, write, enter, leave, deviceWrite}
-use Rattle.model.specs.Keeps.{inUser, running, modeOf, stateOf}
 
 -- The layout of a state run: V, F and e, the sixteen entry pages, kernel or user, the page now running.
 -- The proofs speak of a place by its name.

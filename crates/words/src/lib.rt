@@ -7,7 +7,7 @@ ghost use Prim.Native.Nat.{_<_};
 ghost use lib.ListN.{length};
 ghost use lib.Seq.{paste};
 ghost use lib.Dec.{eqb};
-ghost use Rattle.model.specs.Edges;
+ghost use Rattle.model.specs.Basics;
 ghost use Rattle.model.specs.Keeps.{modeOf, running};
 ghost use Rattle.model.specs.Questions.{stateInOrder};
 ghost use Rattle.model.specs.Calls.{replyOf};
@@ -200,7 +200,7 @@ fn words_in_order(run: &[u64]) -> bool
 
 // Both runs can be lent, and the state is in order.
 pub fn usable(run: &[u64], numbers: &[u64], count: usize) -> bool
-    ensures { λ r. ⌜ r ≡ Edges.both (Words.lendable count (now (run .entry)) (now (numbers .entry))) (stateInOrder (stateIn (now (run .entry)))) ⌝ }
+    ensures { λ r. ⌜ r ≡ Basics.both (Words.lendable count (now (run .entry)) (now (numbers .entry))) (stateInOrder (stateIn (now (run .entry)))) ⌝ }
 {
     if !lendable(run, numbers, count) {
         return false;

@@ -1,5 +1,5 @@
 -- A sum of the weights, as the definition has it.
-use Rattle.model.specs.Keeps.{flag}
+use Rattle.model.specs.Basics.{flag}
 use Rattle.model.specs.Bits.{ordinary}
 use borrow.Author.Needs.{needs}
 use Rattle.entry.proofs.ordinary.Statement.{statement}

@@ -1,6 +1,6 @@
 -- Bit 0: the definition divides by 2 ^ 0.
 use native.Mathlib.Nat.{div-one}
-use Rattle.model.specs.Edges.{bit}
+use Rattle.model.specs.Basics.{bit}
 use Rattle.model.specs.Bits.{present}
 use Rattle.entry.proofs.present.Statement.{statement}
 use Rattle.entry.proofs.present.Tie as tie

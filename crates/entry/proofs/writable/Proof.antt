@@ -1,6 +1,6 @@
 -- The bit is computed as the definition has it.
 use mathlib.Core.Path.{refl}
-use Rattle.model.specs.Edges.{bit}
+use Rattle.model.specs.Basics.{bit}
 use Rattle.model.specs.Bits.{writable}
 use Rattle.entry.proofs.writable.Statement.{statement}
 use Rattle.entry.proofs.writable.Tie as tie

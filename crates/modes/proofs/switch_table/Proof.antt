@@ -3,7 +3,7 @@ use Prim.Native.Nat.{_+_, _-_, _≤_}
 use mathlib.Core.Path.{_≡_, refl}
 use native.Mathlib.Omega.{arith}
 use lib.ListN.{length, length-set}
-use Rattle.model.specs.Sync.{switchedAll, changes}
+use Rattle.model.specs.Switch.{switchedAll, changes}
 use Rattle.model.proofs.SwitchLaws.{switchedFrom, changesFrom, switched-start}
 use Rattle.modes.proofs.TableLaws.{count-start, table-more, count-more, table-over, count-over}
 use borrow.Author.Needs.{needs}

@@ -1,7 +1,7 @@
 -- `questions::both` meets its contract.
-use Rattle.model.specs.Edges.{both}
 use Rattle.questions.proofs.both.Statement.{statement}
 use Rattle.questions.proofs.both.Tie as tie
+use Rattle.model.specs.Basics.{both}
 
 returns : tie.Need-returns
 unfolding both

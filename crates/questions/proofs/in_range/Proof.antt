@@ -1,8 +1,8 @@
 -- `questions::in_range` meets its contract.
-use Rattle.model.specs.Edges.{within}
 use borrow.Author.Needs.{needs}
 use Rattle.questions.proofs.in_range.Statement.{statement}
 use Rattle.questions.proofs.in_range.Tie as tie
+use Rattle.model.specs.Basics.{within}
 
 returns : tie.Need-returns
 unfolding within

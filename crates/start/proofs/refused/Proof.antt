@@ -1,6 +1,6 @@
 -- Sixteen zeros are the table of zeros.
 use mathlib.Core.Path.{refl}
-use Rattle.model.specs.Edges.{tableFrom, table}
+use Rattle.model.specs.Basics.{tableFrom, table}
 use Rattle.model.specs.Policy.{zeroState}
 use Rattle.start.specs.Start.{refusedWith}
 use Rattle.start.proofs.refused.Statement.{statement}

@@ -6,7 +6,8 @@ use mathlib.Core.Path.{_≡_, refl, sym}
 use lib.ListN.{getD}
 use lib.Dec.{eqb}
 use borrow.Author.Tests.{le-ltb, eqb-true}
-use Rattle.model.specs.Edges.{both, either, within, pagesInRange, framesInRange, member}
+use Rattle.model.specs.Basics.{both, either, within, member}
+use Rattle.model.specs.Edges.{pagesInRange, framesInRange}
 use Rattle.model.specs.Questions.{stateInOrder}
 use Rattle.model.proofs.QuestionLaws.{both-no-after}
 use Rattle.words.specs.Words.{pagesAt, framesAt, entriesAt, runningAt, widest, narrow, field, stateIn, WideRefused}
