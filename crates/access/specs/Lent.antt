@@ -15,8 +15,8 @@ lent user pages frames shadow exclusion =
     record {
       pages = pages;
       frames = frames;
-      entries = 0;
-      entry = λ i. 0;
+      entryCount = 0;
+      entryPage = λ i. 0;
       user = user;
       shadow = λ p. getD shadow p 0;
       approval = λ p. none;

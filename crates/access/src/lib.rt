@@ -59,12 +59,12 @@ pub fn fetch(s: State, shadow: &[u64], page: u64) -> Called
         ≡ answer (guardOf s (withShadow (now (shadow .entry)) t)) (Calls.fetch page)) ⌝ }
 {
     if !questions::shadow_in_order(s, shadow.len()) {
-        return questions::refused(s, 7);
+        return questions::refused_call(s, 7);
     }
     let mode = s.mode;
     let number = fetch_refusal(questions::in_user(mode), s.pages, shadow, page);
     if number != 0 {
-        return questions::refused(s, number);
+        return questions::refused_call(s, number);
     }
     let frame = entry::frame_of(shadow[page as usize]);
     let running = questions::on_page(mode, (page % 65536) as u16);

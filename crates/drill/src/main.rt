@@ -8,7 +8,7 @@ use libc::STDIN_FILENO;
 use libc::STDOUT_FILENO;
 use lines::Line;
 use model::State;
-use turns::Turned;
+use turns::TurnResult;
 
 // Takes 8 bytes, and the rest of the policy where there is one; gives how many there were. The room holds the longest policy.
 fn read_policy(room: &mut [u8]) -> usize
@@ -36,12 +36,12 @@ fn take_turn(
     shadow: &mut [u64],
     map: &mut [u16],
     exclusion: &[u8],
-) -> Turned {
+) -> TurnResult {
     let mut call = [0u8; 16];
     let taken = io::read_full(STDIN_FILENO, &mut call);
-    let turned = turns::turn(s, kernel, shadow, map, exclusion, &call[..taken]);
-    write_line(turned.line);
-    turned
+    let result = turns::turn(s, kernel, shadow, map, exclusion, &call[..taken]);
+    write_line(result.line);
+    result
 }
 
 // As many calls as there are, and no more than the limit.
@@ -55,10 +55,10 @@ fn take_turns(
     let mut s = first;
     let mut left = turns::call_limit();
     while turns::goes_on(left) {
-        let turned = take_turn(s, kernel, shadow, map, exclusion);
-        let next = turned.state;
+        let result = take_turn(s, kernel, shadow, map, exclusion);
+        let next = result.state;
         s = next;
-        left = turns::left_after(left, turned.goes);
+        left = turns::left_after(left, result.goes);
     }
 }
 

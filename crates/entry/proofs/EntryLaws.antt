@@ -8,7 +8,7 @@ use Rattle.model.specs.Basics.{either}
 use Rattle.model.specs.Bits.{present, writable, userBit, noExecute, frameOf, fieldsOf, takenApart, ordinaryNoExecute}
 
 pub fields-are : (entry : ℕ) {frame : ℕ} {w u x : Bool} → w ≡ writable entry → u ≡ userBit entry → x ≡ noExecute entry → frame ≡ frameOf entry
-    → record { writable = w; user = u; noexec = x; frame = frame } ≡ fieldsOf entry
+    → record { writable = w; user = u; «no_execute» = x; frame = frame } ≡ fieldsOf entry
 unfolding fieldsOf
 fields-are entry w u x f = rw (w, u, x, f)
 

@@ -81,19 +81,19 @@ unfolding noExecuteIn approvedNoExecute ordinaryNoExecute
 executable-kernel user entry t = rw t (top-of-10 entry ∙ runs-in-kernel (approvedMark entry))
 
 -- Whether bit 63 is turned: where the entry is present (p) and the bit (n) is what may be executed (the contrary of m).
-turn : (p n m : Bool) → ℕ
-turn p n m = bitAnd (1 - bitXor (flag n 0) (flag (not m) 0)) (flag p 0)
+flip : (p n m : Bool) → ℕ
+flip p n m = bitAnd (1 - bitXor (flag n 0) (flag (not m) 0)) (flag p 0)
 
-turned : (p n m : Bool) (low : ℕ) → bitXor (flag n 0) (turn p n m) * 2 ^ 63 + low ≡ cond p (low + flag m 63) (flag n 0 * 2 ^ 63 + low)
-unfolding flag turn
-turned true true true low = omega arith
-turned true true false low = omega arith
-turned true false true low = omega arith
-turned true false false low = omega arith
-turned false true true low = refl
-turned false true false low = refl
-turned false false true low = refl
-turned false false false low = refl
+flipped : (p n m : Bool) (low : ℕ) → bitXor (flag n 0) (flip p n m) * 2 ^ 63 + low ≡ cond p (low + flag m 63) (flag n 0 * 2 ^ 63 + low)
+unfolding flag flip
+flipped true true true low = omega arith
+flipped true true false low = omega arith
+flipped true false true low = omega arith
+flipped true false false low = omega arith
+flipped false true true low = refl
+flipped false true false low = refl
+flipped false false true low = refl
+flipped false false false low = refl
 
 same-counts : (a b : ℕ) → a ≡ b → 0 ≡ differs a b
 unfolding differs
@@ -103,25 +103,25 @@ other-counts : (a b : ℕ) → (a ≡ b → ⊥) → 1 ≡ differs a b
 unfolding differs
 other-counts a b p = rw (ne-eqb a b p)
 
-turn-counts : (p n m : Bool) (low a b : ℕ) → a ≡ flag n 0 * 2 ^ 63 + low → b ≡ bitXor (flag n 0) (turn p n m) * 2 ^ 63 + low
-    → turn p n m ≡ differs a b
-unfolding flag turn
-turn-counts true true true low a b e f = same-counts a b (omega arith)
-turn-counts true true false low a b e f = other-counts a b (λ h. omega arith)
-turn-counts true false true low a b e f = other-counts a b (λ h. omega arith)
-turn-counts true false false low a b e f = same-counts a b (omega arith)
-turn-counts false true true low a b e f = same-counts a b (omega arith)
-turn-counts false true false low a b e f = same-counts a b (omega arith)
-turn-counts false false true low a b e f = same-counts a b (omega arith)
-turn-counts false false false low a b e f = same-counts a b (omega arith)
+flip-counts : (p n m : Bool) (low a b : ℕ) → a ≡ flag n 0 * 2 ^ 63 + low → b ≡ bitXor (flag n 0) (flip p n m) * 2 ^ 63 + low
+    → flip p n m ≡ differs a b
+unfolding flag flip
+flip-counts true true true low a b e f = same-counts a b (omega arith)
+flip-counts true true false low a b e f = other-counts a b (λ h. omega arith)
+flip-counts true false true low a b e f = other-counts a b (λ h. omega arith)
+flip-counts true false false low a b e f = same-counts a b (omega arith)
+flip-counts false true true low a b e f = same-counts a b (omega arith)
+flip-counts false true false low a b e f = same-counts a b (omega arith)
+flip-counts false false true low a b e f = same-counts a b (omega arith)
+flip-counts false false false low a b e f = same-counts a b (omega arith)
 
 abbrev change : ℕ → ℕ → ℕ
 change entry x = bitAnd ((2 ^ 64 - 1) - bitXor entry x) ((entry * 2 ^ 63) % 2 ^ 64)
 
 module _ (user : Bool) (entry x : ℕ) (fits : entry < 2 ^ 64) (small : x < 2 ^ 64)
     (runs : x / 2 ^ 63 ≡ flag (not (noExecuteIn user entry)) 0) where
-  change-top : change entry x / 2 ^ 63 ≡ turn (present entry) (noExecute entry) (noExecuteIn user entry)
-  unfolding turn
+  change-top : change entry x / 2 ^ 63 ≡ flip (present entry) (noExecute entry) (noExecuteIn user entry)
+  unfolding flip
   change-top =
       let e : bitXor entry x / 2 ^ 63 ≡ bitXor (flag (noExecute entry) 0) (flag (not (noExecuteIn user entry)) 0) =
       xor-shr entry x 63 ∙ ap₂ bitXor (top entry fits) runs in
@@ -141,10 +141,10 @@ module _ (user : Bool) (entry x : ℕ) (fits : entry < 2 ^ 64) (small : x < 2 ^ 
       omega arith
 
   result-parts : bitXor entry (change entry x)
-      ≡ bitXor (flag (noExecute entry) 0) (turn (present entry) (noExecute entry) (noExecuteIn user entry)) * 2 ^ 63 + entry % 2 ^ 63
+      ≡ bitXor (flag (noExecute entry) 0) (flip (present entry) (noExecute entry) (noExecuteIn user entry)) * 2 ^ 63 + entry % 2 ^ 63
   result-parts =
       let high : bitXor entry (change entry x) / 2 ^ 63
-      ≡ bitXor (flag (noExecute entry) 0) (turn (present entry) (noExecute entry) (noExecuteIn user entry)) =
+      ≡ bitXor (flag (noExecute entry) 0) (flip (present entry) (noExecute entry) (noExecuteIn user entry)) =
       xor-shr entry (change entry x) 63 ∙ ap₂ bitXor (top entry fits) change-top in
       let low : bitXor entry (change entry x) % 2 ^ 63 ≡ entry % 2 ^ 63 =
       xor-mod entry (change entry x) 63 ∙ ap (bitXor (entry % 2 ^ 63)) change-low ∙ xor-zero-r (entry % 2 ^ 63) in
@@ -153,13 +153,13 @@ module _ (user : Bool) (entry x : ℕ) (fits : entry < 2 ^ 64) (small : x < 2 ^ 
   change-switches : bitXor entry (change entry x) ≡ switched user entry
   unfolding switched
   change-switches =
-      result-parts ∙ turned (present entry) (noExecute entry) (noExecuteIn user entry) (entry % 2 ^ 63)
+      result-parts ∙ flipped (present entry) (noExecute entry) (noExecuteIn user entry) (entry % 2 ^ 63)
       ∙ ap (cond (present entry) (entry % 2 ^ 63 + flag (noExecuteIn user entry) 63)) (sym entry-parts)
 
   change-counts : change entry x / 2 ^ 63 ≡ differs entry (switched user entry)
   change-counts =
       change-top
-      ∙ turn-counts (present entry) (noExecute entry) (noExecuteIn user entry) (entry % 2 ^ 63) entry (switched user entry) entry-parts
+      ∙ flip-counts (present entry) (noExecute entry) (noExecuteIn user entry) (entry % 2 ^ 63) entry (switched user entry) entry-parts
       (sym change-switches ∙ result-parts)
 
   pub change-is : (bitXor entry (change entry x) ≡ switched user entry)

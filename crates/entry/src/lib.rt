@@ -74,7 +74,7 @@ fn fields_of(entry: u64) -> Fields
     Fields {
         writable: writable(entry),
         user: user_bit(entry),
-        noexec: no_execute(entry),
+        no_execute: no_execute(entry),
         frame: frame_of(entry),
     }
 }
@@ -117,9 +117,9 @@ fn ordinary(user: bool, x: Fields) -> u64
     1
         + flag(x.writable, WRITABLE)
         + flag(x.user, USER)
-        + flag(x.noexec, KERNEL_NO_EXECUTE)
+        + flag(x.no_execute, KERNEL_NO_EXECUTE)
         + x.frame * FRAME
-        + flag(ordinary_no_execute(user, x.noexec, x.user), NO_EXECUTE)
+        + flag(ordinary_no_execute(user, x.no_execute, x.user), NO_EXECUTE)
 }
 
 // The ordinary entry of a kernel entry, from its own fields: the compiler then masks the entry once.

@@ -29,11 +29,11 @@ module _ (v : View) where
   unfolding fetchQuestions asked numbered both either
   fetch-page page h = ltb-true page (v .pages) (both-first _ _ (all-yes 9 (fetchQuestions v page) refl h))
 
-  pub enter-page : (index : ℕ) → firstNo (enterQuestions v index) ≡ 0 → v .entry index < v .pages
+  pub enter-page : (index : ℕ) → firstNo (enterQuestions v index) ≡ 0 → v .entryPage index < v .pages
   unfolding enterQuestions asked numbered both either
   enter-page index h =
-      ltb-true (v .entry index) (v .pages)
-      (both-second (ltb index (v .entries)) (ltb (v .entry index) (v .pages)) (both-first _ _ (all-yes 9 (enterQuestions v index) refl h)))
+      ltb-true (v .entryPage index) (v .pages)
+      (both-second (ltb index (v .entryCount)) (ltb (v .entryPage index) (v .pages)) (both-first _ _ (all-yes 9 (enterQuestions v index) refl h)))
 
   pub leave-page : (page : ℕ) → firstNo (leaveQuestions v page) ≡ 0 → page < v .pages
   unfolding leaveQuestions asked numbered both either

@@ -90,7 +90,7 @@ module _ (user : Bool) (x : Fields) where
   unfolding approvedMark ordinary
   approvedMark-ordinary = bit10-is _ _ _ _ (x .frame)
 
-  pub noExecute-ordinary : x .frame < 2 ^ 40 → noExecute (ordinary user x) ≡ ordinaryNoExecute user (x .noexec) (x .user)
+  pub noExecute-ordinary : x .frame < 2 ^ 40 → noExecute (ordinary user x) ≡ ordinaryNoExecute user (x .«no_execute») (x .user)
   unfolding noExecute ordinary
   noExecute-ordinary h = bit63-is _ _ _ _ (x .frame) h
 

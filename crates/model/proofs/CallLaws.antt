@@ -92,7 +92,7 @@ effect-runs g (syncPage kernel page) limit few now passed = now
 effect-runs g (syncAll kernel) limit few now passed = now
 effect-runs g (fetch page) limit few now passed = rw running-modeOf (let b : page < g .state .pages = fetch-page (seen g) page passed in omega arith)
 effect-runs g (write address length) limit few now passed = now
-effect-runs g (enter index) limit few now passed = let b : getD (g .state .entry) index 0 < g .state .pages = enter-page (seen g) index passed in omega arith
+effect-runs g (enter index) limit few now passed = let b : getD (g .state .«entry_pages») index 0 < g .state .pages = enter-page (seen g) index passed in omega arith
 effect-runs g (leave page) limit few now passed = let b : page < g .state .pages = leave-page (seen g) page passed in omega arith
 effect-runs g (deviceWrite address length) limit few now passed = now
 

@@ -13,10 +13,10 @@ use Rattle.model.specs.declared.Mode.{Mode}
 use Rattle.model.specs.declared.Mode.the-variants.{Kernel, User}
 use Rattle.model.specs.Keeps.{none, withShadow, withMap, Guard, guardOf, inUser, running, modeOf, inMode}
 use Rattle.model.specs.Policy.{Policy}
-use Rattle.model.specs.Sync.{Place, step, entryIn, stepFrom, Sweep, sweepFrom}
+use Rattle.model.specs.Sync.{Slot, step, entryIn, stepFrom, Sweep, sweepFrom}
 use Rattle.model.specs.Switch.{switchedAll}
 use Rattle.model.specs.Calls.{Call, syncPage, syncAll, fetch, write, enter, leave, deviceWrite, questionsOf, rulesOf, pageSynced, allSynced, switchTo, effectOf}
-use Rattle.model.specs.OnePage.{synchronised, nothing, seenBy, settled, stepped, turned, told, news}
+use Rattle.model.specs.OnePage.{synchronised, nothing, seenBy, settled, stepped, switchedPage, told, news}
 use Rattle.model.specs.Claim.{Carried, carriedAfter}
 use Rattle.model.proofs.StateLaws.{state-parts, frames-few, mode-fits}
 use Rattle.model.proofs.ClaimPages.{Good, told-good}
@@ -36,7 +36,7 @@ running-modeOf true page = refl
 running-modeOf false page = refl
 
 module _ (policy : Policy) (carried : Carried) (g : Guard) (h : Kept policy carried g) where
-  -- A synchronised page is as its one-page guard is told, if the tables have the step's place at it.
+  -- A synchronised page is as its one-page guard is told, if the tables have the step's slot at it.
   stepped-at : (shadow map : List ℕ) (p k : ℕ)
       → getD shadow p 0 ≡ (step (rulesOf (g .state) (g .tables .exclusion)) k (getD (g .tables .map) p none)) .entry
       → getD map p none ≡ (step (rulesOf (g .state) (g .tables .exclusion)) k (getD (g .tables .map) p none)) .approval
@@ -82,7 +82,7 @@ module _ (policy : Policy) (carried : Carried) (g : Guard) (h : Kept policy carr
   unfolding news told effectOf allSynced stepFrom
   syncAll-commutes kernel p = at (ltb p (policy .pages)) refl
     where
-      f : ℕ → ℕ → ℕ → Place
+      f : ℕ → ℕ → ℕ → Slot
       f = stepFrom (rulesOf (g .state) (g .tables .exclusion)) (entryIn kernel)
 
       after : Sweep
@@ -100,7 +100,7 @@ module _ (policy : Policy) (carried : Carried) (g : Guard) (h : Kept policy carr
   -- Each accepted call, as the one-page guards are told of it.
   pub commutes : (call : Call) → settled policy (pageOf g) g call ≡ 0 → (p : ℕ)
       → told policy (pageOf g p) (news policy p call) ≡ pageOf ((effectOf g call) .guard) p
-  unfolding news told settled questionsOf effectOf switchTo inMode inUser turned
+  unfolding news told settled questionsOf effectOf switchTo inMode inUser switchedPage
   commutes (syncPage kernel page) passed p = syncPage-commutes kernel page (syncPage-page (seenBy policy (pageOf g) g) (length kernel) page passed) p
   commutes (syncAll kernel) passed p = syncAll-commutes kernel p
   commutes (fetch page) passed p = rw inUser-modeOf
@@ -125,8 +125,8 @@ module _ (policy : Policy) (carried : Carried) (g : Guard) (h : Kept policy carr
       record {
         pages = h .pages;
         frames = h .frames;
-        entries = h .entries;
-        entry = h .entry;
+        entryCount = h .entryCount;
+        entryPages = h .entryPages;
         fits = mode-fits (g .state) mode (h .fits) (rw (h .pages) runs);
         shadowLength = shadowLength;
         mapLength = mapLength;
@@ -138,7 +138,7 @@ module _ (policy : Policy) (carried : Carried) (g : Guard) (h : Kept policy carr
       }
 
   now-runs : running (g .state .mode) < policy .pages
-  now-runs = rw (h .pages) at (state-parts (g .state) (h .fits) .runs)
+  now-runs = rw (h .pages) at (state-parts (g .state) (h .fits) .running-below)
 
   -- Every accepted call keeps what always holds.
   pub kept : (call : Call) → settled policy (pageOf g) g call ≡ 0 → Kept policy (carriedAfter 0 call (pageOf g) carried) ((effectOf g call) .guard)
@@ -154,8 +154,8 @@ module _ (policy : Policy) (carried : Carried) (g : Guard) (h : Kept policy carr
       (rw running-modeOf (fetch-page (seenBy policy (pageOf g) g) page passed)) (h .shadowLength) (h .mapLength) (good-after (fetch page) passed)
   kept (write address size) passed = h
   kept (enter index) passed =
-      kept-with (Kernel (getD (g .state .entry) index 0)) (switchedAll false (g .tables .shadow)) (g .tables .map)
-      (rw (h .entry) (enter-page (seenBy policy (pageOf g) g) index passed)) (length-switched false (g .tables .shadow) ∙ h .shadowLength) (h .mapLength) (good-after (enter index) passed)
+      kept-with (Kernel (getD (g .state .«entry_pages») index 0)) (switchedAll false (g .tables .shadow)) (g .tables .map)
+      (rw (h .entryPages) (enter-page (seenBy policy (pageOf g) g) index passed)) (length-switched false (g .tables .shadow) ∙ h .shadowLength) (h .mapLength) (good-after (enter index) passed)
   kept (leave page) passed =
       kept-with (User page) (switchedAll true (g .tables .shadow)) (g .tables .map) (leave-page (seenBy policy (pageOf g) g) page passed) (length-switched true (g .tables .shadow) ∙ h .shadowLength)
       (h .mapLength) (good-after (leave page) passed)

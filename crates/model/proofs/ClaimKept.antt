@@ -28,8 +28,8 @@ pub record Kept (policy : Policy) (carried : Carried) (g : Guard) : Type 0 where
   -- the state's sizes and entry pages are the policy's
   pub pages : g .state .pages ≡ policy .pages
   pub frames : g .state .frames ≡ policy .frames
-  pub entries : g .state .entries ≡ policy .entries
-  pub entry : g .state .entry ≡ entryPages policy
+  pub entryCount : g .state .«entry_count» ≡ policy .entryCount
+  pub entryPages : g .state .«entry_pages» ≡ entryPages policy
   -- the state passes question 7
   pub fits : stateInOrder (g .state) ≡ true
   -- the tables have their lengths
@@ -50,8 +50,8 @@ module _ (policy : Policy) (carried : Carried) (g : Guard) (h : Kept policy carr
       record {
         pages = h .pages i;
         frames = h .frames i;
-        entries = h .entries i;
-        entry = λ n. getD (h .entry i) n 0;
+        entryCount = h .entryCount i;
+        entryPage = λ n. getD (h .entryPages i) n 0;
         user = inUser (g .state .mode);
         shadow = λ p. getD (g .tables .shadow) p 0;
         approval = λ p. getD (g .tables .map) p none;

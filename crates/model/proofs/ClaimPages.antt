@@ -13,9 +13,9 @@ use Rattle.model.specs.Basics.{bit}
 use Rattle.model.specs.Keeps.{none}
 use Rattle.model.specs.Policy.{Policy}
 use Rattle.model.specs.Bits.{present, noExecute, frameOf, approvedMark, fieldsOf, takenApart, approvedNoExecute, approved, ordinaryNoExecute, ordinary}
-use Rattle.model.specs.Sync.{Rules, Place, place, stepOf, step}
+use Rattle.model.specs.Sync.{Rules, rules, Slot, slot, stepOf, step}
 use Rattle.model.specs.Switch.{noExecuteIn}
-use Rattle.model.specs.OnePage.{Page, News, synchronised, entered, left, nothing, turned, stepped, told}
+use Rattle.model.specs.OnePage.{Page, withSlot, News, synchronised, entered, exited, nothing, switchedPage, stepped, told}
 use Rattle.model.proofs.BitLaws.{taken-apart, approvedMark-approved, frameOf-approved, approvedMark-ordinary, noExecute-ordinary, present-switched, approvedMark-switched, frameOf-switched, noExecute-switched}
 
 -- A good page: its approval, if it has one, is a frame of code; an entry with bits 0 and 10 has its approval for its frame; and in kernel
@@ -37,12 +37,9 @@ good-code code page h user there clear =
 both-ways : {A : Type 0} (b : Bool) → b ≡ true → b ≡ false → A
 both-ways b p q = absurd (true≢false (sym p ∙ q))
 
--- The page that a step leaves, and the three kinds of entry that it may have.
-abbrev pub placed : Page → Place → Page
-placed page p = record { user = page .user; entry = p .entry; approval = p .approval; excluded = page .excluded }
-
+-- The page that a step leaves, by the three kinds of entry that it may have.
 module _ (code : ℕ → Bool) (page : Page) where
-  pub good-absent : (a : ℕ) → (eqb a none ≡ false → code a ≡ true) → Good code (placed page (place 0 a))
+  pub good-absent : (a : ℕ) → (eqb a none ≡ false → code a ≡ true) → Good code (withSlot page (slot 0 a))
   unfolding present bit
   good-absent a h =
       record {
@@ -52,7 +49,7 @@ module _ (code : ℕ → Bool) (page : Page) where
         executable = λ u p q. absurd (false≢true p);
       }
 
-  pub good-approved : (f : ℕ) → code f ≡ true → f < 4096 → Good code (placed page (place (approved (page .user) f) f))
+  pub good-approved : (f : ℕ) → code f ≡ true → f < 4096 → Good code (withSlot page (slot (approved (page .user) f) f))
   good-approved f h l =
       record {
         approval = λ p. h;
@@ -62,7 +59,7 @@ module _ (code : ℕ → Bool) (page : Page) where
       }
 
   good-ordinary : (x : Fields) (a : ℕ) → x .frame < 4096 → (eqb a none ≡ false → code a ≡ true)
-      → Good code (placed page (place (ordinary (page .user) x) a))
+      → Good code (withSlot page (slot (ordinary (page .user) x) a))
   unfolding ordinaryNoExecute
   good-ordinary x a l h =
       record {
@@ -77,13 +74,13 @@ cond-cases : {A : Type 0} (P : A → Type 0) (b : Bool) {x y : A} → (b ≡ tru
 cond-cases P true p q = p refl
 cond-cases P false p q = q refl
 
--- Steps 1 to 5: the place that a step gives has a property if an absent entry has it, an approved one with the map's frame, an approved one
+-- Steps 1 to 5: the slot that a step gives has a property if an absent entry has it, an approved one with the map's frame, an approved one
 -- with an excluded frame, and an ordinary one.
-pub step-cases : (P : Place → Type 0) (rules : Rules) (k a : ℕ)
-    → P (place 0 a)
-    → (eqb a none ≡ false → P (place (approved (rules .user) a) a))
-    → (frameOf k < rules .frames → rules .excluded (frameOf k) ≡ true → P (place (approved (rules .user) (frameOf k)) (frameOf k)))
-    → (frameOf k < rules .frames → rules .excluded (frameOf k) ≡ false → P (place (ordinary (rules .user) (fieldsOf k)) a))
+pub step-cases : (P : Slot → Type 0) (rules : Rules) (k a : ℕ)
+    → P (slot 0 a)
+    → (eqb a none ≡ false → P (slot (approved (rules .user) a) a))
+    → (frameOf k < rules .frames → rules .excluded (frameOf k) ≡ true → P (slot (approved (rules .user) (frameOf k)) (frameOf k)))
+    → (frameOf k < rules .frames → rules .excluded (frameOf k) ≡ false → P (slot (ordinary (rules .user) (fieldsOf k)) a))
     → P (step rules k a)
 unfolding step fieldsOf stepOf
 step-cases P rules k a absent mapped joins plain = by (taken-apart k)
@@ -103,7 +100,7 @@ pub stepped-good : (policy : Policy) (code : ℕ → Bool) (page : Page) (k : �
     → Good code page → Good code (stepped policy page k)
 unfolding stepped fieldsOf
 stepped-good policy code page k most below excluded h =
-    step-cases (λ p. Good code (placed page p)) (record { user = page .user; frames = policy .frames; excluded = page .excluded }) k (page .approval)
+    step-cases (λ p. Good code (withSlot page p)) (rules (page .user) (policy .frames) (page .excluded)) k (page .approval)
     (good-absent code page (page .approval) (h .approval))
     (λ e. good-approved code page (page .approval) (h .approval e) (omega (arith, below (page .approval) (h .approval e))))
     (λ l e. good-approved code page (frameOf k) (excluded (frameOf k) e) (omega arith))
@@ -119,9 +116,9 @@ clear-marked entry q = at (approvedMark entry) q
     at false q = absurd (true≢false q)
 
 -- A mode switch keeps a page good.
-pub turned-good : (user : Bool) (code : ℕ → Bool) (page : Page) → Good code page → Good code (turned user page)
-unfolding turned
-turned-good user code page h =
+pub switched-good : (user : Bool) (code : ℕ → Bool) (page : Page) → Good code page → Good code (switchedPage user page)
+unfolding switchedPage
+switched-good user code page h =
     record {
       approval = h .approval;
       marked = λ p q. h .marked (rw present-switched at p) (rw approvedMark-switched at q);
@@ -137,6 +134,6 @@ pub told-good : (policy : Policy) (code : ℕ → Bool) (page : Page) (n : News)
     → Good code page → Good code (told policy page n)
 unfolding told
 told-good policy code page (synchronised k) most below excluded h = stepped-good policy code page k most below excluded h
-told-good policy code page entered most below excluded h = turned-good false code page h
-told-good policy code page left most below excluded h = turned-good true code page h
+told-good policy code page entered most below excluded h = switched-good false code page h
+told-good policy code page exited most below excluded h = switched-good true code page h
 told-good policy code page nothing most below excluded h = h

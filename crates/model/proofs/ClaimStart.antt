@@ -15,7 +15,7 @@ use Rattle.model.specs.Keeps.{none, vectorBytes, excludedIn, byteOf, vec
 use Rattle.model.specs.Policy.{Givens, Policy, policyOf, frameFor, approvalFor, named, firstEntry, startState, startTables, startGuard}
 use Rattle.model.specs.Bits.{approved}
 use Rattle.model.specs.Questions.{firstNo, stateInOrder, Lengths, startQuestions, rising}
-use Rattle.model.specs.OnePage.{Page, placeIn, firstPage}
+use Rattle.model.specs.OnePage.{Page, indexIn, firstPage}
 use Rattle.model.specs.Claim.{carriedFirst}
 use Rattle.model.proofs.QuestionLaws.{both-first, both-second, within-yes}
 use Rattle.model.proofs.StateLaws.{state-whole}
@@ -80,19 +80,19 @@ rising-unlisted pages least (p ∷ ps) page up low =
     rw (ne-eqb page p (λ e. omega arith)) (rising-unlisted pages (suc p) ps page (both-second (both (leb least p) (ltb p pages)) (rising pages (suc p) ps) up) (omega arith))
 
 -- Of rising pages with a frame each, the frame that the start gives a listed page is the one at the page's own place.
-frameFor-placed : (pages least : ℕ) (ps fs : List ℕ) (page other : ℕ) → length ps ≡ length fs → rising pages least ps ≡ true → member page ps ≡ true
-    → frameFor ps fs page other ≡ getD fs (placeIn page ps) 0
-unfolding frameFor member placeIn rising
-frameFor-placed pages least [] fs page other same up there = absurd (false≢true there)
-frameFor-placed pages least (p ∷ ps) [] page other same up there = absurd (omega arith)
-frameFor-placed pages least (p ∷ ps) (f ∷ fs) page other same up there =
-    at (eqb page p) refl (λ m. frameFor-placed pages (suc p) ps fs page other (suc-inj same) later m)
+frameFor-own : (pages least : ℕ) (ps fs : List ℕ) (page other : ℕ) → length ps ≡ length fs → rising pages least ps ≡ true → member page ps ≡ true
+    → frameFor ps fs page other ≡ getD fs (indexIn page ps) 0
+unfolding frameFor member indexIn rising
+frameFor-own pages least [] fs page other same up there = absurd (false≢true there)
+frameFor-own pages least (p ∷ ps) [] page other same up there = absurd (omega arith)
+frameFor-own pages least (p ∷ ps) (f ∷ fs) page other same up there =
+    at (eqb page p) refl (λ m. frameFor-own pages (suc p) ps fs page other (suc-inj same) later m)
   where
     later : rising pages (suc p) ps ≡ true
     later = both-second (both (leb least p) (ltb p pages)) (rising pages (suc p) ps) up
 
-    at : (b : Bool) → eqb page p ≡ b → (member page ps ≡ true → frameFor ps fs page other ≡ getD fs (placeIn page ps) 0)
-        → frameFor ps fs page (cond (eqb page p) f other) ≡ getD (f ∷ fs) (cond (eqb page p) 0 (suc (placeIn page ps))) 0
+    at : (b : Bool) → eqb page p ≡ b → (member page ps ≡ true → frameFor ps fs page other ≡ getD fs (indexIn page ps) 0)
+        → frameFor ps fs page (cond (eqb page p) f other) ≡ getD (f ∷ fs) (cond (eqb page p) 0 (suc (indexIn page ps))) 0
     at true e rest = rw e (frameFor-unlisted ps fs page f (rising-unlisted pages (suc p) ps page later (omega (arith, eqb-true page p e))))
     at false e rest = rw e (rest (sym (member-there page p ps e) ∙ there))
 
@@ -102,25 +102,25 @@ module _ (given : Givens) (bytes : List ℕ) (l : Lengths) (accepted : firstNo (
 
   -- Whether a page is listed, and the frame that the start gives it.
   abbrev listed : ℕ → Bool
-  listed p = member p (policy .listed)
+  listed p = member p (policy .listedPages)
 
   abbrev frame : ℕ → ℕ
-  frame p = frameFor (policy .listed) (policy .backing) p none
+  frame p = frameFor (policy .listedPages) (policy .listedFrames) p none
 
   passed : Passed policy
   passed = start-passed given bytes policy l accepted
 
-  listed-length : length (policy .listed) ≡ policy .count
+  pages-length : length (policy .listedPages) ≡ policy .count
   unfolding policyOf
-  listed-length = length-numbersAt bytes 8 (policy .count)
+  pages-length = length-numbersAt bytes 8 (policy .count)
 
-  backing-length : length (policy .backing) ≡ policy .count
+  frames-length : length (policy .listedFrames) ≡ policy .count
   unfolding policyOf
-  backing-length = length-numbersAt bytes _ (policy .count)
+  frames-length = length-numbersAt bytes _ (policy .count)
 
   named-below : (f : ℕ) → named policy f ≡ true → f < policy .frames
   unfolding named
-  named-below f e = allBelow-member (policy .frames) f (policy .backing) (passed .backing-below) e
+  named-below f e = allBelow-member (policy .frames) f (policy .listedFrames) (passed .frames-below) e
 
   start-fits : stateInOrder (startState given policy) ≡ true
   unfolding startState pagesInRange framesInRange running
@@ -129,43 +129,43 @@ module _ (given : Givens) (bytes : List ℕ) (l : Lengths) (accepted : firstNo (
       (record {
         pages = within-yes 1 2048 (policy .pages) (passed .pages-low) (passed .pages-high);
         frames = within-yes 1 4096 (policy .frames) (passed .frames-low) (passed .frames-high);
-        entries = within-yes 1 16 (policy .entries) (passed .entries-low) (passed .entries-high);
-        runs = allBelow-getD (policy .pages) (policy .listed) 0 (passed .listed-below) (omega (arith, passed .count-low, listed-length));
+        entryCount = within-yes 1 16 (policy .entryCount) (passed .entry-count-low) (passed .entry-count-high);
+        running-below = allBelow-getD (policy .pages) (policy .listedPages) 0 (passed .pages-below) (omega (arith, passed .count-low, pages-length));
       })
 
   -- The frame of a listed page is named in the policy, so it is not 65535. No page past V is listed.
   listed-named : (p : ℕ) → listed p ≡ true → named policy (frame p) ≡ true
   unfolding named
-  listed-named p e = frameFor-listed (policy .listed) (policy .backing) p none (listed-length ∙ sym backing-length) e
+  listed-named p e = frameFor-listed (policy .listedPages) (policy .listedFrames) p none (pages-length ∙ sym frames-length) e
 
   listed-small : (p : ℕ) → listed p ≡ true → frame p < 4096
   listed-small p e = omega (arith, named-below (frame p) (listed-named p e), passed .frames-high)
 
   past-unlisted : (p : ℕ) → policy .pages ≤ p → listed p ≡ false
-  past-unlisted = past-no listed (policy .pages) (λ p e. allBelow-member (policy .pages) p (policy .listed) (passed .listed-below) e)
+  past-unlisted = past-no listed (policy .pages) (λ p e. allBelow-member (policy .pages) p (policy .listedPages) (passed .pages-below) e)
 
   -- The number at a page's own place of the second array.
-  abbrev placed : ℕ → ℕ
-  placed p = getD (policy .backing) (placeIn p (policy .listed)) 0
+  abbrev ownFrame : ℕ → ℕ
+  ownFrame p = getD (policy .listedFrames) (indexIn p (policy .listedPages)) 0
 
-  frame-placed : (p : ℕ) → listed p ≡ true → frame p ≡ placed p
-  frame-placed p e = frameFor-placed (policy .pages) 0 (policy .listed) (policy .backing) p none (listed-length ∙ sym backing-length) (passed .listed-rising) e
+  frame-own : (p : ℕ) → listed p ≡ true → frame p ≡ ownFrame p
+  frame-own p e = frameFor-own (policy .pages) 0 (policy .listedPages) (policy .listedFrames) p none (pages-length ∙ sym frames-length) (passed .pages-rising) e
 
   -- The map's number and the shadow entry of a page, by whether it is listed.
-  first-approval : (p : ℕ) (b : Bool) → listed p ≡ b → approvalFor policy p ≡ cond b (placed p) none
+  first-approval : (p : ℕ) (b : Bool) → listed p ≡ b → approvalFor policy p ≡ cond b (ownFrame p) none
   unfolding approvalFor
-  first-approval p true e = frame-placed p e
-  first-approval p false e = frameFor-unlisted (policy .listed) (policy .backing) p none e
+  first-approval p true e = frame-own p e
+  first-approval p false e = frameFor-unlisted (policy .listedPages) (policy .listedFrames) p none e
 
-  placed-named : (p : ℕ) → listed p ≡ true → named policy (placed p) ≡ true
-  placed-named p e = rw (← (frame-placed p e)) (listed-named p e)
+  own-named : (p : ℕ) → listed p ≡ true → named policy (ownFrame p) ≡ true
+  own-named p e = rw (← (frame-own p e)) (listed-named p e)
 
-  placed-small : (p : ℕ) → listed p ≡ true → placed p < 4096
-  placed-small p e = rw (← (frame-placed p e)) (listed-small p e)
+  own-small : (p : ℕ) → listed p ≡ true → ownFrame p < 4096
+  own-small p e = rw (← (frame-own p e)) (listed-small p e)
 
-  first-entry : (p : ℕ) (b : Bool) → listed p ≡ b → firstEntry (approvalFor policy p) ≡ cond b (approved false (placed p)) 0
+  first-entry : (p : ℕ) (b : Bool) → listed p ≡ b → firstEntry (approvalFor policy p) ≡ cond b (approved false (ownFrame p)) 0
   unfolding firstEntry
-  first-entry p true e = rw (first-approval p true e, ne-eqb (placed p) none (λ k. omega (arith, placed-small p e)))
+  first-entry p true e = rw (first-approval p true e, ne-eqb (ownFrame p) none (λ k. omega (arith, own-small p e)))
   first-entry p false e = rw (first-approval p false e)
 
   -- The tables of the start show the one-page guards as they begin.
@@ -192,8 +192,8 @@ module _ (given : Givens) (bytes : List ℕ) (l : Lengths) (accepted : firstNo (
     where
       at : (b : Bool) → listed p ≡ b
           → Good (named policy)
-          (record { user = false; entry = cond b (approved false (placed p)) 0; approval = cond b (placed p) none; excluded = named policy })
-      at true e = good-approved (named policy) (firstPage policy p) (placed p) (placed-named p e) (placed-small p e)
+          (record { user = false; entry = cond b (approved false (ownFrame p)) 0; approval = cond b (ownFrame p) none; excluded = named policy })
+      at true e = good-approved (named policy) (firstPage policy p) (ownFrame p) (own-named p e) (own-small p e)
       at false e = good-absent (named policy) (firstPage policy p) none (λ k. absurd (true≢false k))
 
   pub start-kept : Kept policy (carriedFirst policy) (startGuard given policy)
@@ -202,8 +202,8 @@ module _ (given : Givens) (bytes : List ℕ) (l : Lengths) (accepted : firstNo (
       record {
         pages = refl;
         frames = refl;
-        entries = refl;
-        entry = refl;
+        entryCount = refl;
+        entryPages = refl;
         fits = start-fits;
         shadowLength = length-table (policy .pages) (λ p. firstEntry (approvalFor policy p));
         mapLength = length-table (policy .pages) (approvalFor policy);

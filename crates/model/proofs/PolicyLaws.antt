@@ -173,12 +173,12 @@ pub record Passed (policy : Policy) : Type 0 where
   pub frames-high : policy .frames ≤ 4096
   pub count-low : 1 ≤ policy .count
   pub count-high : policy .count ≤ policy .pages
-  pub entries-low : 1 ≤ policy .entries
-  pub entries-listed : policy .entries ≤ policy .count
-  pub entries-high : policy .entries ≤ 16
-  pub listed-rising : rising (policy .pages) 0 (policy .listed) ≡ true
-  pub listed-below : allBelow (policy .pages) (policy .listed) ≡ true
-  pub backing-below : allBelow (policy .frames) (policy .backing) ≡ true
+  pub entry-count-low : 1 ≤ policy .entryCount
+  pub entry-count-listed : policy .entryCount ≤ policy .count
+  pub entry-count-high : policy .entryCount ≤ 16
+  pub pages-rising : rising (policy .pages) 0 (policy .listedPages) ≡ true
+  pub pages-below : allBelow (policy .pages) (policy .listedPages) ≡ true
+  pub frames-below : allBelow (policy .frames) (policy .listedFrames) ≡ true
 
 module _ (long more exact : Bool) (policy : Policy) (h : firstNo (policyQuestions long more exact policy) ≡ 0) where
   answered : (n : ℕ) → asked n (policyQuestions long more exact policy) ≡ true
@@ -214,19 +214,19 @@ module _ (long more exact : Bool) (policy : Policy) (h : firstNo (policyQuestion
 
   count-yes : within 1 (policy .pages) (policy .count) ≡ true
   unfolding countsInRange
-  count-yes = both-first (within 1 (policy .pages) (policy .count)) (within 1 (min (policy .count) 16) (policy .entries)) counts-yes
+  count-yes = both-first (within 1 (policy .pages) (policy .count)) (within 1 (min (policy .count) 16) (policy .entryCount)) counts-yes
 
-  entries-yes : within 1 (min (policy .count) 16) (policy .entries) ≡ true
+  entries-yes : within 1 (min (policy .count) 16) (policy .entryCount) ≡ true
   unfolding countsInRange
-  entries-yes = both-second (within 1 (policy .pages) (policy .count)) (within 1 (min (policy .count) 16) (policy .entries)) counts-yes
+  entries-yes = both-second (within 1 (policy .pages) (policy .count)) (within 1 (min (policy .count) 16) (policy .entryCount)) counts-yes
 
-  rises-yes : rising (policy .pages) 0 (policy .listed) ≡ true
+  rises-yes : rising (policy .pages) 0 (policy .listedPages) ≡ true
   unfolding policyQuestions asked both either
-  rises-yes = both-first (rising (policy .pages) 0 (policy .listed)) true (answered 5)
+  rises-yes = both-first (rising (policy .pages) 0 (policy .listedPages)) true (answered 5)
 
-  below-yes : allBelow (policy .frames) (policy .backing) ≡ true
+  below-yes : allBelow (policy .frames) (policy .listedFrames) ≡ true
   unfolding policyQuestions asked both either
-  below-yes = both-first (allBelow (policy .frames) (policy .backing)) true (answered 6)
+  below-yes = both-first (allBelow (policy .frames) (policy .listedFrames)) true (answered 6)
 
   pub policy-passed : Passed policy
   unfolding pagesInRange framesInRange
@@ -238,12 +238,12 @@ module _ (long more exact : Bool) (policy : Policy) (h : firstNo (policyQuestion
         frames-high = within-high 1 4096 (policy .frames) frames-yes;
         count-low = within-low 1 (policy .pages) (policy .count) count-yes;
         count-high = within-high 1 (policy .pages) (policy .count) count-yes;
-        entries-low = within-low 1 (min (policy .count) 16) (policy .entries) entries-yes;
-        entries-listed = omega (arith, within-high 1 (min (policy .count) 16) (policy .entries) entries-yes);
-        entries-high = omega (arith, within-high 1 (min (policy .count) 16) (policy .entries) entries-yes);
-        listed-rising = rises-yes;
-        listed-below = rising-below (policy .pages) 0 (policy .listed) rises-yes;
-        backing-below = below-yes;
+        entry-count-low = within-low 1 (min (policy .count) 16) (policy .entryCount) entries-yes;
+        entry-count-listed = omega (arith, within-high 1 (min (policy .count) 16) (policy .entryCount) entries-yes);
+        entry-count-high = omega (arith, within-high 1 (min (policy .count) 16) (policy .entryCount) entries-yes);
+        pages-rising = rises-yes;
+        pages-below = rising-below (policy .pages) 0 (policy .listedPages) rises-yes;
+        frames-below = below-yes;
       }
 
 -- What question 7 of the start says of the lengths of its tables.

@@ -18,8 +18,8 @@ use Rattle.model.proofs.QuestionLaws.{both-yes, both-no-after, both-fir
 pub record Fits (s : State) : Type 0 where
   pub pages : pagesInRange (s .pages) ≡ true
   pub frames : framesInRange (s .frames) ≡ true
-  pub entries : within 1 16 (s .entries) ≡ true
-  pub runs : running (s .mode) < s .pages
+  pub entryCount : within 1 16 (s .«entry_count») ≡ true
+  pub running-below : running (s .mode) < s .pages
 
 pub state-parts : (s : State) → stateInOrder s ≡ true → Fits s
 unfolding stateInOrder
@@ -29,13 +29,13 @@ state-parts s p =
     record {
       pages = both-first _ _ p;
       frames = both-first _ _ rest;
-      entries = both-first _ _ last;
-      runs = ltb-true (running (s .mode)) (s .pages) (both-second _ _ last);
+      entryCount = both-first _ _ last;
+      running-below = ltb-true (running (s .mode)) (s .pages) (both-second _ _ last);
     }
 
 pub state-whole : (s : State) → Fits s → stateInOrder s ≡ true
 unfolding stateInOrder
-state-whole s f = both-yes (f .pages) (both-yes (f .frames) (both-yes (f .entries) (lt-ltb (running (s .mode)) (s .pages) (f .runs))))
+state-whole s f = both-yes (f .pages) (both-yes (f .frames) (both-yes (f .entryCount) (lt-ltb (running (s .mode)) (s .pages) (f .running-below))))
 
 pub pages-few : (s : State) → stateInOrder s ≡ true → s .pages ≤ 2048
 unfolding pagesInRange
@@ -49,7 +49,7 @@ pub mode-fits : (s : State) (m : Mode) → stateInOrder s ≡ true → running m
 unfolding inMode
 mode-fits s m p r =
     let f : Fits s = state-parts s p in
-    state-whole (inMode s m) (record { pages = f .pages; frames = f .frames; entries = f .entries; runs = r })
+    state-whole (inMode s m) (record { pages = f .pages; frames = f .frames; entryCount = f .entryCount; running-below = r })
 
 -- Question 7 was answered yes: so was each part of it.
 abbrev pub Fit : List Bool → Type 0

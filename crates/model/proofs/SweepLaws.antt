@@ -9,7 +9,7 @@ use native.Mathlib.Omega.{arith}
 use lib.ListN.{length, getD, set, take, drop, take-append-drop, drop-of-length-le}
 use lib.Seq.{drop-cons, take-all, take-suc-set, drop-set-lt}
 use Rattle.model.specs.Basics.{differs}
-use Rattle.model.specs.Sync.{Place, place, Sweep, sweep, before, sweepFrom}
+use Rattle.model.specs.Sync.{Slot, slot, Sweep, sweep, before, sweepFrom}
 
 -- A read inside a list does not show what a read past its end gives.
 pub getD-inside : (l : List ℕ) (i d d′ : ℕ) → i < length l → getD l i d ≡ getD l i d′
@@ -17,7 +17,7 @@ getD-inside [] i d d′ h = absurd (not-suc-le-zero h)
 getD-inside (x ∷ l) zero d d′ h = refl
 getD-inside (x ∷ l) (suc i) d d′ h = getD-inside l i d d′ (le-of-suc-le-suc h)
 
-module _ (f : ℕ → ℕ → ℕ → Place) where
+module _ (f : ℕ → ℕ → ℕ → Slot) where
   -- Both tables keep their lengths.
   pub sweep-shadow-length : (page : ℕ) (shadow map : List ℕ) → length (sweepFrom f page shadow map .shadow) ≡ length shadow
   unfolding sweepFrom before
@@ -47,7 +47,7 @@ unfoldable pub appended : Sweep → Sweep → Sweep
 appended a b = sweep (a .shadow ++ b .shadow) (a .map ++ b .map) (a .changed + b .changed) (a .joined + b .joined)
 
 -- Of two appended runs it is the runs, counts added.
-pub sweep-append : (f : ℕ → ℕ → ℕ → Place) (page : ℕ) (shadow shadow′ map map′ : List ℕ) → length shadow ≡ length map
+pub sweep-append : (f : ℕ → ℕ → ℕ → Slot) (page : ℕ) (shadow shadow′ map map′ : List ℕ) → length shadow ≡ length map
     → sweepFrom f page (shadow ++ shadow′) (map ++ map′) ≡ appended (sweepFrom f page shadow map) (sweepFrom f (length shadow + page) shadow′ map′)
 unfolding sweepFrom before appended
 sweep-append f page [] shadow′ [] map′ q = simp zero-add
@@ -58,19 +58,19 @@ sweep-append f page (s ∷ shadow) shadow′ (m ∷ map) map′ q =
 
 -- A loop that makes the sweep page by page. Before page i it holds the first i places as they now are, with the counts so far; the whole
 -- is these and the sweep over what is left.
-unfoldable pub whole : (ℕ → ℕ → ℕ → Place) → ℕ → Sweep → Sweep
+unfoldable pub whole : (ℕ → ℕ → ℕ → Slot) → ℕ → Sweep → Sweep
 whole f i r =
     appended (sweep (take i (r .shadow)) (take i (r .map)) (r .changed) (r .joined)) (sweepFrom f i (drop i (r .shadow)) (drop i (r .map)))
 
-module _ (f : ℕ → ℕ → ℕ → Place) where
+module _ (f : ℕ → ℕ → ℕ → Slot) where
   pub whole-start : (shadow map : List ℕ) → whole f 0 (sweep shadow map 0 0) ≡ sweepFrom f 0 shadow map
   unfolding whole appended
   whole-start shadow map = simp zero-add
 
-  -- Page i is stepped: its place is stored, and x and y say whether that changed the entry and the number.
+  -- Page i is stepped: its slot is stored, and x and y say whether that changed the entry and the number.
   pub whole-more : (i : ℕ) (shadow map : List ℕ) (changed joined e a x y : ℕ) (all : Sweep)
       → whole f i (sweep shadow map changed joined) ≡ all → i < length shadow → i < length map
-      → place e a ≡ f i (getD shadow i 0) (getD map i 0) → x ≡ differs (getD shadow i 0) e → y ≡ differs (getD map i 0) a
+      → slot e a ≡ f i (getD shadow i 0) (getD map i 0) → x ≡ differs (getD shadow i 0) e → y ≡ differs (getD map i 0) a
       → whole f (i + 1) (sweep (set shadow i e) (set map i a) (changed + x) (joined + y)) ≡ all
   unfolding whole appended sweepFrom before
   whole-more i shadow map changed joined e a x y all inv hs hm q px py =

@@ -30,7 +30,7 @@ unfoldable pub approvedMark : ℕ → Bool
 approvedMark entry = bit 10 entry
 
 unfoldable pub fieldsOf : ℕ → Fields
-fieldsOf entry = record { writable = writable entry; user = userBit entry; noexec = noExecute entry; frame = frameOf entry }
+fieldsOf entry = record { writable = writable entry; user = userBit entry; «no_execute» = noExecute entry; frame = frameOf entry }
 
 -- "A kernel entry is taken apart first: absent, or present with its fields." "Other bits are ignored."
 unfoldable pub takenApart : ℕ → Entry
@@ -50,5 +50,5 @@ ordinaryNoExecute user bit9 bit2 = cond user (either bit9 (not bit2)) true
 -- "Else ordinary: present, writable, user, frame and bit 9 from the kernel entry."
 unfoldable pub ordinary : Bool → Fields → ℕ
 ordinary user x =
-    2 ^ 0 + flag (x .writable) 1 + flag (x .user) 2 + flag (x .noexec) 9 + x .frame * 2 ^ 12
-    + flag (ordinaryNoExecute user (x .noexec) (x .user)) 63
+    2 ^ 0 + flag (x .writable) 1 + flag (x .user) 2 + flag (x .«no_execute») 9 + x .frame * 2 ^ 12
+    + flag (ordinaryNoExecute user (x .«no_execute») (x .user)) 63

@@ -14,7 +14,7 @@ use Rattle.model.specs.Edges.{pageBytes, lastPage}
 use Rattle.model.specs.Keeps.{none, Tables, withShadow, withMap, Guard, guardOf, excludedIn, inUser, modeOf, inMode}
 use Rattle.model.specs.Policy.{Givens, Policy, policyOf, startGuard, zeroState}
 use Rattle.model.specs.Bits.{frameOf}
-use Rattle.model.specs.Sync.{Rules, Place, Sweep, sweepFrom, entryIn, stepFrom}
+use Rattle.model.specs.Sync.{Rules, rules, Slot, Sweep, sweepFrom, entryIn, stepFrom}
 use Rattle.model.specs.Switch.{switchedAll, changes}
 use Rattle.model.specs.Questions.{Question, firstNo, View, seen, lengthsOf, startQuestions, syncPageQuestions, syncAllQuestions, fetchQuestions, writeQuestions, enterQuestions, leaveQuestions, deviceWriteQuestions}
 
@@ -52,10 +52,10 @@ nothingBrought = record {}
 pub record Outcome : Type 0 where
   pub reply : Reply
   pub guard : Guard
-  pub left : Brought
+  pub brought : Brought
 
 abbrev pub outcome : Reply → Guard → Outcome
-outcome reply g = record { reply = reply; guard = g; left = nothingBrought }
+outcome reply g = record { reply = reply; guard = g; brought = nothingBrought }
 
 -- What a call answered, with the tables that it left, in that form.
 unfoldable pub outcomeBy : Called → Tables → Outcome
@@ -67,14 +67,14 @@ keptBy r s t = outcomeBy (record { answer = r; state = s }) t
 
 -- A refused call: its number, and nothing changed.
 abbrev pub refusedOf : Guard → Brought → ℕ → Outcome
-refusedOf g brought n = record { reply = refused n; guard = g; left = brought }
+refusedOf g brought n = record { reply = refused n; guard = g; brought = brought }
 
 -- "Start: n and e." A refused start leaves every lent table as it was.
 unfoldable pub startOf : Givens → List ℕ → Tables → Outcome
 startOf given bytes t =
     let policy : Policy = policyOf bytes in
     settle (firstNo (startQuestions given bytes policy (lengthsOf t)))
-    (outcome (accepted (policy .count) (policy .entries)) (startGuard given policy))
+    (outcome (accepted (policy .count) (policy .entryCount)) (startGuard given policy))
     (refusedOf (guardOf zeroState t) nothingBrought)
 
 -- The other calls. "A list has synchronise one, synchronise all, fetch, write, enter, leave and device write calls [..] with any arguments".
@@ -104,10 +104,10 @@ questionsOf v (deviceWrite address length) = deviceWriteQuestions v address leng
 
 -- What the step of a page reads of the state and of the exclusion vector.
 abbrev pub rulesOf : State → List ℕ → Rules
-rulesOf s exclusion = record { user = inUser (s .mode); frames = s .frames; excluded = excludedIn exclusion }
+rulesOf s exclusion = rules (inUser (s .mode)) (s .frames) (excludedIn exclusion)
 
 -- "Synchronise: shadow entries whose value changed; pages that joined the map." One page:
-unfoldable pub pageSynced : Guard → ℕ → Place → Outcome
+unfoldable pub pageSynced : Guard → ℕ → Slot → Outcome
 pageSynced g page p =
     let t : Tables = g .tables in
     outcome (accepted (differs (getD (t .shadow) page 0) (p .entry)) (differs (getD (t .map) page none) (p .approval)))
@@ -138,7 +138,7 @@ effectOf g (fetch page) =
     outcome (accepted frame frame) (guardOf (inMode (g .state) (modeOf (inUser (g .state .mode)) page)) (g .tables))
 effectOf g (write address length) =
     outcome (accepted (frameOf (getD (g .tables .shadow) (address / pageBytes) 0)) (frameOf (getD (g .tables .shadow) (lastPage address length) 0))) g
-effectOf g (enter index) = switchTo g (Kernel (getD (g .state .entry) index 0))
+effectOf g (enter index) = switchTo g (Kernel (getD (g .state .«entry_pages») index 0))
 effectOf g (leave page) = switchTo g (User page)
 effectOf g (deviceWrite address length) = outcome (accepted (address / pageBytes) (lastPage address length)) g
 

@@ -35,12 +35,12 @@ unfoldable pub startedWritable : Guard
 startedWritable = (answer started (syncPage (only 0 0x3003) 0)) .guard
 
 -- The state after the start, with its mode.
-unfoldable pub stateIn : Mode → State
-stateIn mode = stateOf 4 4 1 (1 ∷ replicate 15 0) mode
+unfoldable pub fourPages : Mode → State
+fourPages mode = stateOf 4 4 1 (1 ∷ replicate 15 0) mode
 
 -- A guard of that policy with these contents. No call changes the exclusion vector, whose one byte is 0x04.
 unfoldable pub holding : Mode → List ℕ → List ℕ → Guard
-holding mode shadow map = guardOf (stateIn mode) (record { shadow = shadow; map = map; exclusion = 0x04 ∷ [] })
+holding mode shadow map = guardOf (fourPages mode) (record { shadow = shadow; map = map; exclusion = 0x04 ∷ [] })
 
 -- The tables as the start leaves them.
 unfoldable pub shadowStarted : List ℕ

@@ -32,8 +32,8 @@ zeros =
     record {
       pages = 0;
       frames = 0;
-      entries = 0;
-      entry = 0 ∷ 0 ∷ 0 ∷ 0 ∷ 0 ∷ 0 ∷ 0 ∷ 0 ∷ 0 ∷ 0 ∷ 0 ∷ 0 ∷ 0 ∷ 0 ∷ 0 ∷ 0 ∷ [];
+      «entry_count» = 0;
+      «entry_pages» = 0 ∷ 0 ∷ 0 ∷ 0 ∷ 0 ∷ 0 ∷ 0 ∷ 0 ∷ 0 ∷ 0 ∷ 0 ∷ 0 ∷ 0 ∷ 0 ∷ 0 ∷ 0 ∷ [];
       mode = User 0;
     }
 
@@ -67,9 +67,9 @@ at01 mode entry next = with6 mode (set (set shadow6 0 entry) 1 next)
 unfoldable pub stays : Guard → Call → Reply → Case
 stays g call reply = row (answer g call) (outcome reply g)
 
--- A guard whose state is replaced.
-unfoldable pub inState : State → Guard
-inState s = guardOf s (started6 .tables)
+-- The started guard with a state of these V, F and e, these entry pages and this mode.
+unfoldable pub inState : ℕ → ℕ → ℕ → List ℕ → Mode → Guard
+inState pages frames entryCount entryPages mode = guardOf (stateOf pages frames entryCount entryPages mode) (started6 .tables)
 
 -- A guard of so many pages, none present.
 unfoldable pub manyPages : ℕ → Guard
@@ -78,8 +78,8 @@ manyPages pages =
     (record { shadow = replicate pages 0; map = []; exclusion = [] })
 
 -- A guard of that policy in a mode, whose tables hold zeros and have these lengths.
-unfoldable pub lent : Mode → ℕ → ℕ → ℕ → Guard
-lent mode shadow map exclusion =
+unfoldable pub ofLengths : Mode → ℕ → ℕ → ℕ → Guard
+ofLengths mode shadow map exclusion =
     guardOf (sixPages mode) (record { shadow = replicate shadow 0; map = replicate map 0; exclusion = replicate exclusion 0 })
 
 -- A user page of frame 6 and a kernel page of frame 7, as they stand in each mode.
@@ -158,17 +158,17 @@ syncCases =
     ∷ stays started6 (syncAll (replicate 5 0)) (refused 7)
     ∷ stays started6 (syncPage (replicate 7 0) 0) (refused 7)
     ∷ stays started6 (syncPage (replicate 6 0) 6) (refused 9)
-    ∷ stays (inState (stateOf 6 4097 2 (replicate 16 0) (Kernel 1))) (fetch 1) (refused 7)
-    ∷ stays (inState (stateOf 6 8 0 (replicate 16 0) (Kernel 1))) (fetch 1) (refused 7)
-    ∷ stays (inState (stateOf 6 8 17 (replicate 16 0) (Kernel 1))) (fetch 1) (refused 7)
-    ∷ stays (inState (stateOf 6 8 2 (replicate 16 0) (Kernel 6))) (fetch 1) (refused 7)
-    ∷ stays (inState (stateOf 5 8 2 (replicate 16 0) (Kernel 1))) (fetch 1) (refused 7)
-    ∷ stays (inState (stateOf 6 0 2 (replicate 16 0) (Kernel 1))) (fetch 1) (refused 7)
+    ∷ stays (inState 6 4097 2 (replicate 16 0) (Kernel 1)) (fetch 1) (refused 7)
+    ∷ stays (inState 6 8 0 (replicate 16 0) (Kernel 1)) (fetch 1) (refused 7)
+    ∷ stays (inState 6 8 17 (replicate 16 0) (Kernel 1)) (fetch 1) (refused 7)
+    ∷ stays (inState 6 8 2 (replicate 16 0) (Kernel 6)) (fetch 1) (refused 7)
+    ∷ stays (inState 5 8 2 (replicate 16 0) (Kernel 1)) (fetch 1) (refused 7)
+    ∷ stays (inState 6 0 2 (replicate 16 0) (Kernel 1)) (fetch 1) (refused 7)
     ∷ stays (manyPages 2049) (fetch 0) (refused 7)
     ∷ stays (manyPages 2048) (fetch 0) (refused 11)
     -- e 1 and 16, the running page V - 1 and F 4,096 are in order; e is not compared with V, and what an entry page holds is not asked
-    ∷ stays (inState (stateOf 6 4096 16 (replicate 16 9) (User 5))) (fetch 0) (refused 11)
-    ∷ stays (inState (stateOf 6 1 1 (replicate 16 9) (Kernel 5))) (fetch 0) (refused 11)
+    ∷ stays (inState 6 4096 16 (replicate 16 9) (User 5)) (fetch 0) (refused 11)
+    ∷ stays (inState 6 1 1 (replicate 16 9) (Kernel 5)) (fetch 0) (refused 11)
     ∷ []
 
 -- Question 7 of each call: the state, whose running page is V, and each table that the call is lent, alone. The others may have any length.
@@ -180,25 +180,25 @@ orderCases =
     ∷ stays (with6 (User 6) left6) (enter 0) (refused 7)
     ∷ stays (with6 (Kernel 6) leaving) (leave 5) (refused 7)
     ∷ stays (with6 (Kernel 6) shadow6) (deviceWrite 0 1) (refused 7)
-    ∷ stays (lent (Kernel 1) 6 6 1) (syncPage (replicate 5 0) 0) (refused 7)
-    ∷ stays (lent (Kernel 1) 7 6 1) (syncPage (replicate 6 0) 0) (refused 7)
-    ∷ stays (lent (Kernel 1) 6 7 1) (syncPage (replicate 6 0) 0) (refused 7)
-    ∷ stays (lent (Kernel 1) 6 6 2) (syncPage (replicate 6 0) 0) (refused 7)
-    ∷ stays (lent (Kernel 1) 6 6 1) (syncAll (replicate 7 0)) (refused 7)
-    ∷ stays (lent (Kernel 1) 5 6 1) (syncAll (replicate 6 0)) (refused 7)
-    ∷ stays (lent (Kernel 1) 6 5 1) (syncAll (replicate 6 0)) (refused 7)
-    ∷ stays (lent (Kernel 1) 6 6 0) (syncAll (replicate 6 0)) (refused 7)
-    ∷ stays (lent (Kernel 1) 7 0 0) (fetch 0) (refused 7)
-    ∷ stays (lent (Kernel 1) 6 0 0) (fetch 0) (refused 11)
-    ∷ stays (lent (Kernel 1) 5 6 1) (write 0 1) (refused 7)
-    ∷ stays (lent (Kernel 1) 6 6 0) (write 0 1) (refused 7)
-    ∷ stays (lent (Kernel 1) 6 0 1) (write 0 1) (refused 11)
-    ∷ stays (lent (User 1) 7 0 0) (enter 0) (refused 7)
-    ∷ stays (lent (User 1) 6 0 0) (enter 0) (refused 11)
-    ∷ stays (lent (Kernel 1) 7 0 0) (leave 0) (refused 7)
-    ∷ stays (lent (Kernel 1) 6 0 0) (leave 0) (refused 11)
-    ∷ stays (lent (Kernel 1) 0 0 2) (deviceWrite 0 1) (refused 7)
-    ∷ stays (lent (Kernel 1) 0 0 1) (deviceWrite 0 1) (accepted 0 0)
+    ∷ stays (ofLengths (Kernel 1) 6 6 1) (syncPage (replicate 5 0) 0) (refused 7)
+    ∷ stays (ofLengths (Kernel 1) 7 6 1) (syncPage (replicate 6 0) 0) (refused 7)
+    ∷ stays (ofLengths (Kernel 1) 6 7 1) (syncPage (replicate 6 0) 0) (refused 7)
+    ∷ stays (ofLengths (Kernel 1) 6 6 2) (syncPage (replicate 6 0) 0) (refused 7)
+    ∷ stays (ofLengths (Kernel 1) 6 6 1) (syncAll (replicate 7 0)) (refused 7)
+    ∷ stays (ofLengths (Kernel 1) 5 6 1) (syncAll (replicate 6 0)) (refused 7)
+    ∷ stays (ofLengths (Kernel 1) 6 5 1) (syncAll (replicate 6 0)) (refused 7)
+    ∷ stays (ofLengths (Kernel 1) 6 6 0) (syncAll (replicate 6 0)) (refused 7)
+    ∷ stays (ofLengths (Kernel 1) 7 0 0) (fetch 0) (refused 7)
+    ∷ stays (ofLengths (Kernel 1) 6 0 0) (fetch 0) (refused 11)
+    ∷ stays (ofLengths (Kernel 1) 5 6 1) (write 0 1) (refused 7)
+    ∷ stays (ofLengths (Kernel 1) 6 6 0) (write 0 1) (refused 7)
+    ∷ stays (ofLengths (Kernel 1) 6 0 1) (write 0 1) (refused 11)
+    ∷ stays (ofLengths (User 1) 7 0 0) (enter 0) (refused 7)
+    ∷ stays (ofLengths (User 1) 6 0 0) (enter 0) (refused 11)
+    ∷ stays (ofLengths (Kernel 1) 7 0 0) (leave 0) (refused 7)
+    ∷ stays (ofLengths (Kernel 1) 6 0 0) (leave 0) (refused 11)
+    ∷ stays (ofLengths (Kernel 1) 0 0 2) (deviceWrite 0 1) (refused 7)
+    ∷ stays (ofLengths (Kernel 1) 0 0 1) (deviceWrite 0 1) (accepted 0 0)
     ∷ []
 
 unfoldable pub accessCases : List Case
@@ -264,9 +264,9 @@ switchCases =
     ∷ stays (with6 (User 5) left6) (enter 2) (refused 9)
     ∷ stays started6 (enter 2) (refused 9)
     -- "entry index below e with its page below V", each index by its own page
-    ∷ stays (inState (stateOf 6 8 2 (1 ∷ 6 ∷ replicate 14 0) (User 1))) (enter 1) (refused 9)
-    ∷ stays (inState (stateOf 6 8 1 (5 ∷ replicate 15 0) (User 1))) (enter 0) (refused 11)
-    ∷ stays (inState (stateOf 6 8 1 (6 ∷ replicate 15 0) (User 1))) (enter 0) (refused 9)
+    ∷ stays (inState 6 8 2 (1 ∷ 6 ∷ replicate 14 0) (User 1)) (enter 1) (refused 9)
+    ∷ stays (inState 6 8 1 (5 ∷ replicate 15 0) (User 1)) (enter 0) (refused 11)
+    ∷ stays (inState 6 8 1 (6 ∷ replicate 15 0) (User 1)) (enter 0) (refused 9)
     ∷ stays started6 (enter 0) (refused 10)
     ∷ stays (with6 (User 5) (set left6 2 0x3400)) (enter 1) (refused 11)
     ∷ stays (with6 (User 5) (set left6 2 0x8000000000003001)) (enter 1) (refused 12)

@@ -81,8 +81,9 @@ modeOf true page = User page
 
 -- A state by V, F, e, its sixteen entry pages and its mode.
 abbrev pub stateOf : ℕ → ℕ → ℕ → List ℕ → Mode → State
-stateOf pages frames entries entry mode = record { pages = pages; frames = frames; entries = entries; entry = entry; mode = mode }
+stateOf pages frames entryCount entryPages mode =
+    record { pages = pages; frames = frames; «entry_count» = entryCount; «entry_pages» = entryPages; mode = mode }
 
 -- The state with another mode.
 unfoldable pub inMode : State → Mode → State
-inMode s m = stateOf (s .pages) (s .frames) (s .entries) (s .entry) m
+inMode s m = stateOf (s .pages) (s .frames) (s .«entry_count») (s .«entry_pages») m

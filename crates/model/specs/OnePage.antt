@@ -9,7 +9,7 @@ use Rattle.model.specs.Basics.{member}
 use Rattle.model.specs.Keeps.{none, Guard}
 use Rattle.model.specs.Policy.{Policy, named, entryPages}
 use Rattle.model.specs.Bits.{approved}
-use Rattle.model.specs.Sync.{Place, step, entryIn}
+use Rattle.model.specs.Sync.{rules, Slot, step, entryIn}
 use Rattle.model.specs.Switch.{switched}
 use Rattle.model.specs.Questions.{View, firstNo}
 use Rattle.model.specs.Calls.{settle, Call, syncPage, syncAll, fetch, write, enter, leave, deviceWrite, questionsOf}
@@ -27,19 +27,19 @@ pub record Page : Type 0 where
 pub data News : Type 0 where
   synchronised : (entry : ℕ) → News
   entered : News
-  left : News
+  exited : News
   nothing : News
 
--- The place of p in the record's first array: how many numbers stand before it.
-unfoldable pub placeIn : ℕ → List ℕ → ℕ
-placeIn p [] = 0
-placeIn p (q ∷ qs) = cond (eqb p q) 0 (suc (placeIn p qs))
+-- The index of p in the record's first array: how many numbers stand before it.
+unfoldable pub indexIn : ℕ → List ℕ → ℕ
+indexIn p [] = 0
+indexIn p (q ∷ qs) = cond (eqb p q) 0 (suc (indexIn p qs))
 
 -- "Start: kernel mode. If p is listed, the approval is its listed frame and the entry the approved one for it; else 65535 and 0."
 unfoldable pub firstPage : Policy → ℕ → Page
 firstPage policy p =
-    let listed : Bool = member p (policy .listed) in
-    let frame : ℕ = getD (policy .backing) (placeIn p (policy .listed)) 0 in
+    let listed : Bool = member p (policy .listedPages) in
+    let frame : ℕ = getD (policy .listedFrames) (indexIn p (policy .listedPages)) 0 in
     record {
       user = false;
       entry = cond listed (approved false frame) 0;
@@ -47,22 +47,25 @@ firstPage policy p =
       excluded = named policy;
     }
 
+-- A one-page guard with another entry and approval.
+abbrev pub withSlot : Page → Slot → Page
+withSlot page p = record { user = page .user; entry = p .entry; approval = p .approval; excluded = page .excluded }
+
 -- "Enter: kernel mode. Leave: user mode. After either, a present entry has bit 63 by the rules above, its other bits kept."
-unfoldable pub turned : Bool → Page → Page
-turned user page =
+unfoldable pub switchedPage : Bool → Page → Page
+switchedPage user page =
     record { user = user; entry = switched user (page .entry); approval = page .approval; excluded = page .excluded }
 
 -- "Synchronising p: steps 1 to 5 on the entry told, with its own mode, its approval as the map's place for p, and as the excluded ones the
 -- policy's frames".
 unfoldable pub stepped : Policy → Page → ℕ → Page
 stepped policy page k =
-    let p : Place = step (record { user = page .user; frames = policy .frames; excluded = page .excluded }) k (page .approval) in
-    record { user = page .user; entry = p .entry; approval = p .approval; excluded = page .excluded }
+    withSlot page (step (rules (page .user) (policy .frames) (page .excluded)) k (page .approval))
 
 unfoldable pub told : Policy → Page → News → Page
 told policy page (synchronised k) = stepped policy page k
-told policy page entered = turned false page
-told policy page left = turned true page
+told policy page entered = switchedPage false page
+told policy page exited = switchedPage true page
 told policy page nothing = page
 
 -- What an accepted call tells the one-page guard of p. "Synchronising another page only, fetch, write, device write [..]: no change." All pages
@@ -73,7 +76,7 @@ news policy p (syncAll kernel) = cond (ltb p (policy .pages)) (synchronised (ent
 news policy p (fetch page) = nothing
 news policy p (write address length) = nothing
 news policy p (enter index) = entered
-news policy p (leave page) = left
+news policy p (leave page) = exited
 news policy p (deviceWrite address length) = nothing
 
 -- What the questions look at, made of the policy and the one-page guards. They were all told the same switches, so that the mode, and the
@@ -84,8 +87,8 @@ seenBy policy ps reaching =
     record {
       pages = policy .pages;
       frames = policy .frames;
-      entries = policy .entries;
-      entry = λ i. getD (entryPages policy) i 0;
+      entryCount = policy .entryCount;
+      entryPage = λ i. getD (entryPages policy) i 0;
       user = (ps 0) .user;
       shadow = λ p. (ps p) .entry;
       approval = λ p. (ps p) .approval;

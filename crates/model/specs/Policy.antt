@@ -24,10 +24,10 @@ pub record Policy : Type 0 where
   -- n
   pub count : ℕ
   -- e
-  pub entries : ℕ
+  pub entryCount : ℕ
   -- "two parallel arrays of n 16-bit numbers: virtual pages, strictly rising, then frames, which may repeat"
-  pub listed : List ℕ
-  pub backing : List ℕ
+  pub listedPages : List ℕ
+  pub listedFrames : List ℕ
 
 -- "record and call fields little-endian": the 16-bit number at a place of the bytes.
 unfoldable pub numberAt : List ℕ → ℕ → ℕ
@@ -46,9 +46,9 @@ policyOf bytes =
       pages = numberAt bytes 0;
       frames = numberAt bytes 2;
       count = count;
-      entries = numberAt bytes 6;
-      listed = numbersAt bytes 8 count;
-      backing = numbersAt bytes (8 + 2 * count) count;
+      entryCount = numberAt bytes 6;
+      listedPages = numbersAt bytes 8 count;
+      listedFrames = numbersAt bytes (8 + 2 * count) count;
     }
 
 -- The frame listed for a page, or other where the page is not listed.
@@ -59,11 +59,11 @@ frameFor (p ∷ pages) (f ∷ frames) page other = frameFor pages frames page (c
 
 -- "If p is listed, the approval is its listed frame [..] else 65535"
 unfoldable pub approvalFor : Policy → ℕ → ℕ
-approvalFor policy page = frameFor (policy .listed) (policy .backing) page none
+approvalFor policy page = frameFor (policy .listedPages) (policy .listedFrames) page none
 
 -- "The frames named in the policy are those in the record's second array."
 unfoldable pub named : Policy → ℕ → Bool
-named policy f = member f (policy .backing)
+named policy f = member f (policy .listedFrames)
 
 -- "makes the shadow entry of each listed page an approved one, zeroes the others": of an approval, in kernel mode.
 unfoldable pub firstEntry : ℕ → ℕ
@@ -71,12 +71,12 @@ firstEntry approval = cond (eqb approval none) 0 (approved false approval)
 
 -- "The first e pages are the entry pages"; "sixteen entry pages (unused ones 0)"
 unfoldable pub entryPages : Policy → List ℕ
-entryPages policy = table 16 (λ i. cond (ltb i (policy .entries)) (getD (policy .listed) i 0) 0)
+entryPages policy = table 16 (λ i. cond (ltb i (policy .entryCount)) (getD (policy .listedPages) i 0) 0)
 
 -- "stands in kernel mode on the first entry page"
 unfoldable pub startState : Givens → Policy → State
 startState given policy =
-    stateOf (policy .pages) (policy .frames) (policy .entries) (entryPages policy) (Kernel (getD (policy .listed) 0 0))
+    stateOf (policy .pages) (policy .frames) (policy .entryCount) (entryPages policy) (Kernel (getD (policy .listedPages) 0 0))
 
 -- "An accepted start sets the map and exclusion bits from the arrays, every other map place to 65535 and every other exclusion bit to 0,
 -- makes the shadow entry of each listed page an approved one, zeroes the others, and stands in kernel mode on the first entry page."

@@ -29,8 +29,8 @@ pub record View : Type 0 where
   -- V, F, e and the page of each entry index
   pub pages : ℕ
   pub frames : ℕ
-  pub entries : ℕ
-  pub entry : ℕ → ℕ
+  pub entryCount : ℕ
+  pub entryPage : ℕ → ℕ
   -- user mode
   pub user : Bool
   -- the shadow entry and the approval of a page, and whether a frame is excluded
@@ -46,7 +46,7 @@ pub record View : Type 0 where
 -- "7. Are the state's V, F within range, e from 1 to 16, the running page below V"
 unfoldable pub stateInOrder : State → Bool
 stateInOrder s =
-    both (pagesInRange (s .pages)) (both (framesInRange (s .frames)) (both (within 1 16 (s .entries)) (ltb (running (s .mode)) (s .pages))))
+    both (pagesInRange (s .pages)) (both (framesInRange (s .frames)) (both (within 1 16 (s .«entry_count»)) (ltb (running (s .mode)) (s .pages))))
 
 -- The guard's view. The questions of a call look only at the tables that it is lent.
 abbrev pub seen : Guard → View
@@ -54,8 +54,8 @@ seen g =
     record {
       pages = g .state .pages;
       frames = g .state .frames;
-      entries = g .state .entries;
-      entry = λ i. getD (g .state .entry) i 0;
+      entryCount = g .state .«entry_count»;
+      entryPage = λ i. getD (g .state .«entry_pages») i 0;
       user = inUser (g .state .mode);
       shadow = λ p. getD (g .tables .shadow) p 0;
       approval = λ p. getD (g .tables .map) p none;
@@ -74,7 +74,7 @@ sizesInRange policy = both (pagesInRange (policy .pages)) (framesInRange (policy
 
 -- "3. Is n from 1 to V, and e from 1 to the smaller of n and 16?"
 unfoldable pub countsInRange : Policy → Bool
-countsInRange policy = both (within 1 (policy .pages) (policy .count)) (within 1 (min (policy .count) 16) (policy .entries))
+countsInRange policy = both (within 1 (policy .pages) (policy .count)) (within 1 (min (policy .count) 16) (policy .entryCount))
 
 -- "5. Is every listed page below V and above the one before?": each is at least `least`, one more than the one before, and 0 at first.
 unfoldable pub rising : ℕ → ℕ → List ℕ → Bool
@@ -89,7 +89,7 @@ allBelow frames (f ∷ fs) = both (ltb f frames) (allBelow frames fs)
 -- "7. [..] does every lent table have its exact length": the state, and the tables that a call is lent. Every call asks it so.
 unfoldable pub inOrder : Bool → List Bool → Bool
 inOrder stateFits [] = stateFits
-inOrder stateFits (fits ∷ lent) = both fits (inOrder stateFits lent)
+inOrder stateFits (fits ∷ others) = both fits (inOrder stateFits others)
 
 -- Questions 1 to 6, of sizes and lists wherever they come from. Arguments: the answer to 1, what else 3 asks, and the answer to 4.
 unfoldable pub policyQuestions : Bool → Bool → Bool → Policy → List Question
@@ -98,8 +98,8 @@ policyQuestions long more exact policy =
     ∷ question 2 (sizesInRange policy)
     ∷ question 3 (both (countsInRange policy) more)
     ∷ question 4 exact
-    ∷ question 5 (rising (policy .pages) 0 (policy .listed))
-    ∷ question 6 (allBelow (policy .frames) (policy .backing))
+    ∷ question 5 (rising (policy .pages) 0 (policy .listedPages))
+    ∷ question 6 (allBelow (policy .frames) (policy .listedFrames))
     ∷ []
 
 -- What else question 3 asks of what the start is given.
@@ -182,10 +182,10 @@ writeQuestions v address length =
 unfoldable pub enterQuestions : View → ℕ → List Question
 enterQuestions v index =
     question 7 (inOrder (v .stateFits) (v .shadowFits ∷ []))
-    ∷ question 9 (both (ltb index (v .entries)) (ltb (v .entry index) (v .pages)))
+    ∷ question 9 (both (ltb index (v .entryCount)) (ltb (v .entryPage index) (v .pages)))
     ∷ question 10 (v .user)
-    ∷ question 11 (present (v .shadow (v .entry index)))
-    ∷ question 12 (approvedMark (v .shadow (v .entry index)))
+    ∷ question 11 (present (v .shadow (v .entryPage index)))
+    ∷ question 12 (approvedMark (v .shadow (v .entryPage index)))
     ∷ []
 
 -- Leave to a page: "kernel to leave"; "it needs bit 2 set and bit 9 clear".

@@ -16,13 +16,16 @@ pub record Rules : Type 0 where
   pub frames : ℕ
   pub excluded : ℕ → Bool
 
--- A page's shadow entry and its number in the map.
-pub record Place : Type 0 where
+abbrev pub rules : Bool → ℕ → (ℕ → Bool) → Rules
+rules user frames excluded = record { user = user; frames = frames; excluded = excluded }
+
+-- A page's slot in the tables: its shadow entry and its number in the map.
+pub record Slot : Type 0 where
   pub entry : ℕ
   pub approval : ℕ
 
-abbrev pub place : ℕ → ℕ → Place
-place entry approval = record { entry = entry; approval = approval }
+abbrev pub slot : ℕ → ℕ → Slot
+slot entry approval = record { entry = entry; approval = approval }
 
 -- "1. Kernel entry absent: shadow 0; map unchanged."
 -- "2. Else the map has a frame for this page: an approved entry with the map's frame, not the kernel's." Source 000, section 5.1: a kernel
@@ -31,16 +34,16 @@ place entry approval = record { entry = entry; approval = approval }
 -- "4. Else the frame is excluded: the page joins the map with it; approved entry." Source 000, section 5.1: every virtual alias of an
 -- approved physical page must disallow writes to it.
 -- "5. Else ordinary: present, writable, user, frame and bit 9 from the kernel entry."
-unfoldable pub stepOf : Rules → Entry → ℕ → Place
-stepOf rules Absent approval = place 0 approval
+unfoldable pub stepOf : Rules → Entry → ℕ → Slot
+stepOf rules Absent approval = slot 0 approval
 stepOf rules (Present x) approval =
-    cond (not (eqb approval none)) (place (approved (rules .user) approval) approval)
-    (cond (leb (rules .frames) (x .frame)) (place 0 approval)
-    (cond (rules .excluded (x .frame)) (place (approved (rules .user) (x .frame)) (x .frame))
-    (place (ordinary (rules .user) x) approval)))
+    cond (not (eqb approval none)) (slot (approved (rules .user) approval) approval)
+    (cond (leb (rules .frames) (x .frame)) (slot 0 approval)
+    (cond (rules .excluded (x .frame)) (slot (approved (rules .user) (x .frame)) (x .frame))
+    (slot (ordinary (rules .user) x) approval)))
 
 -- Steps 1 to 5 on a kernel entry and the page's number in the map. The shadow entry that stood there is not read.
-unfoldable pub step : Rules → ℕ → ℕ → Place
+unfoldable pub step : Rules → ℕ → ℕ → Slot
 step rules entry approval = stepOf rules (takenApart entry) approval
 
 -- Both tables after a synchronisation, with its two counts.
@@ -53,8 +56,8 @@ pub record Sweep : Type 0 where
 abbrev pub sweep : List ℕ → List ℕ → ℕ → ℕ → Sweep
 sweep shadow map changed joined = record { shadow = shadow; map = map; changed = changed; joined = joined }
 
--- A sweep whose first place had the entry s and the number m and has now the place p.
-unfoldable pub before : ℕ → ℕ → Place → Sweep → Sweep
+-- A sweep whose first page had the entry s and the number m and has now the slot p.
+unfoldable pub before : ℕ → ℕ → Slot → Sweep → Sweep
 before s m p rest =
     record {
       shadow = p .entry ∷ rest .shadow;
@@ -63,9 +66,9 @@ before s m p rest =
       joined = differs m (p .approval) + rest .joined;
     }
 
--- "All pages: the same for each, in rising order." From a page on, each page gets the place that f makes of its number, its entry and its
+-- "All pages: the same for each, in rising order." From a page on, each page gets the slot that f makes of its number, its entry and its
 -- approval. What goes past the shorter table stays as it is.
-unfoldable pub sweepFrom : (ℕ → ℕ → ℕ → Place) → ℕ → List ℕ → List ℕ → Sweep
+unfoldable pub sweepFrom : (ℕ → ℕ → ℕ → Slot) → ℕ → List ℕ → List ℕ → Sweep
 sweepFrom f page [] map = sweep [] map 0 0
 sweepFrom f page (s ∷ shadow) [] = sweep (s ∷ shadow) [] 0 0
 sweepFrom f page (s ∷ shadow) (m ∷ map) = before s m (f page s m) (sweepFrom f (suc page) shadow map)
@@ -75,5 +78,5 @@ abbrev pub entryIn : List ℕ → ℕ → ℕ
 entryIn kernel page = getD kernel page 0
 
 -- Of what gives each page its kernel entry, the step of a page on its own.
-unfoldable pub stepFrom : Rules → (ℕ → ℕ) → ℕ → ℕ → ℕ → Place
+unfoldable pub stepFrom : Rules → (ℕ → ℕ) → ℕ → ℕ → ℕ → Slot
 stepFrom rules kernel page entry approval = step rules (kernel page) approval

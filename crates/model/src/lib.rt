@@ -24,9 +24,9 @@ pub struct State {
     // F, the number of physical frames.
     pub frames: u16,
     // e, the number of entry pages.
-    pub entries: u16,
+    pub entry_count: u16,
     // The sixteen entry pages; unused ones are 0.
-    pub entry: [u16; 16],
+    pub entry_pages: [u16; 16],
     pub mode: Mode,
 }
 
@@ -35,7 +35,7 @@ pub struct Fields {
     pub writable: bool,
     pub user: bool,
     // The kernel entry's own no-execute, bit 63.
-    pub noexec: bool,
+    pub no_execute: bool,
     pub frame: u64,
 }
 

@@ -36,10 +36,10 @@ module _ (s : State) (shadow : List ℕ) (r7 : Bool) (e7 : r7 ≡ inOrder (state
     unfolding questionsOf enterQuestions
     enter-unfit r n a i t = refused-by _ (enter index) r 7 (sym (stopped 7 r7 _ _ e7 n)) (λ z. omega arith) a i
 
-    module _ (y7 : not r7 ≡ false) (exists : Bool) (e9 : exists ≡ both (ltb index (s .entries)) (ltb (getD (s .entry) index 0) (s .pages)))
-        (page : ℕ) (p : page ≡ getD (s .entry) index 0) where
+    module _ (y7 : not r7 ≡ false) (exists : Bool) (e9 : exists ≡ both (ltb index (s .«entry_count»)) (ltb (getD (s .«entry_pages») index 0) (s .pages)))
+        (page : ℕ) (p : page ≡ getD (s .«entry_pages») index 0) where
       pub entry-in : exists ≡ true → page < length shadow
-      entry-in y9 = rw p (table-has y7 _ (ltb-true _ _ (both-second (ltb index (s .entries)) _ (sym e9 ∙ y9))))
+      entry-in y9 = rw p (table-has y7 _ (ltb-true _ _ (both-second (ltb index (s .«entry_count»)) _ (sym e9 ∙ y9))))
 
       module _ (user : Bool) (u : user ≡ inUser (s .mode)) (number : ℕ)
           (e : number ≡ firstNo (switchQuestions exists user true (getD shadow page 0))) where

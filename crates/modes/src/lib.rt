@@ -92,7 +92,7 @@ pub fn enter(s: State, shadow: &mut [u64], index: u64) -> Called
         ≡ answer (guardOf s (withShadow (now (shadow .entry)) t)) (Calls.enter index)) ⌝ }
 {
     if !questions::shadow_in_order(s, shadow.len()) {
-        return questions::refused(s, 7);
+        return questions::refused_call(s, 7);
     }
     let mode = s.mode;
     let user = questions::in_user(mode);
@@ -100,7 +100,7 @@ pub fn enter(s: State, shadow: &mut [u64], index: u64) -> Called
     let page = questions::entry_page(s, index);
     let number = refusal(exists, user, true, shadow, page as u64);
     if number != 0 {
-        return questions::refused(s, number);
+        return questions::refused_call(s, number);
     }
     switch_to(s, shadow, Mode::Kernel(page))
 }
@@ -110,14 +110,14 @@ pub fn leave(s: State, shadow: &mut [u64], page: u64) -> Called
         ≡ answer (guardOf s (withShadow (now (shadow .entry)) t)) (Calls.leave page)) ⌝ }
 {
     if !questions::shadow_in_order(s, shadow.len()) {
-        return questions::refused(s, 7);
+        return questions::refused_call(s, 7);
     }
     let mode = s.mode;
     let user = questions::in_user(mode);
     let exists = questions::page_exists(page, s.pages);
     let number = refusal(exists, !user, false, shadow, page);
     if number != 0 {
-        return questions::refused(s, number);
+        return questions::refused_call(s, number);
     }
     switch_to(s, shadow, Mode::User((page % 65536) as u16))
 }

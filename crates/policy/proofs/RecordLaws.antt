@@ -116,7 +116,7 @@ module _ (given : Givens) (in-range : givensInRange given ≡ true) (bytes : Lis
           unfolding policyOf
           past4 k qs rest = past3 k _ (rest ∙ sym (firstNo-yes 4 qs (rw (← eN) (eq-eqb (length bytes) (8 + 4 * count) h4))))
 
-          is5 : rises ≡ rising (policyOf bytes .pages) 0 (policyOf bytes .listed)
+          is5 : rises ≡ rising (policyOf bytes .pages) 0 (policyOf bytes .listedPages)
           unfolding policyOf
           is5 = rw (← eV, ← eN) e5
 
@@ -125,7 +125,7 @@ module _ (given : Givens) (in-range : givensInRange given ≡ true) (bytes : Lis
           record-5 h = past4 5 _ (stopped 5 rises _ _ is5 h)
 
           module _ (h5 : not rises ≡ false) (below : Bool) (e6 : below ≡ allBelow frames (numbersAt bytes (8 + 2 * count) count)) where
-            is6 : below ≡ allBelow (policyOf bytes .frames) (policyOf bytes .backing)
+            is6 : below ≡ allBelow (policyOf bytes .frames) (policyOf bytes .listedFrames)
             unfolding policyOf
             is6 = rw (← eF, ← eN) e6
 

@@ -97,13 +97,13 @@ fn smaller(a: u16, b: u16) -> u16
 }
 
 // Question 3.
-fn counts_in_range(pages: u16, count: u16, entries: u16) -> bool
-    ensures { λ r. ⌜ r ≡ both (within 1 pages count) (within 1 (min count 16) entries) ⌝ }
+fn counts_in_range(pages: u16, count: u16, entry_count: u16) -> bool
+    ensures { λ r. ⌜ r ≡ both (within 1 pages count) (within 1 (min count 16) «entry_count») ⌝ }
 {
     let most = smaller(count, 16);
     questions::both(
         questions::in_range(1, pages as u64, count as u64),
-        questions::in_range(1, most as u64, entries as u64),
+        questions::in_range(1, most as u64, entry_count as u64),
     )
 }
 
@@ -160,8 +160,8 @@ pub fn record_question(bytes: &[u8]) -> u64
         return 2;
     }
     let count = number_from(bytes, 4);
-    let entries = number_from(bytes, 6);
-    if !counts_in_range(pages, count, entries) {
+    let entry_count = number_from(bytes, 6);
+    if !counts_in_range(pages, count, entry_count) {
         return 3;
     }
     if bytes.len() != 8 + 4 * count as usize {

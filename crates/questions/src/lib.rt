@@ -54,18 +54,18 @@ pub fn on_page(m: Mode, page: u16) -> Mode
 pub fn in_mode(s: State, m: Mode) -> State
     ensures { λ r. ⌜ r ≡ inMode s m ⌝ }
 {
-    let entry = s.entry;
+    let entry_pages = s.entry_pages;
     State {
         pages: s.pages,
         frames: s.frames,
-        entries: s.entries,
-        entry,
+        entry_count: s.entry_count,
+        entry_pages,
         mode: m,
     }
 }
 
 // What a call that may move answers where a question refuses it: the number, and the state as it was.
-pub fn refused(s: State, number: u64) -> Called
+pub fn refused_call(s: State, number: u64) -> Called
     ensures { λ r. ⌜ (r .answer ≡ Refused number) × (r .state ≡ s) ⌝ }
 {
     Called {
@@ -106,11 +106,11 @@ pub fn state_in_order(s: State) -> bool
     ensures { λ r. ⌜ r ≡ stateInOrder s ⌝ }
 {
     let mode = s.mode;
-    let entries = in_range(1, 16, s.entries as u64);
-    let runs = running(mode) < s.pages;
+    let entries = in_range(1, 16, s.entry_count as u64);
+    let exists = running(mode) < s.pages;
     both(
         pages_in_range(s.pages),
-        both(frames_in_range(s.frames), both(entries, runs)),
+        both(frames_in_range(s.frames), both(entries, exists)),
     )
 }
 
@@ -237,15 +237,15 @@ pub fn transfer_exists(address: u64, length: u64, frames: u16) -> bool
 
 // The page of an entry index, and 0 where there is no such index.
 pub fn entry_page(s: State, index: u64) -> u16
-    ensures { λ r. ⌜ r ≡ getD (s .entry) index 0 ⌝ }
+    ensures { λ r. ⌜ r ≡ getD (s .«entry_pages») index 0 ⌝ }
 {
-    let entry = s.entry;
-    if index < 16 { entry[index as usize] } else { 0 }
+    let entry_pages = s.entry_pages;
+    if index < 16 { entry_pages[index as usize] } else { 0 }
 }
 
 // An entry index is below e, and its page below V.
 pub fn entry_exists(s: State, index: u64) -> bool
-    ensures { λ r. ⌜ r ≡ Basics.both (ltb index (s .entries)) (ltb (getD (s .entry) index 0) (s .pages)) ⌝ }
+    ensures { λ r. ⌜ r ≡ Basics.both (ltb index (s .«entry_count»)) (ltb (getD (s .«entry_pages») index 0) (s .pages)) ⌝ }
 {
-    both(index < s.entries as u64, entry_page(s, index) < s.pages)
+    both(index < s.entry_count as u64, entry_page(s, index) < s.pages)
 }

@@ -16,7 +16,7 @@ use Rattle.model.specs.Bits.{approved}
 use Rattle.model.specs.Questions.{allBelow}
 use Rattle.model.proofs.TableLaws.{table-same, set-table, table-const}
 use Rattle.model.proofs.PolicyLaws.{numbersAt-none, numbersAt-more, allBelow-head, allBelow-tail}
-use Rattle.start.specs.Start.{placed, approvedEach, withEach, entryTable}
+use Rattle.start.specs.Start.{storedEach, approvedEach, withEach, entryTable}
 
 -- A table filled with v up to place i.
 module _ (t t₀ : List ℕ) (i v : ℕ) (e : t ≡ replicate i v ++ drop i t₀) where
@@ -48,29 +48,29 @@ module _ (bytes : List ℕ) (pageAt left page : ℕ) (read : page ≡ numberAt b
   fronted at n e = rw e (numbersAt-more bytes at left more)
 
   -- The page is inside a table whose length is the limit, by way of the length that it had.
-  pub place-inside : (limit m n : ℕ) → allBelow limit (numbersAt bytes pageAt left) ≡ true → m ≡ n → n ≡ limit → page < m
-  place-inside limit m n h e d =
+  pub page-inside : (limit m n : ℕ) → allBelow limit (numbersAt bytes pageAt left) ≡ true → m ≡ n → n ≡ limit → page < m
+  page-inside limit m n h e d =
       let below : page < limit = allBelow-head limit page _ (rw (fronted pageAt page read) at h) in
       omega arith
 
-  pub places-inside : (limit : ℕ) → allBelow limit (numbersAt bytes pageAt left) ≡ true → allBelow limit (numbersAt bytes (pageAt + 2) (left - 1)) ≡ true
-  places-inside limit h = allBelow-tail limit page _ (rw (fronted pageAt page read) at h)
+  pub pages-inside : (limit : ℕ) → allBelow limit (numbersAt bytes pageAt left) ≡ true → allBelow limit (numbersAt bytes (pageAt + 2) (left - 1)) ≡ true
+  pages-inside limit h = allBelow-tail limit page _ (rw (fronted pageAt page read) at h)
 
   module _ (frameAt frame : ℕ) (frameRead : frame ≡ numberAt bytes frameAt) (t whole : List ℕ) where
-    pub place-map : placed (numbersAt bytes pageAt left) (numbersAt bytes frameAt left) t ≡ whole
-        → placed (numbersAt bytes (pageAt + 2) (left - 1)) (numbersAt bytes (frameAt + 2) (left - 1)) (set t page frame) ≡ whole
-    unfolding placed
-    place-map e = rw (fronted pageAt page read, fronted frameAt frame frameRead) at e
+    pub listed-map : storedEach (numbersAt bytes pageAt left) (numbersAt bytes frameAt left) t ≡ whole
+        → storedEach (numbersAt bytes (pageAt + 2) (left - 1)) (numbersAt bytes (frameAt + 2) (left - 1)) (set t page frame) ≡ whole
+    unfolding storedEach
+    listed-map e = rw (fronted pageAt page read, fronted frameAt frame frameRead) at e
 
-    pub place-shadow : (entry : ℕ) → entry ≡ approved false frame
-        → placed (numbersAt bytes pageAt left) (approvedEach (numbersAt bytes frameAt left)) t ≡ whole
-        → placed (numbersAt bytes (pageAt + 2) (left - 1)) (approvedEach (numbersAt bytes (frameAt + 2) (left - 1))) (set t page entry) ≡ whole
-    unfolding placed approvedEach
-    place-shadow entry made e = rw made (rw (fronted pageAt page read, fronted frameAt frame frameRead) at e)
+    pub listed-shadow : (entry : ℕ) → entry ≡ approved false frame
+        → storedEach (numbersAt bytes pageAt left) (approvedEach (numbersAt bytes frameAt left)) t ≡ whole
+        → storedEach (numbersAt bytes (pageAt + 2) (left - 1)) (approvedEach (numbersAt bytes (frameAt + 2) (left - 1))) (set t page entry) ≡ whole
+    unfolding storedEach approvedEach
+    listed-shadow entry made e = rw made (rw (fronted pageAt page read, fronted frameAt frame frameRead) at e)
 
-pub places-end : (bytes : List ℕ) (at left : ℕ) (values t whole : List ℕ) → left ≤ 0 → placed (numbersAt bytes at left) values t ≡ whole → t ≡ whole
-unfolding placed
-places-end bytes at left values t whole h e = rw (numbersAt-none bytes at {left = left} (omega arith)) at e
+pub listed-end : (bytes : List ℕ) (at left : ℕ) (values t whole : List ℕ) → left ≤ 0 → storedEach (numbersAt bytes at left) values t ≡ whole → t ≡ whole
+unfolding storedEach
+listed-end bytes at left values t whole h e = rw (numbersAt-none bytes at {left = left} (omega arith)) at e
 
 -- A frame excluded too.
 pub gather-step : (bytes : List ℕ) (at left frame : ℕ) (v v′ whole : List ℕ) → withEach (numbersAt bytes at left) v ≡ whole → frame ≡ numberAt bytes at

@@ -18,17 +18,17 @@ use Rattle.model.proofs.QuestionLaws.{settle-accepted}
 use Rattle.model.proofs.CallLaws.{settle-refused-by}
 use Rattle.model.proofs.PolicyLaws.{allBelow-wider, Passed, Fitting, start-record, start-passed, start-fitting, record-length}
 use Rattle.policy.proofs.RecordLaws.{start-refused, start-asked}
-use Rattle.start.specs.Start.{refusedWith, acceptedOn, entryTable, withEach}
+use Rattle.start.specs.Start.{refusedStart, acceptedStart, entryTable, withEach}
 use Rattle.start.proofs.TablesSet.{entries-are, first-is, each-length}
 
 -- The answer of an accepted start, made of the numbers that were read.
 pub accepted-is : (given : Givens) (bytes : List ℕ) (count entries pages frames first : ℕ) (entry : List ℕ) → count ≡ numberAt bytes 4 → entries ≡ numberAt bytes 6
     → entry ≡ entryTable bytes entries → pages ≡ numberAt bytes 0 → frames ≡ numberAt bytes 2 → first ≡ numberAt bytes 8
-    → policyOf bytes .entries ≤ policyOf bytes .count → 1 ≤ policyOf bytes .count
+    → policyOf bytes .entryCount ≤ policyOf bytes .count → 1 ≤ policyOf bytes .count
     → _≡_ {A = Called}
-    (record { answer = Done count entries; state = record { pages = pages; frames = frames; entries = entries; entry = entry; mode = Kernel first } })
-    (acceptedOn given bytes)
-unfolding acceptedOn startState policyOf
+    (record { answer = Done count entries; state = record { pages = pages; frames = frames; «entry_count» = entries; «entry_pages» = entry; mode = Kernel first } })
+    (acceptedStart given bytes)
+unfolding acceptedStart startState policyOf
 accepted-is given bytes count entries pages frames first entry n e t v f p listed some =
     rw (t, entries-are bytes entries e listed, n, e, v, f, p, first-is bytes some) refl
 
@@ -65,8 +65,8 @@ module _ (given : Givens) (bytes : List ℕ) (l : Lengths) (question : ℕ) (ask
   passed : Passed (policyOf bytes)
   passed = start-passed given bytes (policyOf bytes) l (sym asked ∙ none)
 
-  backing-below : allBelow 4096 (policyOf bytes .backing) ≡ true
-  backing-below = allBelow-wider (policyOf bytes .frames) 4096 (policyOf bytes .backing) (passed .frames-high) (passed .backing-below)
+  frames-small : allBelow 4096 (policyOf bytes .listedFrames) ≡ true
+  frames-small = allBelow-wider (policyOf bytes .frames) 4096 (policyOf bytes .listedFrames) (passed .frames-high) (passed .frames-below)
 
   fitting : Fitting (policyOf bytes) l
   fitting = start-fitting given bytes (policyOf bytes) l (sym asked ∙ none)
@@ -75,26 +75,26 @@ module _ (given : Givens) (bytes : List ℕ) (l : Lengths) (question : ℕ) (ask
   long = record-length given bytes (policyOf bytes) 0 (sym (start-record given bytes (policyOf bytes) l (sym asked ∙ none))) refl
 
   pub pages-ready : (length bytes ≡ 8 + 4 * policyOf bytes .count) × (l .shadow ≡ policyOf bytes .pages) × (l .map ≡ policyOf bytes .pages)
-      × (allBelow (policyOf bytes .pages) (policyOf bytes .listed) ≡ true) × (allBelow 4096 (policyOf bytes .backing) ≡ true)
-  pages-ready = (long, fitting .shadow, fitting .map, passed .listed-below, backing-below)
+      × (allBelow (policyOf bytes .pages) (policyOf bytes .listedPages) ≡ true) × (allBelow 4096 (policyOf bytes .listedFrames) ≡ true)
+  pages-ready = (long, fitting .shadow, fitting .map, passed .pages-below, frames-small)
 
   pub vector-ready : (length bytes ≡ 8 + 4 * policyOf bytes .count) × (l .exclusion ≡ vectorBytes (policyOf bytes .frames))
-      × (policyOf bytes .frames ≤ 4096) × (allBelow 4096 (policyOf bytes .backing) ≡ true)
-  vector-ready = (long, fitting .exclusion, passed .frames-high, backing-below)
+      × (policyOf bytes .frames ≤ 4096) × (allBelow 4096 (policyOf bytes .listedFrames) ≡ true)
+  vector-ready = (long, fitting .exclusion, passed .frames-high, frames-small)
 
-  pub answer-ready : (length bytes ≡ 8 + 4 * policyOf bytes .count) × (policyOf bytes .entries ≤ 16)
-      × (policyOf bytes .entries ≤ policyOf bytes .count) × (1 ≤ policyOf bytes .count)
-  answer-ready = (long, passed .entries-high, passed .entries-listed, passed .count-low)
+  pub answer-ready : (length bytes ≡ 8 + 4 * policyOf bytes .count) × (policyOf bytes .entryCount ≤ 16)
+      × (policyOf bytes .entryCount ≤ policyOf bytes .count) × (1 ≤ policyOf bytes .count)
+  answer-ready = (long, passed .entry-count-high, passed .entry-count-listed, passed .count-low)
 
 -- The two answers. A refused start leaves the tables as they were.
 module _ (given : Givens) (bytes : List ℕ) (t : Tables) (question : ℕ) (r : Called)
     (asked : question ≡ firstNo (startQuestions given bytes (policyOf bytes) (lengthsOf t))) where
-  pub start-refuses : (question ≡ 0 → ⊥) → r ≡ refusedWith question → outcomeBy r t ≡ startOf given bytes t
-  unfolding startOf outcomeBy refusedWith replyOf
+  pub start-refuses : (question ≡ 0 → ⊥) → r ≡ refusedStart question → outcomeBy r t ≡ startOf given bytes t
+  unfolding startOf outcomeBy refusedStart replyOf
   start-refuses named e = rw e (sym (settle-refused-by question _ _ named (sym asked)))
 
-  pub start-accepts : (shadow map exclusion : List ℕ) → question ≡ 0 → r ≡ acceptedOn given bytes → shadow ≡ startTables (policyOf bytes) .shadow
+  pub start-accepts : (shadow map exclusion : List ℕ) → question ≡ 0 → r ≡ acceptedStart given bytes → shadow ≡ startTables (policyOf bytes) .shadow
       → map ≡ startTables (policyOf bytes) .map → exclusion ≡ startTables (policyOf bytes) .exclusion
       → outcomeBy r (tables shadow map exclusion) ≡ startOf given bytes t
-  unfolding startOf outcomeBy acceptedOn replyOf startGuard
+  unfolding startOf outcomeBy acceptedStart replyOf startGuard
   start-accepts shadow map exclusion none e es em ex = rw (e, es, em, ex) (sym (settle-accepted _ _ (sym asked ∙ none)))

@@ -15,18 +15,18 @@ use Rattle.model.specs.Questions.{allBelow}
 use Rattle.model.proofs.TableLaws.{table-same, set-table, take-table, table-const}
 use Rattle.model.proofs.PolicyLaws.{getD-numbersAt, allBelow-head, allBelow-tail, frameFor-map}
 use Rattle.model.proofs.VectorLaws.{withBit-length, withBit-vectorOf}
-use Rattle.start.specs.Start.{placed, approvedEach, withEach, entryTable}
+use Rattle.start.specs.Start.{storedEach, approvedEach, withEach, entryTable}
 
 -- Places set in a table: at each place the value listed for it, or what stood there.
-placed-table : (places values : List ℕ) (count : ℕ) (f : ℕ → ℕ) → placed places values (table count f) ≡ table count (λ q. frameFor places values q (f q))
-unfolding placed frameFor
-placed-table [] values count f = refl
-placed-table (p ∷ places) [] count f = refl
-placed-table (p ∷ places) (v ∷ values) count f =
-    rw (set-table count f p v) (placed-table places values count (λ q. cond (eqb q p) v (f q)))
+stored-table : (places values : List ℕ) (count : ℕ) (f : ℕ → ℕ) → storedEach places values (table count f) ≡ table count (λ q. frameFor places values q (f q))
+unfolding storedEach frameFor
+stored-table [] values count f = refl
+stored-table (p ∷ places) [] count f = refl
+stored-table (p ∷ places) (v ∷ values) count f =
+    rw (set-table count f p v) (stored-table places values count (λ q. cond (eqb q p) v (f q)))
 
-map-set : (places frames : List ℕ) (count : ℕ) → placed places frames (replicate count none) ≡ table count (λ p. frameFor places frames p none)
-map-set places frames count = rw (table-const count none) (placed-table places frames count (λ _. none))
+map-set : (places frames : List ℕ) (count : ℕ) → storedEach places frames (replicate count none) ≡ table count (λ p. frameFor places frames p none)
+map-set places frames count = rw (table-const count none) (stored-table places frames count (λ _. none))
 
 -- No listed frame is 65535, so the entry of each is the approved one.
 first-approved : (f : ℕ) → f < none → approved false f ≡ firstEntry f
@@ -41,11 +41,11 @@ all-approved (f ∷ frames) h =
     rw (all-approved frames (allBelow-tail 4096 f frames h), first-approved f (omega arith))
 
 shadow-set : (places frames : List ℕ) (count : ℕ) → allBelow 4096 frames ≡ true
-    → placed places (approvedEach frames) (replicate count 0) ≡ table count (λ p. firstEntry (frameFor places frames p none))
+    → storedEach places (approvedEach frames) (replicate count 0) ≡ table count (λ p. firstEntry (frameFor places frames p none))
 unfolding firstEntry
 shadow-set places frames count h =
     rw (all-approved frames h, table-const count 0)
-    (placed-table places (map firstEntry frames) count (λ _. 0) ∙ table-same count _ _ (λ p below. frameFor-map firstEntry places frames p none))
+    (stored-table places (map firstEntry frames) count (λ _. 0) ∙ table-same count _ _ (λ p below. frameFor-map firstEntry places frames p none))
 
 -- Frames excluded in a vector: each of them, and those that were.
 either-later : (a b c : Bool) → either b (cond a true c) ≡ either (either a b) c
@@ -89,44 +89,44 @@ either-none false = refl
 
 -- The tables by the policy that was read, as the loops leave them.
 module _ (bytes : List ℕ) (count : ℕ) (read : count ≡ numberAt bytes 4) where
-  listed-is : numbersAt bytes 8 count ≡ policyOf bytes .listed
+  pages-are : numbersAt bytes 8 count ≡ policyOf bytes .listedPages
   unfolding policyOf
-  listed-is = rw read refl
+  pages-are = rw read refl
 
-  backing-is : numbersAt bytes (8 + 2 * count) count ≡ policyOf bytes .backing
+  frames-are : numbersAt bytes (8 + 2 * count) count ≡ policyOf bytes .listedFrames
   unfolding policyOf
-  backing-is = rw read refl
+  frames-are = rw read refl
 
   pub numbers-inside : length bytes ≡ 8 + 4 * policyOf bytes .count → 8 + 4 * count ≤ length bytes
   unfolding policyOf
   numbers-inside l = omega arith
 
-  pub pages-inside : (t t₀ : List ℕ) → length t ≡ length t₀ → length t₀ ≡ policyOf bytes .pages → allBelow (policyOf bytes .pages) (policyOf bytes .listed) ≡ true
+  pub pages-inside : (t t₀ : List ℕ) → length t ≡ length t₀ → length t₀ ≡ policyOf bytes .pages → allBelow (policyOf bytes .pages) (policyOf bytes .listedPages) ≡ true
       → allBelow (length t) (numbersAt bytes 8 count) ≡ true
-  pages-inside t t₀ e l h = rw (listed-is, e, l) h
+  pages-inside t t₀ e l h = rw (pages-are, e, l) h
 
-  pub shadow-is : (t t′ : List ℕ) (n : ℕ) → n ≡ policyOf bytes .pages → allBelow 4096 (policyOf bytes .backing) ≡ true → t ≡ replicate n 0
-      → t′ ≡ placed (numbersAt bytes 8 count) (approvedEach (numbersAt bytes (8 + 2 * count) count)) t → t′ ≡ startTables (policyOf bytes) .shadow
+  pub shadow-is : (t t′ : List ℕ) (n : ℕ) → n ≡ policyOf bytes .pages → allBelow 4096 (policyOf bytes .listedFrames) ≡ true → t ≡ replicate n 0
+      → t′ ≡ storedEach (numbersAt bytes 8 count) (approvedEach (numbersAt bytes (8 + 2 * count) count)) t → t′ ≡ startTables (policyOf bytes) .shadow
   unfolding startTables approvalFor
   shadow-is t t′ n l h e e′ =
-      e′ ∙ rw (e, l, listed-is, backing-is) (shadow-set (policyOf bytes .listed) (policyOf bytes .backing) (policyOf bytes .pages) h)
+      e′ ∙ rw (e, l, pages-are, frames-are) (shadow-set (policyOf bytes .listedPages) (policyOf bytes .listedFrames) (policyOf bytes .pages) h)
 
   pub map-is : (t t′ : List ℕ) (n : ℕ) → n ≡ policyOf bytes .pages → t ≡ replicate n 65535
-      → t′ ≡ placed (numbersAt bytes 8 count) (numbersAt bytes (8 + 2 * count) count) t → t′ ≡ startTables (policyOf bytes) .map
+      → t′ ≡ storedEach (numbersAt bytes 8 count) (numbersAt bytes (8 + 2 * count) count) t → t′ ≡ startTables (policyOf bytes) .map
   unfolding startTables approvalFor
-  map-is t t′ n l e e′ = e′ ∙ rw (e, l, listed-is, backing-is) (map-set (policyOf bytes .listed) (policyOf bytes .backing) (policyOf bytes .pages))
+  map-is t t′ n l e e′ = e′ ∙ rw (e, l, pages-are, frames-are) (map-set (policyOf bytes .listedPages) (policyOf bytes .listedFrames) (policyOf bytes .pages))
 
   pub vector-is : (buffer t′ : List ℕ) (n : ℕ) → n ≡ vectorBytes (policyOf bytes .frames) → policyOf bytes .frames ≤ 4096
-      → allBelow 4096 (policyOf bytes .backing) ≡ true → buffer ≡ withEach (numbersAt bytes (8 + 2 * count) count) (replicate 512 0)
+      → allBelow 4096 (policyOf bytes .listedFrames) ≡ true → buffer ≡ withEach (numbersAt bytes (8 + 2 * count) count) (replicate 512 0)
       → t′ ≡ take n buffer → t′ ≡ startTables (policyOf bytes) .exclusion
   unfolding startTables named
   vector-is buffer t′ n l f h e e′ =
-      e′ ∙ (rw (e, l, backing-is) (ap (λ (v : List ℕ). take (vectorBytes (policyOf bytes .frames)) (withEach (policyOf bytes .backing) v)) room
-      ∙ (ap (take (vectorBytes (policyOf bytes .frames))) (each-vector 4096 (policyOf bytes .backing) (λ _. false) h)
-      ∙ (vector-take (policyOf bytes .frames) 4096 _ f ∙ ap (vectorOf (policyOf bytes .frames)) (fun-ext (λ g. either-none (member g (policyOf bytes .backing))))))))
+      e′ ∙ (rw (e, l, frames-are) (ap (λ (v : List ℕ). take (vectorBytes (policyOf bytes .frames)) (withEach (policyOf bytes .listedFrames) v)) room
+      ∙ (ap (take (vectorBytes (policyOf bytes .frames))) (each-vector 4096 (policyOf bytes .listedFrames) (λ _. false) h)
+      ∙ (vector-take (policyOf bytes .frames) 4096 _ f ∙ ap (vectorOf (policyOf bytes .frames)) (fun-ext (λ g. either-none (member g (policyOf bytes .listedFrames))))))))
 
 -- Sixteen entry pages, of which as many as there are entries are listed pages; and the first listed page.
-pub entries-are : (bytes : List ℕ) (entries : ℕ) → entries ≡ numberAt bytes 6 → policyOf bytes .entries ≤ policyOf bytes .count
+pub entries-are : (bytes : List ℕ) (entries : ℕ) → entries ≡ numberAt bytes 6 → policyOf bytes .entryCount ≤ policyOf bytes .count
     → entryTable bytes entries ≡ entryPages (policyOf bytes)
 unfolding policyOf entryTable entryPages
 entries-are bytes entries e h = rw e (table-same 16 _ _ (λ i below. at i (ltb i (numberAt bytes 6)) refl))
@@ -138,6 +138,6 @@ entries-are bytes entries e h = rw e (table-same 16 _ _ (λ i below. at i (ltb i
         rw t (sym (getD-numbersAt bytes 8 (numberAt bytes 4) i (omega arith)))
     at i false t = rw t refl
 
-pub first-is : (bytes : List ℕ) → 1 ≤ policyOf bytes .count → numberAt bytes 8 ≡ getD (policyOf bytes .listed) 0 0
+pub first-is : (bytes : List ℕ) → 1 ≤ policyOf bytes .count → numberAt bytes 8 ≡ getD (policyOf bytes .listedPages) 0 0
 unfolding policyOf
 first-is bytes h = sym (getD-numbersAt bytes 8 (numberAt bytes 4) 0 h)

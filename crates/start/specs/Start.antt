@@ -13,17 +13,17 @@ use Rattle.model.specs.Policy.{Givens, numberAt, policyOf, startState, zeroStat
 use Rattle.model.specs.Bits.{approved}
 
 -- A refused start, and an accepted one of what it is given on these bytes.
-unfoldable pub refusedWith : ℕ → Called
-refusedWith number = record { answer = Refused number; state = zeroState }
+unfoldable pub refusedStart : ℕ → Called
+refusedStart number = record { answer = Refused number; state = zeroState }
 
-unfoldable pub acceptedOn : Givens → List ℕ → Called
-acceptedOn given bytes = record { answer = Done (policyOf bytes .count) (policyOf bytes .entries); state = startState given (policyOf bytes) }
+unfoldable pub acceptedStart : Givens → List ℕ → Called
+acceptedStart given bytes = record { answer = Done (policyOf bytes .count) (policyOf bytes .entryCount); state = startState given (policyOf bytes) }
 
 -- The table with a value stored at each of the places, in their order.
-unfoldable pub placed : List ℕ → List ℕ → List ℕ → List ℕ
-placed [] values t = t
-placed (p ∷ places) [] t = t
-placed (p ∷ places) (v ∷ values) t = placed places values (set t p v)
+unfoldable pub storedEach : List ℕ → List ℕ → List ℕ → List ℕ
+storedEach [] values t = t
+storedEach (p ∷ places) [] t = t
+storedEach (p ∷ places) (v ∷ values) t = storedEach places values (set t p v)
 
 -- The approved entry of each frame, in kernel mode.
 unfoldable pub approvedEach : List ℕ → List ℕ

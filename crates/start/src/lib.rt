@@ -9,7 +9,7 @@ ghost use Rattle.model.specs.Keeps.{tables, vectorBytes};
 ghost use Rattle.model.specs.Policy.{nothingGiven, numbersAt, policyOf, startTables};
 ghost use Rattle.model.specs.Questions.{firstNo, allBelow, lengths, startQuestions};
 ghost use Rattle.model.specs.Calls.{outcomeBy, startOf};
-ghost use Rattle.start.specs.Start.{refusedWith, acceptedOn, placed, approvedEach, withEach, entryTable};
+ghost use Rattle.start.specs.Start.{refusedStart, acceptedStart, storedEach, approvedEach, withEach, entryTable};
 use model::Answer;
 use model::Called;
 use model::Mode;
@@ -43,12 +43,12 @@ fn clear_map(map: &mut [u16])
 
 // The listed places of both tables. Question 4 has put every number inside the record and question 5 every listed page inside the tables,
 // so no index is tested again.
-fn set_places(bytes: &[u8], count: u16, shadow: &mut [u64], map: &mut [u16])
+fn set_listed(bytes: &[u8], count: u16, shadow: &mut [u64], map: &mut [u16])
     requires { ⌜ (8 + 4 * count ≤ length (now bytes)) × (allBelow (length (now shadow)) (numbersAt (now bytes) 8 count) ≡ true)
         × (length (now map) ≡ length (now shadow)) ⌝ }
-    ensures { λ _. ⌜ (now (shadow .exit) ≡ placed (numbersAt (now (bytes .entry)) 8 count)
+    ensures { λ _. ⌜ (now (shadow .exit) ≡ storedEach (numbersAt (now (bytes .entry)) 8 count)
         (approvedEach (numbersAt (now (bytes .entry)) (8 + 2 * count) count)) (now (shadow .entry)))
-        × (now (map .exit) ≡ placed (numbersAt (now (bytes .entry)) 8 count)
+        × (now (map .exit) ≡ storedEach (numbersAt (now (bytes .entry)) 8 count)
         (numbersAt (now (bytes .entry)) (8 + 2 * count) count) (now (map .entry))) ⌝ }
 {
     let mut page_at = PAGES;
@@ -95,14 +95,14 @@ fn copy_front(from: &[u8], to: &mut [u8])
 fn set_pages(bytes: &[u8], shadow: &mut [u64], map: &mut [u16])
     requires { ⌜ (length (now bytes) ≡ 8 + 4 * policyOf (now bytes) .count)
         × (length (now shadow) ≡ policyOf (now bytes) .pages) × (length (now map) ≡ policyOf (now bytes) .pages)
-        × (allBelow (policyOf (now bytes) .pages) (policyOf (now bytes) .listed) ≡ true)
-        × (allBelow 4096 (policyOf (now bytes) .backing) ≡ true) ⌝ }
+        × (allBelow (policyOf (now bytes) .pages) (policyOf (now bytes) .listedPages) ≡ true)
+        × (allBelow 4096 (policyOf (now bytes) .listedFrames) ≡ true) ⌝ }
     ensures { λ _. ⌜ (now (shadow .exit) ≡ startTables (policyOf (now (bytes .entry))) .shadow)
         × (now (map .exit) ≡ startTables (policyOf (now (bytes .entry))) .map) ⌝ }
 {
     clear_shadow(shadow);
     clear_map(map);
-    set_places(bytes, policy::number_from(bytes, 4), shadow, map);
+    set_listed(bytes, policy::number_from(bytes, 4), shadow, map);
 }
 
 // The exclusion vector. The bits are gathered in a buffer with room for 4,096 frames, and copied.
@@ -110,7 +110,7 @@ fn set_pages(bytes: &[u8], shadow: &mut [u64], map: &mut [u16])
 fn set_vector(bytes: &[u8], exclusion: &mut [u8])
     requires { ⌜ (length (now bytes) ≡ 8 + 4 * policyOf (now bytes) .count)
         × (length (now exclusion) ≡ vectorBytes (policyOf (now bytes) .frames))
-        × (policyOf (now bytes) .frames ≤ 4096) × (allBelow 4096 (policyOf (now bytes) .backing) ≡ true) ⌝ }
+        × (policyOf (now bytes) .frames ≤ 4096) × (allBelow 4096 (policyOf (now bytes) .listedFrames) ≡ true) ⌝ }
     ensures { λ _. ⌜ now (exclusion .exit) ≡ startTables (policyOf (now (bytes .entry))) .exclusion ⌝ }
 {
     let mut buffer = [0u8; 512];
@@ -119,13 +119,13 @@ fn set_vector(bytes: &[u8], exclusion: &mut [u8])
 }
 
 // Question 3 has bounded the entries by sixteen, the array's length, and question 4 has put the pages inside the record.
-fn entry_pages(bytes: &[u8], entries: u16) -> [u16; 16]
-    requires { ⌜ (entries ≤ 16) × (8 + 2 * entries ≤ length (now bytes)) ⌝ }
-    ensures { λ r. ⌜ r ≡ entryTable (now (bytes .entry)) entries ⌝ }
+fn entry_pages(bytes: &[u8], entry_count: u16) -> [u16; 16]
+    requires { ⌜ («entry_count» ≤ 16) × (8 + 2 * «entry_count» ≤ length (now bytes)) ⌝ }
+    ensures { λ r. ⌜ r ≡ entryTable (now (bytes .entry)) «entry_count» ⌝ }
 {
     let mut pages = [0u16; 16];
     let mut i = 0;
-    while i < entries {
+    while i < entry_count {
         pages[i as usize] = policy::number_from(bytes, PAGES + 2 * i as usize);
         i += 1;
     }
@@ -133,37 +133,37 @@ fn entry_pages(bytes: &[u8], entries: u16) -> [u16; 16]
 }
 
 // A refused start has no state to keep: zeros, in user mode on page 0.
-fn refused(number: u64) -> Called
-    ensures { λ r. ⌜ r ≡ refusedWith number ⌝ }
+fn refused_start(number: u64) -> Called
+    ensures { λ r. ⌜ r ≡ refusedStart number ⌝ }
 {
     Called {
         answer: Answer::Refused(number),
         state: State {
             pages: 0,
             frames: 0,
-            entries: 0,
-            entry: [0u16; 16],
+            entry_count: 0,
+            entry_pages: [0u16; 16],
             mode: Mode::User(0),
         },
     }
 }
 
 // An accepted start stands in kernel mode on the first entry page. Questions 3 and 4 have shown what is required.
-fn accepted(bytes: &[u8]) -> Called
-    requires { ⌜ (length (now bytes) ≡ 8 + 4 * policyOf (now bytes) .count) × (policyOf (now bytes) .entries ≤ 16)
-        × (policyOf (now bytes) .entries ≤ policyOf (now bytes) .count) × (1 ≤ policyOf (now bytes) .count) ⌝ }
-    ensures { λ r. ⌜ r ≡ acceptedOn nothingGiven (now (bytes .entry)) ⌝ }
+fn accepted_start(bytes: &[u8]) -> Called
+    requires { ⌜ (length (now bytes) ≡ 8 + 4 * policyOf (now bytes) .count) × (policyOf (now bytes) .entryCount ≤ 16)
+        × (policyOf (now bytes) .entryCount ≤ policyOf (now bytes) .count) × (1 ≤ policyOf (now bytes) .count) ⌝ }
+    ensures { λ r. ⌜ r ≡ acceptedStart nothingGiven (now (bytes .entry)) ⌝ }
 {
     let count = policy::number_from(bytes, 4);
-    let entries = policy::number_from(bytes, 6);
-    let entry = entry_pages(bytes, entries);
+    let entry_count = policy::number_from(bytes, 6);
+    let pages = entry_pages(bytes, entry_count);
     Called {
-        answer: Answer::Done(count as u64, entries as u64),
+        answer: Answer::Done(count as u64, entry_count as u64),
         state: State {
             pages: policy::number_from(bytes, 0),
             frames: policy::number_from(bytes, 2),
-            entries,
-            entry,
+            entry_count,
+            entry_pages: pages,
             mode: Mode::Kernel(policy::number_from(bytes, PAGES)),
         },
     }
@@ -191,9 +191,9 @@ pub fn start(bytes: &[u8], shadow: &mut [u64], map: &mut [u16], exclusion: &mut 
 {
     let refusal = start_question(bytes, shadow.len(), map.len(), exclusion.len());
     if refusal != 0 {
-        return refused(refusal);
+        return refused_start(refusal);
     }
     set_pages(bytes, shadow, map);
     set_vector(bytes, exclusion);
-    accepted(bytes)
+    accepted_start(bytes)
 }

@@ -18,14 +18,14 @@ use Rattle.model.specs.declared.Answer.the-variants.{Done, Refused}
 use Rattle.model.specs.Basics.{differs}
 use Rattle.model.specs.Keeps.{none, Tables, withThree, Guard, guardOf, vectorBytes, inUser}
 use Rattle.model.specs.Bits.{fieldsOf, takenApart, approved, ordinary}
-use Rattle.model.specs.Sync.{Rules, Place, place, stepOf, step, Sweep, sweep, sweepFrom, entryIn, stepFrom}
+use Rattle.model.specs.Sync.{Rules, Slot, slot, stepOf, step, Sweep, sweep, sweepFrom, entryIn, stepFrom}
 use Rattle.model.specs.Questions.{stateInOrder, inOrder, syncAllQuestions, syncPageQuestions}
 use Rattle.model.specs.Calls.{replyOf, outcomeBy, keptBy, rulesOf, pageSynced, allSynced, syncPage, syncAll, questionsOf, effectOf, answer}
 use Rattle.model.proofs.BitLaws.{taken-apart}
 use Rattle.model.proofs.StateLaws.{in-order}
 use Rattle.model.proofs.CallLaws.{passed, stopped, none-left, refused-by, accepted-by}
 use Rattle.model.proofs.SweepLaws.{getD-inside, whole, whole-more, whole-over}
-use Rattle.sync.specs.Steps.{rules, stored}
+use Rattle.sync.specs.Steps.{rulesBy, stored}
 
 -- The fields of a present entry.
 held : Fields → Entry → Fields
@@ -42,25 +42,25 @@ fields-apart k x p = by (taken-apart k)
 
 -- Steps 1 to 5.
 module _ (r : Rules) (k a : ℕ) (e : Entry) (apart : e ≡ takenApart k) where
-  pub step-absent : e ≡ Absent → place 0 a ≡ step r k a
+  pub step-absent : e ≡ Absent → slot 0 a ≡ step r k a
   unfolding step stepOf
   step-absent p = rw (← apart, p)
 
-  pub step-approved : (x : Fields) (n : ℕ) → e ≡ Present x → (a ≡ 65535 → ⊥) → n ≡ approved (r .user) a → place n a ≡ step r k a
+  pub step-approved : (x : Fields) (n : ℕ) → e ≡ Present x → (a ≡ 65535 → ⊥) → n ≡ approved (r .user) a → slot n a ≡ step r k a
   unfolding step stepOf
   step-approved x n p q s = rw (← apart, p, ne-eqb a none q, s)
 
-  pub step-above : (x : Fields) → e ≡ Present x → a ≡ 65535 → r .frames ≤ x .frame → place 0 a ≡ step r k a
+  pub step-above : (x : Fields) → e ≡ Present x → a ≡ 65535 → r .frames ≤ x .frame → slot 0 a ≡ step r k a
   unfolding step stepOf
   step-above x p q l = rw (← apart, p, eq-eqb a none q, le-leb (r .frames) (x .frame) l)
 
   pub step-excluded : (x : Fields) (n : ℕ) (b : Bool) → e ≡ Present x → a ≡ 65535 → x .frame < r .frames → b ≡ r .excluded (x .frame) → b ≡ true
-      → n ≡ approved (r .user) (x .frame) → place n (x .frame) ≡ step r k a
+      → n ≡ approved (r .user) (x .frame) → slot n (x .frame) ≡ step r k a
   unfolding step stepOf
   step-excluded x n b p q l s t u = rw (← apart, p, eq-eqb a none q, lt-leb (r .frames) (x .frame) l, ← s, t, u)
 
   pub step-ordinary : (x : Fields) (n : ℕ) (b : Bool) → e ≡ Present x → a ≡ 65535 → x .frame < r .frames → b ≡ r .excluded (x .frame) → b ≡ false
-      → n ≡ ordinary (r .user) (fieldsOf k) → place n a ≡ step r k a
+      → n ≡ ordinary (r .user) (fieldsOf k) → slot n a ≡ step r k a
   unfolding step stepOf
   step-ordinary x n b p q l s t u =
       rw (← apart, p, eq-eqb a none q, lt-leb (r .frames) (x .frame) l, ← s, t, u, fields-apart k x (sym apart ∙ p))
@@ -82,8 +82,8 @@ pub other-counts : (n a b : ℕ) → (a ≡ b → ⊥) → n + 1 ≡ n + differs
 unfolding differs
 other-counts n a b p = rw (ne-eqb a b p)
 
--- A page's place stored in both tables.
-pub stored-step : (p : Place) (i e a changed joined x y : ℕ) (shadow map shadow′ map′ : List ℕ) → place e a ≡ p
+-- A page's slot stored in both tables.
+pub stored-step : (p : Slot) (i e a changed joined x y : ℕ) (shadow map shadow′ map′ : List ℕ) → slot e a ≡ p
     → shadow′ ≡ set shadow i e → map′ ≡ set map i a → x ≡ changed + differs (getD shadow i 0) e → y ≡ joined + differs (getD map i 0) a
     → sweep shadow′ map′ x y ≡ stored i (sweep shadow map changed joined) p
 unfolding stored
@@ -96,7 +96,7 @@ pub sweep-more : (r : Rules) (kernel : List ℕ) (i : ℕ) (shadow map shadow′
     → whole (stepFrom r (entryIn kernel)) (i + 1) (sweep shadow′ map′ x y) ≡ all
 unfolding stored stepFrom
 sweep-more r kernel i shadow map shadow′ map′ changed joined x y all inv l ls lm p =
-    let q : Place = step r (getD kernel i 0) (getD map i 0) in
+    let q : Slot = step r (getD kernel i 0) (getD map i 0) in
     rw p (whole-more (stepFrom r (entryIn kernel)) i shadow map changed joined (q .entry) (q .approval) _ _ all inv (omega arith) (omega arith) refl refl refl)
 
 pub sweep-over : (r : Rules) (kernel : List ℕ) (i : ℕ) (shadow map : List ℕ) (changed joined : ℕ) (all : Sweep)
@@ -157,7 +157,7 @@ module _ (s : State) (kernel shadow map exclusion : List ℕ) (r : Bool)
 
   module _ (yes7 : not r ≡ false) where
     pub all-accepted : (u v : Bool) (shadow′ map′ : List ℕ) (x y : ℕ) → u ≡ inUser (s .mode) → u ≡ v
-        → sweep shadow′ map′ x y ≡ sweepFrom (stepFrom (rules v (s .frames) exclusion) (entryIn kernel)) 0 shadow map → (t : Tables)
+        → sweep shadow′ map′ x y ≡ sweepFrom (stepFrom (rulesBy v (s .frames) exclusion) (entryIn kernel)) 0 shadow map → (t : Tables)
         → keptBy (Done x y) s (withThree shadow′ map′ exclusion t) ≡ answer (guard t) (syncAll kernel)
     unfolding questionsOf syncAllQuestions effectOf allSynced outcomeBy replyOf
     all-accepted u v shadow′ map′ x y q i p t =
@@ -171,12 +171,12 @@ module _ (s : State) (kernel shadow map exclusion : List ℕ) (r : Bool)
           refused-by (guard t) (syncPage kernel page) _ 9 (sym (passed 7 9 r _ _ asked yes7 (stopped 9 b _ _ exists p))) (λ z. omega arith) refl refl
 
       pub page-accepted : (u : Bool) (shadow′ map′ : List ℕ) (x y : ℕ) → not b ≡ false → u ≡ inUser (s .mode)
-          → sweep shadow′ map′ x y ≡ stored page (sweep shadow map 0 0) (step (rules u (s .frames) exclusion) (getD kernel page 0) (getD map page 0)) → (t : Tables)
+          → sweep shadow′ map′ x y ≡ stored page (sweep shadow map 0 0) (step (rulesBy u (s .frames) exclusion) (getD kernel page 0) (getD map page 0)) → (t : Tables)
           → keptBy (Done x y) s (withThree shadow′ map′ exclusion t) ≡ answer (guard t) (syncPage kernel page)
       unfolding questionsOf syncPageQuestions effectOf stepFrom pageSynced allSynced stored outcomeBy replyOf
       page-accepted u shadow′ map′ x y there q p t =
           let inside : page < length map = page-in-map s (length kernel) (length shadow) (length map) (length exclusion) r asked yes7 page b exists there in
-          let z : Place = step (rulesOf s exclusion) (getD kernel page 0) (getD map page none) in
+          let z : Slot = step (rulesOf s exclusion) (getD kernel page 0) (getD map page none) in
           let e
           : sweep shadow′ map′ x y ≡ sweep (set shadow page (z .entry)) (set map page (z .approval)) (differs (getD shadow page 0) (z .entry)) (differs (getD map page none) (z .approval))
           = simp zero-add at (rw (q, getD-inside map page 0 none inside) at p) in

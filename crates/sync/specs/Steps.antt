@@ -6,13 +6,13 @@ use mathlib.Core.List.{List}
 use lib.ListN.{getD, set}
 use Rattle.model.specs.Basics.{differs}
 use Rattle.model.specs.Keeps.{excludedIn}
-use Rattle.model.specs.Sync.{Rules, Place, Sweep, sweep}
+use Rattle.model.specs.Sync.{Rules, rules, Slot, Sweep, sweep}
 
-abbrev pub rules : Bool → ℕ → List ℕ → Rules
-rules user frames exclusion = record { user = user; frames = frames; excluded = excludedIn exclusion }
+abbrev pub rulesBy : Bool → ℕ → List ℕ → Rules
+rulesBy user frames exclusion = rules user frames (excludedIn exclusion)
 
--- The place p stored at page i of both tables, and counted where that changed them.
-unfoldable pub stored : ℕ → Sweep → Place → Sweep
+-- The slot p stored at page i of both tables, and counted where that changed them.
+unfoldable pub stored : ℕ → Sweep → Slot → Sweep
 stored i r p =
     sweep (set (r .shadow) i (p .entry)) (set (r .map) i (p .approval)) (r .changed + differs (getD (r .shadow) i 0) (p .entry))
     (r .joined + differs (getD (r .map) i 0) (p .approval))

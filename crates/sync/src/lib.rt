@@ -10,30 +10,30 @@ ghost use lib.ListN.{length, getD, set};
 ghost use Rattle.model.specs.Basics.{differs};
 ghost use Rattle.model.specs.Keeps.{Tables, withThree, guardOf, vectorBytes};
 ghost use Rattle.model.specs.Sync;
-ghost use Rattle.model.specs.Sync.{place, sweep, sweepFrom, entryIn, stepFrom};
+ghost use Rattle.model.specs.Sync.{slot, sweep, sweepFrom, entryIn, stepFrom};
 ghost use Rattle.model.specs.Calls.{keptBy, syncPage, syncAll, answer};
-ghost use Rattle.sync.specs.Steps.{rules, stored};
+ghost use Rattle.sync.specs.Steps.{rulesBy, stored};
 
 // The map's number for a page that has no frame approved.
 const NONE: u16 = 65535;
 
 // A page's shadow entry and its number in the map.
-struct Place {
+struct Slot {
     entry: u64,
     approval: u16,
 }
 
 // Steps 1 to 5 on a kernel entry and the page's number in the map. The vector has a bit for each frame below F, as question 7 has settled.
-fn step(user: bool, frames: u16, exclusion: &[u8], entry: u64, approval: u16) -> Place
+fn step(user: bool, frames: u16, exclusion: &[u8], entry: u64, approval: u16) -> Slot
     requires { ⌜ length (now exclusion) ≡ vectorBytes frames ⌝ }
-    ensures { λ r. ⌜ place (r .entry) (r .approval) ≡ Sync.step (rules user frames (now (exclusion .entry))) entry approval ⌝ }
+    ensures { λ r. ⌜ slot (r .entry) (r .approval) ≡ Sync.step (rulesBy user frames (now (exclusion .entry))) entry approval ⌝ }
 {
-    let empty = Place { entry: 0, approval };
+    let empty = Slot { entry: 0, approval };
     let Entry::Present(x) = entry::take_apart(entry) else {
         return empty;
     };
     if approval != NONE {
-        return Place {
+        return Slot {
             entry: entry::approved(user, approval),
             approval,
         };
@@ -43,12 +43,12 @@ fn step(user: bool, frames: u16, exclusion: &[u8], entry: u64, approval: u16) ->
     }
     if bitmap::excluded_within(exclusion, x.frame) {
         let frame = x.frame as u16;
-        return Place {
+        return Slot {
             entry: entry::approved(user, frame),
             approval: frame,
         };
     }
-    Place {
+    Slot {
         entry: entry::ordinary_of(user, entry),
         approval,
     }
@@ -103,12 +103,12 @@ fn sync_at(
         × (length (now exclusion) ≡ vectorBytes frames) ⌝ }
     ensures { λ r. ⌜ (sweep (now (shadow .exit)) (now (map .exit)) (r .changed) (r .joined)
         ≡ stored i (sweep (now (shadow .entry)) (now (map .entry)) (counts .changed) (counts .joined))
-        (Sync.step (rules user frames (now (exclusion .entry))) entry (getD (now (map .entry)) i 0)))
+        (Sync.step (rulesBy user frames (now (exclusion .entry))) entry (getD (now (map .entry)) i 0)))
         × (r .changed ≤ counts .changed + 1) × (r .joined ≤ counts .joined + 1) ⌝ }
 {
-    let place = step(user, frames, exclusion, entry, map[i]);
-    let joined = put_approval(map, i, place.approval, counts.joined);
-    let changed = put_entry(shadow, i, place.entry, counts.changed);
+    let slot = step(user, frames, exclusion, entry, map[i]);
+    let joined = put_approval(map, i, slot.approval, counts.joined);
+    let changed = put_entry(shadow, i, slot.entry, counts.changed);
     Counts { changed, joined }
 }
 
@@ -124,7 +124,7 @@ fn sync_pages(
     requires { ⌜ (length (now shadow) ≡ length (now kernel)) × (length (now map) ≡ length (now kernel))
         × (length (now exclusion) ≡ vectorBytes frames) ⌝ }
     ensures { λ r. ⌜ sweep (now (shadow .exit)) (now (map .exit)) (r .changed) (r .joined)
-        ≡ sweepFrom (stepFrom (rules user frames (now (exclusion .entry))) (entryIn (now (kernel .entry)))) 0 (now (shadow .entry)) (now (map .entry)) ⌝ }
+        ≡ sweepFrom (stepFrom (rulesBy user frames (now (exclusion .entry))) (entryIn (now (kernel .entry)))) 0 (now (shadow .entry)) (now (map .entry)) ⌝ }
 {
     let mut counts = Counts {
         changed: 0,

@@ -22,8 +22,8 @@ use Rattle.model.specs.Questions.{firstNo}
 use Rattle.model.specs.Calls.{Outcome, refused, replyOf, outcomeBy, settle, answer}
 use Rattle.model.specs.Drill.{policyExtent, kindOf, indexOf, lengthOf, valueOf, edited, callOf, withGuard, performed, line, startLine, turnOf, turn}
 use Rattle.model.proofs.QuestionLaws.{within-high}
-use Rattle.turns.specs.declared.Turned.{Turned}
-use Rattle.turns.specs.Turns.{drillOf, editedBy, performedBy, turnedBy, openingOf, openedBy, pagesLent, bytesLent, goesOn, leftAfter}
+use Rattle.turns.specs.declared.TurnResult.{TurnResult}
+use Rattle.turns.specs.Turns.{drillOf, editedBy, performedBy, turnBy, openingOf, openedBy, pagesLent, bytesLent, goesOn, leftAfter}
 
 -- The policy's extent, with n in its range and outside.
 pub extent-more : {count : ℕ} {t : Bool} (input : List ℕ) → count ≡ numberAt input 4 → t ≡ within 1 2048 count → t ≡ true → 8 + 4 * count ≡ policyExtent input
@@ -138,22 +138,22 @@ module _ (s : State) (kernel : List ℕ) (t : Tables) (kind index length value :
 -- A turn: of no bytes, of too few or too many, of no kind, and of a call.
 module _ (s : State) (kernel : List ℕ) (t : Tables) where
   pub turn-none : (call : List ℕ) (l : Line) → length call ≡ 0 → text l ≡ []
-      → turnedBy (record { state = s; line = l; goes = false }) kernel t ≡ turn (drillOf (guardOf s t) kernel) call
-  unfolding turn turnedBy
+      → turnBy (record { state = s; line = l; goes = false }) kernel t ≡ turn (drillOf (guardOf s t) kernel) call
+  unfolding turn turnBy
   turn-none [] l p e = rw e
   turn-none (kind ∷ rest) l p e = absurd (let q : ⊥ = omega arith in q)
 
-  pub turn-cut : (call : List ℕ) (r : Turned) → (length call ≡ 0 → ⊥) → (length call ≡ 16 → ⊥) → r .state ≡ s
+  pub turn-cut : (call : List ℕ) (r : TurnResult) → (length call ≡ 0 → ⊥) → (length call ≡ 16 → ⊥) → r .state ≡ s
       → text (r .line) ≡ line 88 (refused 14) (s .mode) → r .goes ≡ false
-      → turnedBy r kernel t ≡ turn (drillOf (guardOf s t) kernel) call
-  unfolding turn turnedBy kindOf firstNo settle
+      → turnBy r kernel t ≡ turn (drillOf (guardOf s t) kernel) call
+  unfolding turn turnBy kindOf firstNo settle
   turn-cut [] r p q e f g = absurd (p refl)
   turn-cut (kind ∷ rest) r p q e f g = rw (e, f, g, ne-eqb (length (kind ∷ rest)) 16 q)
 
-  pub turn-unknown : (call : List ℕ) (r : Turned) → (length call ≡ 0 → ⊥) → length call ≡ 16 → 7 < getD call 0 0 → r .state ≡ s
+  pub turn-unknown : (call : List ℕ) (r : TurnResult) → (length call ≡ 0 → ⊥) → length call ≡ 16 → 7 < getD call 0 0 → r .state ≡ s
       → text (r .line) ≡ line 88 (refused 15) (s .mode) → r .goes ≡ false
-      → turnedBy r kernel t ≡ turn (drillOf (guardOf s t) kernel) call
-  unfolding turn turnedBy kindOf firstNo settle
+      → turnBy r kernel t ≡ turn (drillOf (guardOf s t) kernel) call
+  unfolding turn turnBy kindOf firstNo settle
   turn-unknown [] r p q h e f g = absurd (p refl)
   turn-unknown (kind ∷ rest) r p q h e f g = rw (e, f, g, eq-eqb (length (kind ∷ rest)) 16 q, le-ltb kind 8 h)
 
@@ -161,9 +161,9 @@ module _ (s : State) (kernel : List ℕ) (t : Tables) where
       → length call ≡ 16 → getD call 0 0 ≤ 7 → index ≡ indexOf call → size ≡ lengthOf call → value ≡ valueOf call
       → performedBy r kernel′ t′ ≡ performed (drillOf (guardOf s t) kernel) (getD call 0 0) index size value
       → text l ≡ line (48 + getD call 0 0) (replyOf (r .answer)) (r .state .mode)
-      → turnedBy (record { state = r .state; line = l; goes = true }) kernel′ t′
+      → turnBy (record { state = r .state; line = l; goes = true }) kernel′ t′
       ≡ turn (drillOf (guardOf s t) kernel) call
-  unfolding turn turnedBy kindOf turnOf performedBy firstNo settle
+  unfolding turn turnBy kindOf turnOf performedBy firstNo settle
   turn-made [] r l kernel′ t′ index size value p q h a b c d f = absurd (p refl)
   turn-made (kind ∷ rest) r l kernel′ t′ index size value p q h a b c d f =
       rw (eq-eqb (length (kind ∷ rest)) 16 q, lt-ltb kind 8 (let k : kind < 8 = omega arith in k), ← a, ← b, ← c, ← d, f)

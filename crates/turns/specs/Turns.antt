@@ -13,7 +13,7 @@ use Rattle.model.specs.Policy.{nothingGiven, policyOf}
 use Rattle.model.specs.Calls.{Outcome, replyOf, startOf}
 use Rattle.model.specs.Drill.{Drill, Drilled, Turn, drillStart, startLine, turn, closing, callLines}
 use Rattle.lines.specs.Text.{text}
-use Rattle.turns.specs.declared.Turned.{Turned}
+use Rattle.turns.specs.declared.TurnResult.{TurnResult}
 
 abbrev pub drillOf : Guard → List ℕ → Drill
 drillOf g kernel = record { guard = g; kernel = kernel }
@@ -26,8 +26,8 @@ unfoldable pub performedBy : Called → List ℕ → Tables → Drilled
 performedBy r kernel t = record { reply = replyOf (r .answer); drill = drillOf (guardOf (r .state) t) kernel }
 
 -- What a turn leaves.
-unfoldable pub turnedBy : Turned → List ℕ → Tables → Turn
-turnedBy r kernel t = record { drill = drillOf (guardOf (r .state) t) kernel; line = text (r .line); goes = r .goes }
+unfoldable pub turnBy : TurnResult → List ℕ → Tables → Turn
+turnBy r kernel t = record { drill = drillOf (guardOf (r .state) t) kernel; line = text (r .line); goes = r .goes }
 
 -- The start's guard, its line, and whether calls follow it: "A refused start prints its line alone."
 pub record Opening : Type 0 where
@@ -38,7 +38,7 @@ pub record Opening : Type 0 where
 unfoldable pub openingOf : Outcome → Opening
 openingOf start = record { guard = start .guard; line = startLine start; goes = eqb (start .reply .number) 0 }
 
-unfoldable pub openedBy : Turned → Tables → Opening
+unfoldable pub openedBy : TurnResult → Tables → Opening
 openedBy r t = record { guard = guardOf (r .state) t; line = text (r .line); goes = r .goes }
 
 -- How many pages, and how many bytes of the exclusion vector, the start of a record is lent. A V or an F out of range lends nothing: question 2

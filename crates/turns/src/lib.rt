@@ -11,7 +11,7 @@ ghost use Rattle.model.specs.Calls.{refused, replyOf, outcomeBy, startOf, answe
 ghost use Rattle.model.specs.Drill;
 ghost use Rattle.model.specs.Drill.{callLimit, policyExtent, indexOf, lengthOf, valueOf, edited, callOf, performed, line};
 ghost use Rattle.lines.specs.Text.{text};
-ghost use Rattle.turns.specs.Turns.{drillOf, editedBy, performedBy, turnedBy, openingOf, openedBy, pagesLent, bytesLent, OpensAsDefined, goesOn, leftAfter, LoopsAsDefined};
+ghost use Rattle.turns.specs.Turns.{drillOf, editedBy, performedBy, turnBy, openingOf, openedBy, pagesLent, bytesLent, OpensAsDefined, goesOn, leftAfter, LoopsAsDefined};
 use lines::Line;
 use model::Answer;
 use model::Called;
@@ -53,14 +53,14 @@ pub fn bytes_lent(bytes: &[u8]) -> usize
 }
 
 // What a turn leaves beside the tables: the state, the line, and whether calls go on.
-pub struct Turned {
+pub struct TurnResult {
     pub state: State,
     pub line: Line,
     pub goes: bool,
 }
 
 // No question refused the call.
-fn accepted(answer: Answer) -> bool
+fn was_accepted(answer: Answer) -> bool
     ensures { λ r. ⌜ r ≡ eqb (replyOf answer .number) 0 ⌝ }
 {
     match answer {
@@ -70,7 +70,7 @@ fn accepted(answer: Answer) -> bool
 }
 
 // The start, with its line. Calls follow where it is accepted.
-pub fn open(bytes: &[u8], shadow: &mut [u64], map: &mut [u16], exclusion: &mut [u8]) -> Turned
+pub fn open(bytes: &[u8], shadow: &mut [u64], map: &mut [u16], exclusion: &mut [u8]) -> TurnResult
     ensures { λ r. ⌜ openedBy r (tables (now (shadow .exit)) (now (map .exit)) (now (exclusion .exit)))
         ≡ openingOf (startOf nothingGiven (now (bytes .entry)) (tables (now (shadow .entry)) (now (map .entry)) (now (exclusion .entry)))) ⌝ }
 {
@@ -78,10 +78,10 @@ pub fn open(bytes: &[u8], shadow: &mut [u64], map: &mut [u16], exclusion: &mut [
     let answer = started.answer;
     let state = started.state;
     let mode = state.mode;
-    Turned {
+    TurnResult {
         state,
         line: lines::call_line(b'S', answer, mode),
-        goes: accepted(answer),
+        goes: was_accepted(answer),
     }
 }
 
@@ -248,11 +248,11 @@ fn perform(
 }
 
 // The line X of question 14 or 15, which ends the calls.
-fn ended(s: State, number: u64) -> Turned
+fn ended(s: State, number: u64) -> TurnResult
     ensures { λ r. ⌜ (r .state ≡ s) × (text (r .line) ≡ line 88 (refused number) (s .mode)) × (r .goes ≡ false) ⌝ }
 {
     let mode = s.mode;
-    Turned {
+    TurnResult {
         state: s,
         line: lines::call_line(b'X', Answer::Refused(number), mode),
         goes: false,
@@ -267,13 +267,13 @@ pub fn turn(
     map: &mut [u16],
     exclusion: &[u8],
     call: &[u8],
-) -> Turned
-    ensures { λ r. ⌜ turnedBy r (now (kernel .exit)) (tables (now (shadow .exit)) (now (map .exit)) (now (exclusion .entry)))
+) -> TurnResult
+    ensures { λ r. ⌜ turnBy r (now (kernel .exit)) (tables (now (shadow .exit)) (now (map .exit)) (now (exclusion .entry)))
         ≡ Drill.turn (drillOf (guardOf s (tables (now (shadow .entry)) (now (map .entry)) (now (exclusion .entry)))) (now (kernel .entry)))
         (now (call .entry)) ⌝ }
 {
     if call.len() == 0 {
-        return Turned {
+        return TurnResult {
             state: s,
             line: lines::empty(),
             goes: false,
@@ -302,10 +302,10 @@ pub fn turn(
     );
     let answer = done.answer;
     let state = done.state;
-    let runs = state.mode;
-    Turned {
+    let mode = state.mode;
+    TurnResult {
         state,
-        line: lines::call_line(48 + kind, answer, runs),
+        line: lines::call_line(48 + kind, answer, mode),
         goes: true,
     }
 }

@@ -19,16 +19,16 @@ use Rattle.model.specs.Keeps.{inUser, running, modeOf, inMode}
 use Rattle.model.specs.Questions.{stateInOrder}
 use Rattle.model.proofs.QuestionLaws.{both-first, both-second, both-yes, both-no-after, within-high}
 use Rattle.model.proofs.TableLaws.{is-table, table-same}
-use Rattle.words.specs.Words.{stateWords, pagesAt, framesAt, entriesAt, entryAt, entryWords, modeAt, runningAt, widest}
-use Rattle.words.specs.Words.{narrow, field, entryPages, stateIn, modeWord, lastWords, wordsOf, withWords, pageWords, modeWords}
+use Rattle.words.specs.Words.{stateWords, pagesAt, framesAt, entryCountAt, entryPagesAt, entryWords, modeAt, runningAt, widest}
+use Rattle.words.specs.Words.{narrow, field, entryPagesIn, stateIn, modeWord, lastWords, wordsOf, withWords, pageWords, modeWords}
 use Rattle.words.proofs.WordLaws.{front-none, front-word, front-table, front-full, narrow-fits, narrow-wide, narrow-within, narrow-ltb}
 
 -- A run keeps its length where V, F and e are written before calls that keep it.
 pub sizes-kept : (run t : List ℕ) (a b d : ℕ) → length run ≡ stateWords
-    → length t ≡ length (set (set (set run pagesAt a) framesAt b) entriesAt d) → length t ≡ stateWords
+    → length t ≡ length (set (set (set run pagesAt a) framesAt b) entryCountAt d) → length t ≡ stateWords
 sizes-kept run t a b d e p = p ∙ simp length-set e
 
-pub words-kept : (run t u : List ℕ) (a b d : ℕ) → length t ≡ length (set (set (set run pagesAt a) framesAt b) entriesAt d) → length u ≡ length t
+pub words-kept : (run t u : List ℕ) (a b d : ℕ) → length t ≡ length (set (set (set run pagesAt a) framesAt b) entryCountAt d) → length u ≡ length t
     → length u ≡ length run
 words-kept run t u a b d p q = q ∙ (p ∙ simp length-set refl)
 
@@ -42,43 +42,43 @@ narrowed : (x : ℕ) → x < 65536 → narrow x ≡ x
 narrowed x h = sym (narrow-fits x (omega arith))
 
 -- A state is what its fields are.
-state-made : (s : State) (p f n : ℕ) (e : List ℕ) (m : Mode) → p ≡ s .pages → f ≡ s .frames → n ≡ s .entries → e ≡ s .entry → m ≡ s .mode
-    → record { pages = p; frames = f; entries = n; entry = e; mode = m } ≡ s
+state-made : (s : State) (p f n : ℕ) (e : List ℕ) (m : Mode) → p ≡ s .pages → f ≡ s .frames → n ≡ s .«entry_count» → e ≡ s .«entry_pages» → m ≡ s .mode
+    → record { pages = p; frames = f; «entry_count» = n; «entry_pages» = e; mode = m } ≡ s
 state-made s p f n e m a b c d h = rw (a, b, c, d, h) refl
 
 -- The words of a state decode to it where each fits its field.
-module _ (s : State) (long : length (s .entry) ≡ entryWords) where
-  entry-word : (i : ℕ) → i < entryWords → getD (wordsOf s) (entryAt + i) 0 ≡ getD (s .entry) i 0
+module _ (s : State) (long : length (s .«entry_pages») ≡ entryWords) where
+  entry-word : (i : ℕ) → i < entryWords → getD (wordsOf s) (entryPagesAt + i) 0 ≡ getD (s .«entry_pages») i 0
   unfolding wordsOf
-  entry-word i h = sym (getD-drop entryAt (wordsOf s) i 0) ∙ List·getD-append (s .entry) (lastWords s) 0 i (omega arith)
+  entry-word i h = sym (getD-drop entryPagesAt (wordsOf s) i 0) ∙ List·getD-append (s .«entry_pages») (lastWords s) 0 i (omega arith)
 
   last-word : (i : ℕ) → getD (wordsOf s) (modeAt + i) 0 ≡ getD (lastWords s) i 0
   unfolding wordsOf
-  last-word i = sym (getD-drop modeAt (wordsOf s) i 0) ∙ ap (λ (l : List ℕ). getD l i 0) (drop-at (s .entry) (lastWords s) entryWords long)
+  last-word i = sym (getD-drop modeAt (wordsOf s) i 0) ∙ ap (λ (l : List ℕ). getD l i 0) (drop-at (s .«entry_pages») (lastWords s) entryWords long)
 
   field-back : (at x : ℕ) → getD (wordsOf s) at 0 ≡ x → x < 65536 → field (wordsOf s) at ≡ x
   unfolding field
   field-back at x e h = ap narrow e ∙ narrowed x h
 
-  entries-back : ((i : ℕ) → Fits w16 (getD (s .entry) i 0)) → entryPages (wordsOf s) ≡ s .entry
-  unfolding entryPages
+  entries-back : ((i : ℕ) → Fits w16 (getD (s .«entry_pages») i 0)) → entryPagesIn (wordsOf s) ≡ s .«entry_pages»
+  unfolding entryPagesIn
   entries-back fits =
-      sym (is-table (s .entry) entryWords (λ i. field (wordsOf s) (entryAt + i)) long
-      (λ i h. sym (field-back (entryAt + i) (getD (s .entry) i 0) (entry-word i h) (fits i .fits))))
+      sym (is-table (s .«entry_pages») entryWords (λ i. field (wordsOf s) (entryPagesAt + i)) long
+      (λ i h. sym (field-back (entryPagesAt + i) (getD (s .«entry_pages») i 0) (entry-word i h) (fits i .fits))))
 
-  pub words-decoded : s .pages < 65536 → s .frames < 65536 → s .entries < 65536 → ((i : ℕ) → Fits w16 (getD (s .entry) i 0))
+  pub words-decoded : s .pages < 65536 → s .frames < 65536 → s .«entry_count» < 65536 → ((i : ℕ) → Fits w16 (getD (s .«entry_pages») i 0))
       → running (s .mode) < 65536 → stateIn (wordsOf s) ≡ s
   unfolding stateIn wordsOf
   words-decoded p f n fits r =
       state-made s _ _ _ _ _
       (field-back pagesAt (s .pages) refl p)
       (field-back framesAt (s .frames) refl f)
-      (field-back entriesAt (s .entries) refl n)
+      (field-back entryCountAt (s .«entry_count») refl n)
       (entries-back fits)
       (rw (last-word (modeAt - modeAt), field-back runningAt (running (s .mode)) (last-word (runningAt - modeAt)) r) (mode-back (s .mode)))
 
 -- The words that a call puts into a run, one by one.
-module _ (run : List ℕ) (s : State) (long : length (s .entry) ≡ entryWords) where
+module _ (run : List ℕ) (s : State) (long : length (s .«entry_pages») ≡ entryWords) where
   mode-words : withWords run s modeWords ≡ set (set run modeAt (modeWord (s .mode))) runningAt (running (s .mode))
   unfolding withWords
   mode-words = rw (last-word s long (modeAt - modeAt), last-word s long (runningAt - modeAt)) refl
@@ -94,8 +94,8 @@ module _ (run : List ℕ) (s : State) (long : length (s .entry) ≡ entryWords) 
   page-put r p = rw p (sym page-words)
 
 -- All words of a state, written front to back: V, F and e, the entry pages, the mode.
-pub words-written : (s : State) (run t u : List ℕ) → length run ≡ stateWords → length (s .entry) ≡ entryWords
-    → t ≡ paste (set (set (set run pagesAt (s .pages)) framesAt (s .frames)) entriesAt (s .entries)) entryAt (s .entry) entryWords
+pub words-written : (s : State) (run t u : List ℕ) → length run ≡ stateWords → length (s .«entry_pages») ≡ entryWords
+    → t ≡ paste (set (set (set run pagesAt (s .pages)) framesAt (s .frames)) entryCountAt (s .«entry_count»)) entryPagesAt (s .«entry_pages») entryWords
     → u ≡ withWords t s modeWords → u ≡ wordsOf s
 unfolding wordsOf
 words-written s run t u long k e p =
@@ -103,14 +103,14 @@ words-written s run t u long k e p =
     (front-full stateWords _ _
     (front-word _ runningAt (running (s .mode)) _ _ (omega arith)
     (front-word _ modeAt (modeWord (s .mode)) _ _ (omega arith)
-    (front-table _ entryAt entryWords (s .entry) _ _ k (omega arith)
-    (front-word _ entriesAt (s .entries) _ _ (omega arith)
+    (front-table _ entryPagesAt entryWords (s .«entry_pages») _ _ k (omega arith)
+    (front-word _ entryCountAt (s .«entry_count») _ _ (omega arith)
     (front-word _ framesAt (s .frames) _ _ (omega arith)
     (front-word _ pagesAt (s .pages) _ _ (omega arith) (front-none _ run long))))))))
 
 -- A run with other words of the mode decodes to the state in that mode, and one with another page to the state on that page: the other
 -- words are as they were.
-module _ (run : List ℕ) (s : State) (size : length run ≡ stateWords) (long : length (s .entry) ≡ entryWords) (small : running (s .mode) < 65536) where
+module _ (run : List ℕ) (s : State) (size : length run ≡ stateWords) (long : length (s .«entry_pages») ≡ entryWords) (small : running (s .mode) < 65536) where
   running-put : (t : List ℕ) → length t ≡ stateWords → field (set t runningAt (running (s .mode))) runningAt ≡ running (s .mode)
   unfolding field
   running-put t e = ap narrow (getD-set-same t runningAt (running (s .mode)) 0 (omega arith)) ∙ narrowed (running (s .mode)) small
@@ -131,13 +131,13 @@ module _ (run : List ℕ) (s : State) (size : length run ≡ stateWords) (long :
   -- A run that differs at the words of the mode alone.
   same-fields : (run′ : List ℕ) (mode : Mode) → ((at : ℕ) → (at ≡ modeAt → ⊥) → (at ≡ runningAt → ⊥) → getD run′ at 0 ≡ getD run at 0)
       → modeOf (eqb (getD run′ modeAt 0) 1) (field run′ runningAt) ≡ mode → stateIn run′ ≡ inMode (stateIn run) mode
-  unfolding stateIn inMode entryPages field
+  unfolding stateIn inMode entryPagesIn field
   same-fields run′ mode same is =
       state-made (inMode (stateIn run) mode) _ _ _ _ _
       (ap narrow (same pagesAt (λ q. omega arith) (λ q. omega arith)))
       (ap narrow (same framesAt (λ q. omega arith) (λ q. omega arith)))
-      (ap narrow (same entriesAt (λ q. omega arith) (λ q. omega arith)))
-      (table-same entryWords _ _ (λ i h. ap narrow (same (entryAt + i) (λ q. omega arith) (λ q. omega arith))))
+      (ap narrow (same entryCountAt (λ q. omega arith) (λ q. omega arith)))
+      (table-same entryWords _ _ (λ i h. ap narrow (same (entryPagesAt + i) (λ q. omega arith) (λ q. omega arith))))
       is
 
   pub mode-decoded : stateIn (withWords run s modeWords) ≡ inMode (stateIn run) (s .mode)
@@ -183,19 +183,19 @@ module _ (p f e r : ℕ) where
       by false h = refl
 
 words-asked : (run : List ℕ)
-    → onWords (getD run pagesAt 0) (getD run framesAt 0) (getD run entriesAt 0) (getD run runningAt 0) ≡ stateInOrder (stateIn run)
+    → onWords (getD run pagesAt 0) (getD run framesAt 0) (getD run entryCountAt 0) (getD run runningAt 0) ≡ stateInOrder (stateIn run)
 unfolding stateInOrder stateIn field pagesInRange framesInRange
 words-asked run =
     rw (
       running-mode,
       narrow-within 1 2048 (getD run pagesAt 0) (omega arith),
       narrow-within 1 4096 (getD run framesAt 0) (omega arith),
-      narrow-within 1 16 (getD run entriesAt 0) (omega arith),
+      narrow-within 1 16 (getD run entryCountAt 0) (omega arith),
     )
-    (on-words (getD run pagesAt 0) (getD run framesAt 0) (getD run entriesAt 0) (getD run runningAt 0))
+    (on-words (getD run pagesAt 0) (getD run framesAt 0) (getD run entryCountAt 0) (getD run runningAt 0))
 
 pub words-in-order : (run : List ℕ) (a b d q w y r : Bool) → r ≡ both q y → q ≡ both a b → y ≡ both d w
     → w ≡ both (leb (getD run runningAt 0) 2047) (ltb (getD run runningAt 0) (getD run pagesAt 0))
-    → a ≡ within 1 2048 (getD run pagesAt 0) → b ≡ within 1 4096 (getD run framesAt 0) → d ≡ within 1 16 (getD run entriesAt 0)
+    → a ≡ within 1 2048 (getD run pagesAt 0) → b ≡ within 1 4096 (getD run framesAt 0) → d ≡ within 1 16 (getD run entryCountAt 0)
     → r ≡ stateInOrder (stateIn run)
 words-in-order run a b d q w y r e1 e2 e3 e4 e5 e6 e7 = cc (words-asked run)

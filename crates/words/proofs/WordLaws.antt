@@ -18,8 +18,8 @@ use Rattle.model.specs.Keeps.{inUser}
 use Rattle.model.specs.Calls.{replyOf}
 use Rattle.model.proofs.QuestionLaws.{both-no, both-first, within-above}
 use Rattle.model.proofs.TableLaws.{is-table}
-use Rattle.words.specs.Words.{stateWords, entryAt, entryWords, modeAt, firstAt, secondAt, widest}
-use Rattle.words.specs.Words.{narrow, field, entryPages, modeWord, overwritten, withNumbers, runsFit, lendable}
+use Rattle.words.specs.Words.{stateWords, entryPagesAt, entryWords, modeAt, firstAt, secondAt, widest}
+use Rattle.words.specs.Words.{narrow, field, entryPagesIn, modeWord, overwritten, withNumbers, runsFit, lendable}
 
 -- A word that fits 16 bits, and a wider one.
 pub narrow-fits : (word : ℕ) → word ≤ widest → word ≡ narrow word
@@ -40,26 +40,26 @@ unfolding modeWord
 mode-word-kernel mode b p q = rw (sym p ∙ q) refl
 
 -- The entry pages, read place by place: those below i have been read.
-pub entries-more : (run t : List ℕ) (i v : ℕ) → length t ≡ entryWords → i < entryWords → ((k : ℕ) → k < i → getD t k 0 ≡ field run (entryAt + k))
-    → v ≡ field run (entryAt + i) → (k : ℕ) → k < i + 1 → getD (set t i v) k 0 ≡ field run (entryAt + k)
+pub entries-more : (run t : List ℕ) (i v : ℕ) → length t ≡ entryWords → i < entryWords → ((k : ℕ) → k < i → getD t k 0 ≡ field run (entryPagesAt + k))
+    → v ≡ field run (entryPagesAt + i) → (k : ℕ) → k < i + 1 → getD (set t i v) k 0 ≡ field run (entryPagesAt + k)
 entries-more run t i v n h below e =
-    below-more (λ (k : ℕ). getD (set t i v) k 0 ≡ field run (entryAt + k)) i
+    below-more (λ (k : ℕ). getD (set t i v) k 0 ≡ field run (entryPagesAt + k)) i
     (λ k l. getD-set-other t i k v 0 (λ q. omega arith) ∙ below k l)
     (getD-set-same t i v 0 (omega arith) ∙ e)
 
-pub entries-over : (run t : List ℕ) (i : ℕ) → length t ≡ entryWords → entryWords ≤ i → ((k : ℕ) → k < i → getD t k 0 ≡ field run (entryAt + k))
-    → t ≡ entryPages run
-unfolding entryPages
-entries-over run t i n h below = is-table t entryWords (λ k. field run (entryAt + k)) n (λ k l. below k (omega arith))
+pub entries-over : (run t : List ℕ) (i : ℕ) → length t ≡ entryWords → entryWords ≤ i → ((k : ℕ) → k < i → getD t k 0 ≡ field run (entryPagesAt + k))
+    → t ≡ entryPagesIn run
+unfolding entryPagesIn
+entries-over run t i n h below = is-table t entryWords (λ k. field run (entryPagesAt + k)) n (λ k l. below k (omega arith))
 
 -- The entry pages, written word by word.
 pub paste-more : (run₀ run entry : List ℕ) (i : ℕ) → length run₀ ≡ stateWords → length entry ≡ entryWords → i < entryWords
-    → run ≡ paste run₀ entryAt entry i → set run (entryAt + i) (getD entry i 0) ≡ paste run₀ entryAt entry (i + 1)
+    → run ≡ paste run₀ entryPagesAt entry i → set run (entryPagesAt + i) (getD entry i 0) ≡ paste run₀ entryPagesAt entry (i + 1)
 paste-more run₀ run entry i n m h e =
-    rw (e, add-one) (paste-suc run₀ entryAt entry i 0 (omega arith) (omega arith))
+    rw (e, add-one) (paste-suc run₀ entryPagesAt entry i 0 (omega arith) (omega arith))
 
-pub paste-over : (run₀ run entry : List ℕ) (i : ℕ) → i ≤ entryWords → entryWords ≤ i → run ≡ paste run₀ entryAt entry i
-    → run ≡ paste run₀ entryAt entry entryWords
+pub paste-over : (run₀ run entry : List ℕ) (i : ℕ) → i ≤ entryWords → entryWords ≤ i → run ≡ paste run₀ entryPagesAt entry i
+    → run ≡ paste run₀ entryPagesAt entry entryWords
 paste-over run₀ run entry i p q e = let n : i ≡ entryWords = omega arith in rw n at e
 
 -- A run written front to back: `words rest` is what stands before a place, and then the rest. A word written there comes behind it, and so does a

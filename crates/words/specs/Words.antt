@@ -24,11 +24,11 @@ pagesAt = 0
 abbrev pub framesAt : ℕ
 framesAt = 1
 
-abbrev pub entriesAt : ℕ
-entriesAt = 2
+abbrev pub entryCountAt : ℕ
+entryCountAt = 2
 
-abbrev pub entryAt : ℕ
-entryAt = 3
+abbrev pub entryPagesAt : ℕ
+entryPagesAt = 3
 
 abbrev pub entryWords : ℕ
 entryWords = 16
@@ -74,20 +74,20 @@ narrow word = cond (leb word widest) word widest
 unfoldable pub field : List ℕ → ℕ → ℕ
 field run at = narrow (getD run at 0)
 
-unfoldable pub entryPages : List ℕ → List ℕ
-entryPages run = table entryWords (λ i. field run (entryAt + i))
+unfoldable pub entryPagesIn : List ℕ → List ℕ
+entryPagesIn run = table entryWords (λ i. field run (entryPagesAt + i))
 
 -- The state that a run holds.
 unfoldable pub stateIn : List ℕ → State
 stateIn run =
-    stateOf (field run pagesAt) (field run framesAt) (field run entriesAt) (entryPages run) (modeOf (eqb (getD run modeAt 0) 1) (field run runningAt))
+    stateOf (field run pagesAt) (field run framesAt) (field run entryCountAt) (entryPagesIn run) (modeOf (eqb (getD run modeAt 0) 1) (field run runningAt))
 
 -- The words that hold a state, in their order; the last of them stand behind the entry pages.
 abbrev pub lastWords : State → List ℕ
 lastWords s = modeWord (s .mode) ∷ running (s .mode) ∷ []
 
 unfoldable pub wordsOf : State → List ℕ
-wordsOf s = s .pages ∷ s .frames ∷ s .entries ∷ (s .entry ++ lastWords s)
+wordsOf s = s .pages ∷ s .frames ∷ s .«entry_count» ∷ (s .«entry_pages» ++ lastWords s)
 
 -- A run with the words of a state at some places, and its own at all others.
 unfoldable pub withWords : List ℕ → State → List ℕ → List ℕ
@@ -137,5 +137,5 @@ runStarted run reply s = settle (reply .number) (wordsOf s) (λ _. run)
 -- a state that question 7 of every call refuses.
 unfoldable pub WideRefused : Type 0
 WideRefused =
-    (run : List ℕ) (at : ℕ) → widest < getD run at 0 → member at (pagesAt ∷ framesAt ∷ entriesAt ∷ runningAt ∷ []) ≡ true
+    (run : List ℕ) (at : ℕ) → widest < getD run at 0 → member at (pagesAt ∷ framesAt ∷ entryCountAt ∷ runningAt ∷ []) ≡ true
     → stateInOrder (stateIn run) ≡ false

@@ -12,7 +12,7 @@ ghost use Rattle.model.specs.Keeps.{modeOf, running};
 ghost use Rattle.model.specs.Questions.{stateInOrder};
 ghost use Rattle.model.specs.Calls.{replyOf};
 ghost use Rattle.words.specs.Words;
-ghost use Rattle.words.specs.Words.{stateWords, entryAt, entryWords, startNumbers, entryPages, stateIn, modeWord, wordsOf, withWords, pageWords, modeWords, overwritten, withNumbers, runsFit, runAfter, runStarted, WideRefused};
+ghost use Rattle.words.specs.Words.{stateWords, entryPagesAt, entryWords, startNumbers, entryPagesIn, stateIn, modeWord, wordsOf, withWords, pageWords, modeWords, overwritten, withNumbers, runsFit, runAfter, runStarted, WideRefused};
 use model::Answer;
 use model::Called;
 use model::Mode;
@@ -89,7 +89,7 @@ fn mode_word(mode: Mode) -> u64
 // The sixteen entry pages of a run.
 fn entry_pages(run: &[u64]) -> [u16; ENTRY_PAGES]
     requires { ⌜ length (now run) ≡ stateWords ⌝ }
-    ensures { λ r. ⌜ r ≡ entryPages (now (run .entry)) ⌝ }
+    ensures { λ r. ⌜ r ≡ entryPagesIn (now (run .entry)) ⌝ }
 {
     let mut entry = [0u16; ENTRY_PAGES];
     let mut i: usize = 0;
@@ -107,14 +107,14 @@ pub fn state_in(run: &[u64]) -> State
 {
     let pages = field(run, STATE_PAGES);
     let frames = field(run, STATE_FRAMES);
-    let entries = field(run, STATE_ENTRIES);
-    let entry = entry_pages(run);
+    let entry_count = field(run, STATE_ENTRIES);
+    let pages_in = entry_pages(run);
     let mode = mode_of(run[STATE_MODE], field(run, STATE_RUNNING));
     State {
         pages,
         frames,
-        entries,
-        entry,
+        entry_count,
+        entry_pages: pages_in,
         mode,
     }
 }
@@ -141,7 +141,7 @@ fn put_mode(run: &mut [u64], s: State)
 
 fn put_entry_pages(run: &mut [u64], entry: [u16; ENTRY_PAGES])
     requires { ⌜ length (now run) ≡ stateWords ⌝ }
-    ensures { λ _. ⌜ now (run .exit) ≡ paste (now (run .entry)) entryAt entry entryWords ⌝ }
+    ensures { λ _. ⌜ now (run .exit) ≡ paste (now (run .entry)) entryPagesAt entry entryWords ⌝ }
 {
     let mut i: usize = 0;
     while i < ENTRY_PAGES {
@@ -156,10 +156,10 @@ fn put_state(run: &mut [u64], s: State)
     ensures encoded { λ _. ⌜ now (run .exit) ≡ wordsOf s ⌝ }
     ensures decoded { λ _. ⌜ stateIn (now (run .exit)) ≡ s ⌝ }
 {
-    let entry = s.entry;
+    let entry = s.entry_pages;
     run[STATE_PAGES] = s.pages as u64;
     run[STATE_FRAMES] = s.frames as u64;
-    run[STATE_ENTRIES] = s.entries as u64;
+    run[STATE_ENTRIES] = s.entry_count as u64;
     put_entry_pages(run, entry);
     put_mode(run, s);
 }
@@ -194,8 +194,8 @@ fn words_in_order(run: &[u64]) -> bool
     );
     let entries = questions::in_range(1, 16, run[STATE_ENTRIES]);
     let running = run[STATE_RUNNING];
-    let runs = questions::both(running <= 2047, running < pages);
-    questions::both(sizes, questions::both(entries, runs))
+    let exists = questions::both(running <= 2047, running < pages);
+    questions::both(sizes, questions::both(entries, exists))
 }
 
 // Both runs can be lent, and the state is in order.

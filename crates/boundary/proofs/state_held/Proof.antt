@@ -13,7 +13,7 @@ use Rattle.model.specs.Questions.{firstNo, seen}
 use Rattle.model.specs.Calls.{settle, Outcome, refusedOf, Call, syncPage, syncAll, fetch, write, enter, leave, deviceWrite, broughtBy, questionsOf, effectOf, answer, pageSynced, allSynced}
 use Rattle.model.proofs.CallLaws.{effect-reply, effect-state, effect-runs}
 use Rattle.model.proofs.TableLaws.{length-table}
-use Rattle.words.specs.Words.{stateWords, pagesAt, entryWords, modeAt, runningAt, entryPages, stateIn, field, numbersBy, modeWords, changedBy, withWords, lendable, runAfter}
+use Rattle.words.specs.Words.{stateWords, pagesAt, entryWords, modeAt, runningAt, entryPagesIn, stateIn, field, numbersBy, modeWords, changedBy, withWords, lendable, runAfter}
 use Rattle.words.proofs.WordLaws.{narrow-below, run-lent}
 use Rattle.words.proofs.StateLaws.{mode-decoded, page-decoded, running-mode}
 use Rattle.boundary.specs.Boundary.{replied, callAt, StateHeld}
@@ -42,8 +42,8 @@ module _ (run : List ℕ) (t : Tables) where
   unfolding stateIn field
   narrow-running = rw running-mode (omega (arith, narrow-below (getD run runningAt 0)))
 
-  entries-long : (call : Call) → length (after call .entry) ≡ entryWords
-  unfolding stateIn inMode entryPages
+  entries-long : (call : Call) → length (after call .«entry_pages») ≡ entryWords
+  unfolding stateIn inMode entryPagesIn
   entries-long call = rw (effect-state g call) (length-table entryWords _)
 
   -- A fetch keeps kernel or user.

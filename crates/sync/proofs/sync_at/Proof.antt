@@ -1,4 +1,4 @@
--- The place stored in both tables, with the counts of that.
+-- The slot stored in both tables, with the counts of that.
 use Rattle.sync.proofs.SyncLaws.{stored-step}
 use borrow.Author.Needs.{needs}
 use Rattle.sync.proofs.sync_at.Statement.{statement}

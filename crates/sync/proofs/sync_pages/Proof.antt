@@ -5,7 +5,7 @@ use native.Mathlib.Omega.{arith}
 use lib.ListN.{length}
 use Rattle.model.specs.Sync.{sweep, sweepFrom, entryIn, stepFrom}
 use Rattle.model.proofs.SweepLaws.{whole, whole-start}
-use Rattle.sync.specs.Steps.{rules}
+use Rattle.sync.specs.Steps.{rulesBy}
 use Rattle.sync.proofs.SyncLaws.{sweep-more, sweep-over}
 use borrow.Author.Needs.{needs}
 use Rattle.sync.proofs.sync_pages.Statement.{statement}
@@ -14,8 +14,8 @@ use Rattle.sync.proofs.sync_pages.Tie as tie
 abbrev Inv-loop : tie.InvT-loop
 Inv-loop user frames exclusion kernel shadow₀ map₀ counts₀ i₀ shadow map counts i =
     (i ≤ length kernel) × (length shadow ≡ length kernel) × (length map ≡ length kernel) × (counts .changed ≤ i) × (counts .joined ≤ i)
-    × (whole (stepFrom (rules user frames exclusion) (entryIn kernel)) i (sweep shadow map (counts .changed) (counts .joined))
-    ≡ sweepFrom (stepFrom (rules user frames exclusion) (entryIn kernel)) 0 shadow₀ map₀)
+    × (whole (stepFrom (rulesBy user frames exclusion) (entryIn kernel)) i (sweep shadow map (counts .changed) (counts .joined))
+    ≡ sweepFrom (stepFrom (rulesBy user frames exclusion) (entryIn kernel)) 0 shadow₀ map₀)
 
 abbrev μ-loop : tie.MeasureT-loop
 μ-loop user frames exclusion kernel shadow₀ map₀ counts₀ i₀ shadow map counts i = length kernel - i

@@ -5,14 +5,14 @@ use lib.ListN.{length, getD, length-set}
 use borrow.Author.Needs.{needs}
 use borrow.Author.Count.{below-none}
 use native.Mathlib.Omega.{arith}
-use Rattle.words.specs.Words.{entryAt, entryWords, field}
+use Rattle.words.specs.Words.{entryPagesAt, entryWords, field}
 use Rattle.words.proofs.WordLaws.{entries-more, entries-over}
 use Rattle.words.proofs.entry_pages.Statement.{statement}
 use Rattle.words.proofs.entry_pages.Tie as tie
 
 abbrev Inv-loop : tie.InvT-loop
 Inv-loop run entry₀ i₀ entry i =
-    (i ≤ entryWords) × (length entry ≡ entryWords) × ((k : ℕ) → k < i → getD entry k 0 ≡ field run (entryAt + k))
+    (i ≤ entryWords) × (length entry ≡ entryWords) × ((k : ℕ) → k < i → getD entry k 0 ≡ field run (entryPagesAt + k))
 
 abbrev μ-loop : tie.MeasureT-loop
 μ-loop run entry₀ i₀ entry i = entryWords - i

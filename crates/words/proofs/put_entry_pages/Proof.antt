@@ -5,19 +5,19 @@ use lib.ListN.{length, length-set}
 use lib.Seq.{paste, paste-zero}
 use borrow.Author.Needs.{needs}
 use native.Mathlib.Omega.{arith}
-use Rattle.words.specs.Words.{entryAt, entryWords}
+use Rattle.words.specs.Words.{entryPagesAt, entryWords}
 use Rattle.words.proofs.WordLaws.{paste-more, paste-over}
 use Rattle.words.proofs.put_entry_pages.Statement.{statement}
 use Rattle.words.proofs.put_entry_pages.Tie as tie
 
 abbrev Inv-loop : tie.InvT-loop
-Inv-loop run₀ entry i₀ run i = (i ≤ entryWords) × (length run ≡ length run₀) × (run ≡ paste run₀ entryAt entry i)
+Inv-loop run₀ entry i₀ run i = (i ≤ entryWords) × (length run ≡ length run₀) × (run ≡ paste run₀ entryPagesAt entry i)
 
 abbrev μ-loop : tie.MeasureT-loop
 μ-loop run₀ entry i₀ run i = entryWords - i
 
 loop-holds : tie.Need-loop-holds Inv-loop μ-loop
-loop-holds c = (search needs, refl, paste-zero (c .args .run .now) entryAt (c .args .t2))
+loop-holds c = (search needs, refl, paste-zero (c .args .run .now) entryPagesAt (c .args .t2))
 
 mul-run : tie.Need-mul-run Inv-loop μ-loop
 mul-run c = omega arith

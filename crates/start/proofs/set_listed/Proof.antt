@@ -6,20 +6,20 @@ use lib.ListN.{length}
 use borrow.Author.Needs.{needs}
 use Rattle.model.specs.Policy.{numbersAt}
 use Rattle.model.specs.Questions.{allBelow}
-use Rattle.start.specs.Start.{placed, approvedEach}
-use Rattle.start.proofs.LoopLaws.{place-inside, places-inside, place-map, place-shadow, places-end}
-use Rattle.start.proofs.set_places.Statement.{statement}
-use Rattle.start.proofs.set_places.Tie as tie
+use Rattle.start.specs.Start.{storedEach, approvedEach}
+use Rattle.start.proofs.LoopLaws.{page-inside, pages-inside, listed-map, listed-shadow, listed-end}
+use Rattle.start.proofs.set_listed.Statement.{statement}
+use Rattle.start.proofs.set_listed.Tie as tie
 
 abbrev Inv-loop : tie.InvT-loop
 Inv-loop bytes count shadow₀ map₀ page-at₀ frame-at₀ left₀ shadow map page-at frame-at left =
     (page-at + 2 * left ≡ 8 + 2 * count) × (frame-at + 2 * left ≡ 8 + 4 * count)
     × (length shadow ≡ length shadow₀) × (length map ≡ length map₀)
     × (allBelow (length shadow₀) (numbersAt bytes page-at left) ≡ true)
-    × (placed (numbersAt bytes page-at left) (approvedEach (numbersAt bytes frame-at left)) shadow
-    ≡ placed (numbersAt bytes 8 count) (approvedEach (numbersAt bytes (8 + 2 * count) count)) shadow₀)
-    × (placed (numbersAt bytes page-at left) (numbersAt bytes frame-at left) map
-    ≡ placed (numbersAt bytes 8 count) (numbersAt bytes (8 + 2 * count) count) map₀)
+    × (storedEach (numbersAt bytes page-at left) (approvedEach (numbersAt bytes frame-at left)) shadow
+    ≡ storedEach (numbersAt bytes 8 count) (approvedEach (numbersAt bytes (8 + 2 * count) count)) shadow₀)
+    × (storedEach (numbersAt bytes page-at left) (numbersAt bytes frame-at left) map
+    ≡ storedEach (numbersAt bytes 8 count) (numbersAt bytes (8 + 2 * count) count) map₀)
 
 abbrev μ-loop : tie.MeasureT-loop
 μ-loop bytes count shadow₀ map₀ page-at₀ frame-at₀ left₀ shadow map page-at frame-at left = left
@@ -28,16 +28,16 @@ mul-shadow : tie.Need-mul-shadow Inv-loop μ-loop
 mul-shadow c = search needs
 
 slice-write-shadow : tie.Need-slice-write-shadow Inv-loop μ-loop
-slice-write-shadow c = search (needs, place-inside)
+slice-write-shadow c = search (needs, page-inside)
 
 mul-map : tie.Need-mul-map Inv-loop μ-loop
 mul-map c = search needs
 
 slice-write-map : tie.Need-slice-write-map Inv-loop μ-loop
-slice-write-map c = search (needs, place-inside)
+slice-write-map c = search (needs, page-inside)
 
 loop-again : tie.Need-loop-again Inv-loop μ-loop
-loop-again c = (search needs, search needs, search needs, search needs, search (needs, places-inside), search (needs, place-shadow), search (needs, place-map))
+loop-again c = (search needs, search needs, search needs, search needs, search (needs, pages-inside), search (needs, listed-shadow), search (needs, listed-map))
 
 same-length : tie.Need-same-length Inv-loop μ-loop
 same-length c = search needs
@@ -46,10 +46,10 @@ same-length-2 : tie.Need-same-length-2 Inv-loop μ-loop
 same-length-2 c = search needs
 
 returns : tie.Need-returns Inv-loop μ-loop
-returns c = search (needs, places-end)
+returns c = search (needs, listed-end)
 
-pub set-places-spec : {M : Type 1} → statement M
-set-places-spec =
+pub set-listed-spec : {M : Type 1} → statement M
+set-listed-spec =
     tie.close
     (tie.spec Inv-loop μ-loop (λ c. search needs) (λ c. search needs) (λ c. search needs) (λ c κs. search needs) (λ c. search needs)
     (λ c κs. search needs) (λ c κs. search needs) mul-shadow slice-write-shadow mul-map slice-write-map (λ c. search needs)

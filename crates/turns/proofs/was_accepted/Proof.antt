@@ -1,9 +1,9 @@
--- `turns::accepted` meets its contract.
+-- `turns::was_accepted` meets its contract.
 use borrow.Author.Needs.{needs}
 use Rattle.model.specs.Calls.{replyOf}
 use Rattle.turns.proofs.TurnLaws.{refused-by}
-use Rattle.turns.proofs.accepted.Statement.{statement}
-use Rattle.turns.proofs.accepted.Tie as tie
+use Rattle.turns.proofs.was_accepted.Statement.{statement}
+use Rattle.turns.proofs.was_accepted.Tie as tie
 
 returns : tie.Need-returns
 unfolding replyOf
@@ -12,7 +12,7 @@ returns c = cc
 returns-2 : tie.Need-returns-2
 returns-2 c = search (needs, refused-by)
 
-pub accepted-spec : {M : Type 1} → statement M
-accepted-spec =
+pub was-accepted-spec : {M : Type 1} → statement M
+was-accepted-spec =
     tie.close
     (tie.spec (λ c. search needs) (λ c. search needs) returns returns-2)

@@ -1,8 +1,8 @@
 use borrow.Author.Needs.{needs}
 use Rattle.model.specs.Policy.{policyOf}
 use Rattle.start.proofs.StartLaws.{accepted-is}
-use Rattle.start.proofs.accepted.Statement.{statement}
-use Rattle.start.proofs.accepted.Tie as tie
+use Rattle.start.proofs.accepted_start.Statement.{statement}
+use Rattle.start.proofs.accepted_start.Tie as tie
 
 entry-pages-requires : tie.Need-entry-pages-requires
 unfolding policyOf
@@ -11,8 +11,8 @@ entry-pages-requires c κs = search needs
 returns : tie.Need-returns
 returns c = search (needs, accepted-is)
 
-pub accepted-spec : {M : Type 1} → statement M
-accepted-spec =
+pub accepted-start-spec : {M : Type 1} → statement M
+accepted-start-spec =
     tie.close
     (tie.spec (λ c κs. search needs) (λ c κs. search needs) entry-pages-requires (λ c. search needs) (λ c. search needs)
     (λ c κs. search needs) (λ c κs. search needs) (λ c κs. search needs) returns)
