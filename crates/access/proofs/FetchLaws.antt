@@ -20,7 +20,7 @@ use Rattle.model.proofs.QuestionLaws.{firstNo-yes}
 use Rattle.model.proofs.AcceptedLaws.{fetch-page}
 use Rattle.model.proofs.StateLaws.{pages-few, in-order, shadow-long}
 use Rattle.model.proofs.CallLaws.{passed, passed-always, stopped, none-left, refused-by, accepted-by}
-use Rattle.access.specs.Lent.{lent}
+use Rattle.access.specs.AccessView.{accessView}
 
 -- Question 12 of a fetch.
 pub fetch-no-execute : (user : Bool) (entry : ℕ) (r : Bool) → r ≡ noExecute entry → r ≡ true → false ≡ fetchPermitted user entry
@@ -34,21 +34,21 @@ fetch-by-user user entry r m e f p = p ∙ rw (← e, f) refl
 
 -- The questions after 7, at each answer.
 module _ (user : Bool) (pages page : ℕ) (shadow : List ℕ) (r9 : Bool) (e9 : r9 ≡ ltb page pages) where
-  pub fetch-absent : not r9 ≡ true → 9 ≡ firstNo (fetchQuestions (lent user pages 0 shadow []) page)
+  pub fetch-absent : not r9 ≡ true → 9 ≡ firstNo (fetchQuestions (accessView user pages 0 shadow []) page)
   unfolding fetchQuestions inOrder both
   fetch-absent n9 = passed-always 7 9 _ (stopped 9 r9 _ _ e9 n9)
 
   module _ (y9 : not r9 ≡ false) (r11 : Bool) (e11 : r11 ≡ present (getD shadow page 0)) where
-    pub fetch-not-present : not r11 ≡ true → 11 ≡ firstNo (fetchQuestions (lent user pages 0 shadow []) page)
+    pub fetch-not-present : not r11 ≡ true → 11 ≡ firstNo (fetchQuestions (accessView user pages 0 shadow []) page)
     unfolding fetchQuestions inOrder both
     fetch-not-present n11 = passed-always 7 11 _ (passed 9 11 r9 _ _ e9 y9 (stopped 11 r11 _ _ e11 n11))
 
     module _ (y11 : not r11 ≡ false) (r12 : Bool) (e12 : r12 ≡ fetchPermitted user (getD shadow page 0)) where
-      pub fetch-not-permitted : not r12 ≡ true → 12 ≡ firstNo (fetchQuestions (lent user pages 0 shadow []) page)
+      pub fetch-not-permitted : not r12 ≡ true → 12 ≡ firstNo (fetchQuestions (accessView user pages 0 shadow []) page)
       unfolding fetchQuestions inOrder both
       fetch-not-permitted n12 = passed-always 7 12 _ (passed 9 12 r9 _ _ e9 y9 (passed 11 12 r11 _ _ e11 y11 (stopped 12 r12 _ _ e12 n12)))
 
-      pub fetch-none-refuses : not r12 ≡ false → 0 ≡ firstNo (fetchQuestions (lent user pages 0 shadow []) page)
+      pub fetch-none-refuses : not r12 ≡ false → 0 ≡ firstNo (fetchQuestions (accessView user pages 0 shadow []) page)
       unfolding fetchQuestions inOrder both
       fetch-none-refuses y12 =
           passed-always 7 0 _ (passed 9 0 r9 _ _ e9 y9 (passed 11 0 r11 _ _ e11 y11 (passed 12 0 r12 _ _ e12 y12 none-left)))
@@ -69,7 +69,7 @@ module _ (s : State) (shadow : List ℕ) (page : ℕ) (r7 : Bool) (e7 : r7 ≡ i
   fetch-unfit r n a i t = refused-by _ (fetch page) r 7 (sym (stopped 7 r7 _ _ e7 n)) (λ z. omega arith) a i
 
   module _ (y7 : not r7 ≡ false) (user : Bool) (number : ℕ) (u : user ≡ inUser (s .mode))
-      (e : number ≡ firstNo (fetchQuestions (lent user (s .pages) 0 shadow []) page)) where
+      (e : number ≡ firstNo (fetchQuestions (accessView user (s .pages) 0 shadow []) page)) where
     -- The questions after 7 do not look at the lengths.
     fetch-number : (t : Tables) → firstNo (questionsOf (seen (guardOf s (withShadow shadow t))) (fetch page)) ≡ number
     unfolding questionsOf fetchQuestions inOrder both
@@ -81,7 +81,7 @@ module _ (s : State) (shadow : List ℕ) (page : ℕ) (r7 : Bool) (e7 : r7 ≡ i
     -- The page of an accepted fetch is below V.
     module _ (z : number ≡ 0) where
       below : page < s .pages
-      below = fetch-page (lent user (s .pages) 0 shadow []) page (sym e ∙ z)
+      below = fetch-page (accessView user (s .pages) 0 shadow []) page (sym e ∙ z)
 
       pub fetched-in : page < length shadow
       fetched-in =

@@ -24,7 +24,7 @@ use Rattle.model.proofs.AcceptedLaws.{write-some, write-page}
 use Rattle.model.proofs.StateLaws.{pages-few, in-order}
 use Rattle.model.proofs.CallLaws.{passed, passed-always, stopped, none-left, refused-by, accepted-by}
 use Rattle.model.proofs.TouchLaws.{first-up-to-last, touched-both}
-use Rattle.access.specs.Lent.{lent, freeIn, entryQuestions}
+use Rattle.access.specs.AccessView.{accessView, freeIn, entryQuestions}
 use Rattle.access.proofs.CommonLaws.{common-present, common-permitted}
 
 -- Question 13 of a frame: one at or above F, and one below it, which has a bit in the vector.
@@ -115,18 +115,18 @@ last-in address length pages page long r9 e9 y9 l p =
 
 -- The questions after 7, at each answer.
 module _ (user : Bool) (pages frames address length : ℕ) (shadow exclusion : List ℕ) (r8 : Bool) (e8 : r8 ≡ within 1 16 length) where
-  pub write-unlike : not r8 ≡ true → 8 ≡ firstNo (writeQuestions (lent user pages frames shadow exclusion) address length)
+  pub write-unlike : not r8 ≡ true → 8 ≡ firstNo (writeQuestions (accessView user pages frames shadow exclusion) address length)
   unfolding writeQuestions inOrder both
   write-unlike n8 = passed-always 7 8 _ (stopped 8 r8 _ _ e8 n8)
 
   module _ (y8 : not r8 ≡ false) (r9 : Bool) (e9 : r9 ≡ ltb (lastPage address length) pages) where
-    pub write-absent : not r9 ≡ true → 9 ≡ firstNo (writeQuestions (lent user pages frames shadow exclusion) address length)
+    pub write-absent : not r9 ≡ true → 9 ≡ firstNo (writeQuestions (accessView user pages frames shadow exclusion) address length)
     unfolding writeQuestions inOrder both
     write-absent n9 = passed-always 7 9 _ (passed 8 9 r8 _ _ e8 y8 (stopped 9 r9 _ _ e9 n9))
 
     pub write-entries : not r9 ≡ false → (number page : ℕ) → page ≡ lastPage address length
         → number ≡ firstNo (entryQuestions user frames exclusion (getD shadow (address / 4096) 0) (getD shadow page 0))
-        → number ≡ firstNo (writeQuestions (lent user pages frames shadow exclusion) address length)
+        → number ≡ firstNo (writeQuestions (accessView user pages frames shadow exclusion) address length)
     unfolding writeQuestions inOrder both entryQuestions free freeIn
     write-entries y9 number page p e =
         let w : within 1 16 length ≡ true = sym e8 ∙ not-false r8 y8 in
@@ -160,7 +160,7 @@ module _ (s : State) (shadow exclusion : List ℕ) (r7 : Bool)
     write-unfit n t = refused-by _ (write address bytes) _ 7 (sym (stopped 7 r7 _ _ e7 n)) (λ z. omega arith) refl refl
 
     module _ (y7 : not r7 ≡ false) (user : Bool) (number : ℕ) (u : user ≡ inUser (s .mode))
-        (e : number ≡ firstNo (writeQuestions (lent user (s .pages) (s .frames) shadow exclusion) address bytes)) where
+        (e : number ≡ firstNo (writeQuestions (accessView user (s .pages) (s .frames) shadow exclusion) address bytes)) where
       -- The questions after 7 do not look at the lengths.
       write-number : (t : Tables)
           → firstNo (questionsOf (seen (guardOf s (withShadow shadow (withExclusion exclusion t)))) (write address bytes)) ≡ number
@@ -174,7 +174,7 @@ module _ (s : State) (shadow exclusion : List ℕ) (r7 : Bool)
       module _ (z : number ≡ 0) where
         pub written-last-in : (page : ℕ) → page ≡ lastPage address bytes → page < length shadow
         written-last-in page i =
-            let b : lastPage address bytes < s .pages = write-page (lent user (s .pages) (s .frames) shadow exclusion) address bytes (sym e ∙ z) in
+            let b : lastPage address bytes < s .pages = write-page (accessView user (s .pages) (s .frames) shadow exclusion) address bytes (sym e ∙ z) in
             let l : length shadow ≡ s .pages = write-tables y7 .0 in
             omega arith
 
@@ -183,7 +183,7 @@ module _ (s : State) (shadow exclusion : List ℕ) (r7 : Bool)
             let b : lastPage address bytes < length shadow = written-last-in _ refl in
             let l : length shadow ≡ s .pages = write-tables y7 .0 in
             let f : s .pages ≤ 2048 = pages-few s (in-order _ _ (sym e7 ∙ not-false r7 y7) .0) in
-            (write-some (lent user (s .pages) (s .frames) shadow exclusion) address bytes (sym e ∙ z), omega arith)
+            (write-some (accessView user (s .pages) (s .frames) shadow exclusion) address bytes (sym e ∙ z), omega arith)
 
         pub written-first-in : address / 4096 < length shadow
         written-first-in =

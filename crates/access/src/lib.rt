@@ -13,9 +13,10 @@ ghost use Rattle.model.specs.Bits.{userBit};
 ghost use Rattle.model.specs.Questions.{firstNo, fetchPermitted, writePermitted, fetchQuestions, writeQuestions, deviceWriteQuestions};
 ghost use Rattle.model.specs.Calls;
 ghost use Rattle.model.specs.Calls.{outcomeBy, keptBy, deviceWrite, answer};
-ghost use Rattle.access.specs.Lent.{lent, freeIn, entryQuestions};
+ghost use Rattle.access.specs.AccessView.{accessView, freeIn, entryQuestions};
 use model::Answer;
 use model::Called;
+use model::PAGE_BYTES;
 use model::State;
 use questions::both;
 
@@ -39,7 +40,7 @@ fn fetch_permitted(user: bool, entry: u64) -> bool
 // The number of the question that refuses a fetch, or 0. Question 7 is answered yes, so that the table has V entries.
 fn fetch_refusal(user: bool, pages: u16, shadow: &[u64], page: u64) -> u64
     requires { ⌜ length (now shadow) ≡ pages ⌝ }
-    ensures { λ r. ⌜ r ≡ firstNo (fetchQuestions (lent user pages 0 (now (shadow .entry)) []) page) ⌝ }
+    ensures { λ r. ⌜ r ≡ firstNo (fetchQuestions (accessView user pages 0 (now (shadow .entry)) []) page) ⌝ }
 {
     if !questions::page_exists(page, pages) {
         return 9;
@@ -125,7 +126,7 @@ fn last_page(address: u64, length: u64) -> u64
     requires { ⌜ (1 ≤ length) × (lastPage address length < 65536) ⌝ }
     ensures { λ r. ⌜ r ≡ lastPage address length ⌝ }
 {
-    (address + length - 1) / 4096
+    (address + length - 1) / PAGE_BYTES
 }
 
 // The number of the question that refuses a write, or 0. Question 7 is answered yes, so that the tables have their lengths.
@@ -140,7 +141,7 @@ fn write_refusal(
     length: u64,
 ) -> u64
     requires { ⌜ (lib.ListN.length (now shadow) ≡ pages) × (lib.ListN.length (now exclusion) ≡ vectorBytes frames) ⌝ }
-    ensures { λ r. ⌜ r ≡ firstNo (writeQuestions (lent user pages frames (now (shadow .entry)) (now (exclusion .entry))) address length) ⌝ }
+    ensures { λ r. ⌜ r ≡ firstNo (writeQuestions (accessView user pages frames (now (shadow .entry)) (now (exclusion .entry))) address length) ⌝ }
 {
     if !questions::write_length(length) {
         return 8;
@@ -148,7 +149,7 @@ fn write_refusal(
     if !questions::write_exists(address, length, pages) {
         return 9;
     }
-    let first = shadow[(address / 4096) as usize];
+    let first = shadow[(address / PAGE_BYTES) as usize];
     let page = last_page(address, length);
     let last = shadow[page as usize];
     entries_refusal(user, frames, exclusion, first, last)
@@ -167,7 +168,7 @@ pub fn write(s: State, shadow: &[u64], exclusion: &[u8], address: u64, length: u
     if number != 0 {
         return Answer::Refused(number);
     }
-    let first = shadow[(address / 4096) as usize];
+    let first = shadow[(address / PAGE_BYTES) as usize];
     let page = last_page(address, length);
     let last = shadow[page as usize];
     Answer::Done(entry::frame_of(first), entry::frame_of(last))
@@ -177,7 +178,7 @@ pub fn write(s: State, shadow: &[u64], exclusion: &[u8], address: u64, length: u
 // Question 9 has settled that every frame touched is below F.
 fn device_write_refusal(frames: u16, exclusion: &[u8], address: u64, length: u64) -> u64
     requires { ⌜ lib.ListN.length (now exclusion) ≡ vectorBytes frames ⌝ }
-    ensures { λ r. ⌜ r ≡ firstNo (deviceWriteQuestions (lent true 0 frames [] (now (exclusion .entry))) address length) ⌝ }
+    ensures { λ r. ⌜ r ≡ firstNo (deviceWriteQuestions (accessView true 0 frames [] (now (exclusion .entry))) address length) ⌝ }
 {
     if !questions::device_length(length) {
         return 8;
@@ -186,7 +187,7 @@ fn device_write_refusal(frames: u16, exclusion: &[u8], address: u64, length: u64
         return 9;
     }
     let last = last_page(address, length);
-    if !bitmap::none_excluded(exclusion, address / 4096, last) {
+    if !bitmap::none_excluded(exclusion, address / PAGE_BYTES, last) {
         return 13;
     }
     0
@@ -204,5 +205,5 @@ pub fn device_write(s: State, exclusion: &[u8], address: u64, length: u64) -> An
         return Answer::Refused(number);
     }
     let last = last_page(address, length);
-    Answer::Done(address / 4096, last)
+    Answer::Done(address / PAGE_BYTES, last)
 }

@@ -7,7 +7,11 @@ ghost use lib.ListN.{length};
 use libc::STDIN_FILENO;
 use libc::STDOUT_FILENO;
 use lines::Line;
+use model::MOST_PAGES;
 use model::State;
+use model::VECTOR_BYTES;
+use turns::CALL_BYTES;
+use turns::POLICY_BYTES;
 use turns::TurnResult;
 
 // Takes 8 bytes, and the rest of the policy where there is one; gives how many there were. The room holds the longest policy.
@@ -37,7 +41,7 @@ fn take_turn(
     map: &mut [u16],
     exclusion: &[u8],
 ) -> TurnResult {
-    let mut call = [0u8; 16];
+    let mut call = [0u8; CALL_BYTES];
     let taken = io::read_full(STDIN_FILENO, &mut call);
     let result = turns::turn(s, kernel, shadow, map, exclusion, &call[..taken]);
     write_line(result.line);
@@ -74,7 +78,7 @@ fn write_closing(frames: u16, shadow: &[u64], exclusion: &[u8]) {
 }
 
 // The drill on tables of the policy's sizes, all zeros. A refused start writes its line alone.
-fn run(
+fn drill_on(
     policy: &[u8],
     kernel: &mut [u64],
     shadow: &mut [u64],
@@ -92,15 +96,15 @@ fn run(
 }
 
 fn main() {
-    let mut room = [0u8; 8200];
+    let mut room = [0u8; POLICY_BYTES];
     let taken = read_policy(&mut room);
     let pages = turns::pages_lent(&room[..taken]);
     let bytes = turns::bytes_lent(&room[..taken]);
-    let mut kernel = [0u64; 2048];
-    let mut shadow = [0u64; 2048];
-    let mut map = [0u16; 2048];
-    let mut exclusion = [0u8; 512];
-    run(
+    let mut kernel = [0u64; MOST_PAGES as usize];
+    let mut shadow = [0u64; MOST_PAGES as usize];
+    let mut map = [0u16; MOST_PAGES as usize];
+    let mut exclusion = [0u8; VECTOR_BYTES];
+    drill_on(
         &room[..taken],
         &mut kernel[..pages],
         &mut shadow[..pages],

@@ -90,7 +90,7 @@ pub fn take_apart(entry: u64) -> Entry
 }
 
 // The weight where the bit is set. The bound settles that a sum of different weights does not wrap.
-fn flag(b: bool, weight: u64) -> u64
+fn weight_if(b: bool, weight: u64) -> u64
     ensures { λ r. ⌜ (r ≡ cond b weight 0) × (r ≤ weight) ⌝ }
 {
     if b { weight } else { 0 }
@@ -99,7 +99,7 @@ fn flag(b: bool, weight: u64) -> u64
 pub fn approved(user: bool, frame: u16) -> u64
     ensures { λ r. ⌜ r ≡ approved user frame ⌝ }
 {
-    1 + APPROVED + frame as u64 * FRAME + flag(user, NO_EXECUTE)
+    1 + APPROVED + frame as u64 * FRAME + weight_if(user, NO_EXECUTE)
 }
 
 // Bit 63 of an ordinary entry.
@@ -115,11 +115,11 @@ fn ordinary(user: bool, x: Fields) -> u64
     ensures { λ r. ⌜ r ≡ ordinary user x ⌝ }
 {
     1
-        + flag(x.writable, WRITABLE)
-        + flag(x.user, USER)
-        + flag(x.no_execute, KERNEL_NO_EXECUTE)
+        + weight_if(x.writable, WRITABLE)
+        + weight_if(x.user, USER)
+        + weight_if(x.no_execute, KERNEL_NO_EXECUTE)
         + x.frame * FRAME
-        + flag(ordinary_no_execute(user, x.no_execute, x.user), NO_EXECUTE)
+        + weight_if(ordinary_no_execute(user, x.no_execute, x.user), NO_EXECUTE)
 }
 
 // The ordinary entry of a kernel entry, from its own fields: the compiler then masks the entry once.

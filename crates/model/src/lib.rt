@@ -11,6 +11,26 @@ ghost use Rattle.model.specs.Further.{startCases, syncCases, orderCases,
 ghost use Rattle.model.specs.Orders.{startOrder, callOrder};
 ghost use Rattle.model.specs.Worked.{workedInput, workedOutput};
 
+// Document 01, "The guard and its edges": the size of a page in bytes, and the most that V and F may be.
+pub const PAGE_BYTES: u64 = 4096;
+
+pub const MOST_PAGES: u64 = 2048;
+
+pub const MOST_FRAMES: u64 = 4096;
+
+// Document 01, "What the guard keeps": the map's number for a page with no frame approved, and how many entry pages a state has room for.
+pub const NONE: u16 = 65535;
+
+pub const ENTRY_PAGES: usize = 16;
+
+// The bytes of the longest exclusion vector.
+pub const VECTOR_BYTES: usize = 512;
+
+// Document 01, "Calls and their two numbers": the most bytes of a write and of a device write.
+pub const MOST_WRITTEN: u64 = 16;
+
+pub const MOST_TRANSFERRED: u64 = 1048576;
+
 // Document 01, "What the guard keeps": the mode, kernel or user, together with the page now running.
 pub enum Mode {
     Kernel(u16),
@@ -26,7 +46,7 @@ pub struct State {
     // e, the number of entry pages.
     pub entry_count: u16,
     // The sixteen entry pages; unused ones are 0.
-    pub entry_pages: [u16; 16],
+    pub entry_pages: [u16; ENTRY_PAGES],
     pub mode: Mode,
 }
 

@@ -81,7 +81,7 @@ pub fn padded_number(bytes: &[u8], at: usize) -> u16
 }
 
 // Question 2.
-fn sizes_in_range(pages: u16, frames: u16) -> bool
+fn sizes_in_range(pages: u64, frames: u64) -> bool
     ensures { λ r. ⌜ r ≡ both (pagesInRange pages) (framesInRange frames) ⌝ }
 {
     questions::both(
@@ -90,20 +90,20 @@ fn sizes_in_range(pages: u16, frames: u16) -> bool
     )
 }
 
-fn smaller(a: u16, b: u16) -> u16
+fn smaller(a: u64, b: u64) -> u64
     ensures { λ r. ⌜ r ≡ min a b ⌝ }
 {
     if a < b { a } else { b }
 }
 
 // Question 3.
-fn counts_in_range(pages: u16, count: u16, entry_count: u16) -> bool
+fn counts_in_range(pages: u64, count: u64, entry_count: u64) -> bool
     ensures { λ r. ⌜ r ≡ both (within 1 pages count) (within 1 (min count 16) «entry_count») ⌝ }
 {
-    let most = smaller(count, 16);
+    let most = smaller(count, model::ENTRY_PAGES as u64);
     questions::both(
-        questions::in_range(1, pages as u64, count as u64),
-        questions::in_range(1, most as u64, entry_count as u64),
+        questions::in_range(1, pages, count),
+        questions::in_range(1, most, entry_count),
     )
 }
 
@@ -156,12 +156,12 @@ pub fn record_question(bytes: &[u8]) -> u64
     }
     let pages = number_from(bytes, 0);
     let frames = number_from(bytes, 2);
-    if !sizes_in_range(pages, frames) {
+    if !sizes_in_range(pages as u64, frames as u64) {
         return 2;
     }
     let count = number_from(bytes, 4);
     let entry_count = number_from(bytes, 6);
-    if !counts_in_range(pages, count, entry_count) {
+    if !counts_in_range(pages as u64, count as u64, entry_count as u64) {
         return 3;
     }
     if bytes.len() != 8 + 4 * count as usize {

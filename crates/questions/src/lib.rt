@@ -10,13 +10,19 @@ ghost use lib.ListN.{getD};
 ghost use Rattle.model.specs.declared.Answer.the-variants.{Refused};
 ghost use Rattle.model.specs.Basics;
 ghost use Rattle.model.specs.Basics.{within};
-ghost use Rattle.model.specs.Edges.{pagesInRange, framesInRange, lastByte, lastPage};
+ghost use Rattle.model.specs.Edges.{pageBytes, pagesInRange, framesInRange, lastByte, lastPage};
 ghost use Rattle.model.specs.Keeps;
 ghost use Rattle.model.specs.Keeps.{vectorBytes, inUser, modeOf, inMode};
 ghost use Rattle.model.specs.Questions.{stateInOrder, inOrder};
 use model::Answer;
 use model::Called;
+use model::ENTRY_PAGES;
+use model::MOST_FRAMES;
+use model::MOST_PAGES;
+use model::MOST_TRANSFERRED;
+use model::MOST_WRITTEN;
 use model::Mode;
+use model::PAGE_BYTES;
 use model::State;
 
 // The mode.
@@ -90,27 +96,34 @@ pub fn in_range(low: u64, high: u64, x: u64) -> bool
 
 // Question 7: the state, and the length of every lent table.
 
-pub fn pages_in_range(pages: u16) -> bool
+pub fn pages_in_range(pages: u64) -> bool
     ensures { λ r. ⌜ r ≡ pagesInRange pages ⌝ }
 {
-    in_range(1, 2048, pages as u64)
+    in_range(1, MOST_PAGES, pages)
 }
 
-pub fn frames_in_range(frames: u16) -> bool
+pub fn frames_in_range(frames: u64) -> bool
     ensures { λ r. ⌜ r ≡ framesInRange frames ⌝ }
 {
-    in_range(1, 4096, frames as u64)
+    in_range(1, MOST_FRAMES, frames)
+}
+
+// The number of entry pages, as a state may have it.
+pub fn entry_count_in_range(count: u64) -> bool
+    ensures { λ r. ⌜ r ≡ within 1 16 count ⌝ }
+{
+    in_range(1, ENTRY_PAGES as u64, count)
 }
 
 pub fn state_in_order(s: State) -> bool
     ensures { λ r. ⌜ r ≡ stateInOrder s ⌝ }
 {
     let mode = s.mode;
-    let entries = in_range(1, 16, s.entry_count as u64);
+    let entries = entry_count_in_range(s.entry_count as u64);
     let exists = running(mode) < s.pages;
     both(
-        pages_in_range(s.pages),
-        both(frames_in_range(s.frames), both(entries, exists)),
+        pages_in_range(s.pages as u64),
+        both(frames_in_range(s.frames as u64), both(entries, exists)),
     )
 }
 
@@ -191,13 +204,13 @@ pub fn device_write_in_order(s: State, exclusion: usize) -> bool
 pub fn write_length(length: u64) -> bool
     ensures { λ r. ⌜ r ≡ within 1 16 length ⌝ }
 {
-    in_range(1, 16, length)
+    in_range(1, MOST_WRITTEN, length)
 }
 
 pub fn device_length(length: u64) -> bool
     ensures { λ r. ⌜ r ≡ within 1 1048576 length ⌝ }
 {
-    in_range(1, 1048576, length)
+    in_range(1, MOST_TRANSFERRED, length)
 }
 
 // Question 9.
@@ -225,14 +238,14 @@ pub fn ends_below(address: u64, length: u64, limit: u64) -> bool
 pub fn write_exists(address: u64, length: u64, pages: u16) -> bool
     ensures { λ r. ⌜ r ≡ ltb (lastPage address length) pages ⌝ }
 {
-    ends_below(address, length, pages as u64 * 4096)
+    ends_below(address, length, pages as u64 * PAGE_BYTES)
 }
 
 // A transfer's last byte is below F frames.
 pub fn transfer_exists(address: u64, length: u64, frames: u16) -> bool
-    ensures { λ r. ⌜ r ≡ ltb (lastByte address length) (frames * 4096) ⌝ }
+    ensures { λ r. ⌜ r ≡ ltb (lastByte address length) (frames * pageBytes) ⌝ }
 {
-    ends_below(address, length, frames as u64 * 4096)
+    ends_below(address, length, frames as u64 * PAGE_BYTES)
 }
 
 // The page of an entry index, and 0 where there is no such index.
@@ -240,7 +253,11 @@ pub fn entry_page(s: State, index: u64) -> u16
     ensures { λ r. ⌜ r ≡ getD (s .«entry_pages») index 0 ⌝ }
 {
     let entry_pages = s.entry_pages;
-    if index < 16 { entry_pages[index as usize] } else { 0 }
+    if index < ENTRY_PAGES as u64 {
+        entry_pages[index as usize]
+    } else {
+        0
+    }
 }
 
 // An entry index is below e, and its page below V.

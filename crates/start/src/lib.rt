@@ -5,21 +5,21 @@ ghost use mathlib.Core.Path.{_≡_};
 ghost use mathlib.Core.Bool.{true};
 ghost use Prim.Native.Nat.{_+_, _*_, _≤_};
 ghost use lib.ListN.{length, take, replicate};
-ghost use Rattle.model.specs.Keeps.{tables, vectorBytes};
+ghost use Rattle.model.specs.Keeps.{none, tables, vectorBytes};
 ghost use Rattle.model.specs.Policy.{nothingGiven, numbersAt, policyOf, startTables};
 ghost use Rattle.model.specs.Questions.{firstNo, allBelow, lengths, startQuestions};
 ghost use Rattle.model.specs.Calls.{outcomeBy, startOf};
 ghost use Rattle.start.specs.Start.{refusedStart, acceptedStart, storedEach, approvedEach, withEach, entryTable};
 use model::Answer;
 use model::Called;
+use model::ENTRY_PAGES;
 use model::Mode;
+use model::NONE;
 use model::State;
+use model::VECTOR_BYTES;
 
 // The place of the first listed page.
 const PAGES: usize = 8;
-
-// The map's number for a page without approval.
-const NONE: u16 = 65535;
 
 fn clear_shadow(shadow: &mut [u64])
     ensures { λ _. ⌜ now (shadow .exit) ≡ replicate (length (now (shadow .entry))) 0 ⌝ }
@@ -32,7 +32,7 @@ fn clear_shadow(shadow: &mut [u64])
 }
 
 fn clear_map(map: &mut [u16])
-    ensures { λ _. ⌜ now (map .exit) ≡ replicate (length (now (map .entry))) 65535 ⌝ }
+    ensures { λ _. ⌜ now (map .exit) ≡ replicate (length (now (map .entry))) none ⌝ }
 {
     let mut i = 0;
     while i < map.len() {
@@ -113,17 +113,17 @@ fn set_vector(bytes: &[u8], exclusion: &mut [u8])
         × (policyOf (now bytes) .frames ≤ 4096) × (allBelow 4096 (policyOf (now bytes) .listedFrames) ≡ true) ⌝ }
     ensures { λ _. ⌜ now (exclusion .exit) ≡ startTables (policyOf (now (bytes .entry))) .exclusion ⌝ }
 {
-    let mut buffer = [0u8; 512];
+    let mut buffer = [0u8; VECTOR_BYTES];
     gather(bytes, policy::number_from(bytes, 4), &mut buffer);
     copy_front(&buffer, exclusion);
 }
 
 // Question 3 has bounded the entries by sixteen, the array's length, and question 4 has put the pages inside the record.
-fn entry_pages(bytes: &[u8], entry_count: u16) -> [u16; 16]
+fn entry_pages(bytes: &[u8], entry_count: u16) -> [u16; ENTRY_PAGES]
     requires { ⌜ («entry_count» ≤ 16) × (8 + 2 * «entry_count» ≤ length (now bytes)) ⌝ }
     ensures { λ r. ⌜ r ≡ entryTable (now (bytes .entry)) «entry_count» ⌝ }
 {
-    let mut pages = [0u16; 16];
+    let mut pages = [0u16; ENTRY_PAGES];
     let mut i = 0;
     while i < entry_count {
         pages[i as usize] = policy::number_from(bytes, PAGES + 2 * i as usize);
@@ -142,7 +142,7 @@ fn refused_start(number: u64) -> Called
             pages: 0,
             frames: 0,
             entry_count: 0,
-            entry_pages: [0u16; 16],
+            entry_pages: [0u16; ENTRY_PAGES],
             mode: Mode::User(0),
         },
     }

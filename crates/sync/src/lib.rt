@@ -3,6 +3,7 @@
 
 use model::Answer;
 use model::Entry;
+use model::NONE;
 use model::State;
 ghost use mathlib.Core.Path.{_≡_};
 ghost use Prim.Native.Nat.{_+_, _<_, _≤_};
@@ -13,9 +14,6 @@ ghost use Rattle.model.specs.Sync;
 ghost use Rattle.model.specs.Sync.{slot, sweep, sweepFrom, entryIn, stepFrom};
 ghost use Rattle.model.specs.Calls.{keptBy, syncPage, syncAll, answer};
 ghost use Rattle.sync.specs.Steps.{rulesBy, stored};
-
-// The map's number for a page that has no frame approved.
-const NONE: u16 = 65535;
 
 // A page's shadow entry and its number in the map.
 struct Slot {

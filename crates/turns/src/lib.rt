@@ -15,7 +15,14 @@ ghost use Rattle.turns.specs.Turns.{drillOf, editedBy, performedBy, turn
 use lines::Line;
 use model::Answer;
 use model::Called;
+use model::MOST_PAGES;
 use model::State;
+
+// The bytes of a call.
+pub const CALL_BYTES: usize = 16;
+
+// The bytes of the longest policy.
+pub const POLICY_BYTES: usize = 8200;
 
 // The policy and the start.
 
@@ -24,7 +31,7 @@ pub fn policy_extent(input: &[u8]) -> usize
     ensures { λ r. ⌜ (r ≡ policyExtent (now (input .entry))) × (8 ≤ r) × (r ≤ 8200) ⌝ }
 {
     let count = policy::padded_number(input, 4);
-    if questions::in_range(1, 2048, count as u64) {
+    if questions::in_range(1, MOST_PAGES, count as u64) {
         return 8 + 4 * count as usize;
     }
     8
@@ -36,7 +43,7 @@ pub fn pages_lent(bytes: &[u8]) -> usize
     ensures { λ r. ⌜ (r ≡ pagesLent (now (bytes .entry))) × (r ≤ 2048) ⌝ }
 {
     let pages = policy::padded_number(bytes, 0);
-    if questions::pages_in_range(pages) {
+    if questions::pages_in_range(pages as u64) {
         return pages as usize;
     }
     0
@@ -46,7 +53,7 @@ pub fn bytes_lent(bytes: &[u8]) -> usize
     ensures { λ r. ⌜ (r ≡ bytesLent (now (bytes .entry))) × (r ≤ 512) ⌝ }
 {
     let frames = policy::padded_number(bytes, 2);
-    if questions::frames_in_range(frames) {
+    if questions::frames_in_range(frames as u64) {
         return questions::vector_bytes(frames);
     }
     0
@@ -279,7 +286,7 @@ pub fn turn(
             goes: false,
         };
     }
-    if call.len() != 16 {
+    if call.len() != CALL_BYTES {
         return ended(s, 14);
     }
     let kind = call[0];
@@ -302,10 +309,10 @@ pub fn turn(
     );
     let answer = done.answer;
     let state = done.state;
-    let mode = state.mode;
+    let after = state.mode;
     TurnResult {
         state,
-        line: lines::call_line(48 + kind, answer, mode),
+        line: lines::call_line(48 + kind, answer, after),
         goes: true,
     }
 }

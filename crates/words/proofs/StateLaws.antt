@@ -6,7 +6,7 @@ use mathlib.Core.Path.{_≡_, refl, sym, ap, _∙_}
 use lib.ListN.{length, getD, set, length-set, List·getD-append}
 use lib.Seq.{paste, drop-at, getD-drop, getD-set-same, getD-set-other, set-getD}
 use lib.Dec.{leb, ltb, eqb}
-use borrow.Author.Tests.{le-leb, leb-true, leb-false, ltb-true, eqb-true, eqb-false}
+use borrow.Author.Tests.{lt-ltb, ltb-true}
 use native.Mathlib.Omega.{arith}
 use mir.Syntax.{w16}
 use mir.Val.{Fits}
@@ -20,7 +20,7 @@ use Rattle.model.specs.Questions.{stateInOrder}
 use Rattle.model.proofs.QuestionLaws.{both-first, both-second, both-yes, both-no-after, within-high}
 use Rattle.model.proofs.TableLaws.{is-table, table-same}
 use Rattle.words.specs.Words.{stateWords, pagesAt, framesAt, entryCountAt, entryPagesAt, entryWords, modeAt, runningAt, widest}
-use Rattle.words.specs.Words.{narrow, field, entryPagesIn, stateIn, modeWord, lastWords, wordsOf, withWords, pageWords, modeWords}
+use Rattle.words.specs.Words.{narrow, field, entryPagesIn, stateIn, modeWord, lastWords, wordsOf, withWords, pagePlaces, modePlaces}
 use Rattle.words.proofs.WordLaws.{front-none, front-word, front-table, front-full, narrow-fits, narrow-wide, narrow-within, narrow-ltb}
 
 -- A run keeps its length where V, F and e are written before calls that keep it.
@@ -79,24 +79,24 @@ module _ (s : State) (long : length (s .«entry_pages») ≡ entryWords) where
 
 -- The words that a call puts into a run, one by one.
 module _ (run : List ℕ) (s : State) (long : length (s .«entry_pages») ≡ entryWords) where
-  mode-words : withWords run s modeWords ≡ set (set run modeAt (modeWord (s .mode))) runningAt (running (s .mode))
+  mode-words : withWords run s modePlaces ≡ set (set run modeAt (modeWord (s .mode))) runningAt (running (s .mode))
   unfolding withWords
   mode-words = rw (last-word s long (modeAt - modeAt), last-word s long (runningAt - modeAt)) refl
 
-  page-words : withWords run s pageWords ≡ set run runningAt (running (s .mode))
+  page-words : withWords run s pagePlaces ≡ set run runningAt (running (s .mode))
   unfolding withWords
   page-words = rw (last-word s long (runningAt - modeAt)) refl
 
-  pub mode-put : (word r : ℕ) → word ≡ modeWord (s .mode) → r ≡ running (s .mode) → set (set run modeAt word) runningAt r ≡ withWords run s modeWords
+  pub mode-put : (word r : ℕ) → word ≡ modeWord (s .mode) → r ≡ running (s .mode) → set (set run modeAt word) runningAt r ≡ withWords run s modePlaces
   mode-put word r e p = rw (e, p) (sym mode-words)
 
-  pub page-put : (r : ℕ) → r ≡ running (s .mode) → set run runningAt r ≡ withWords run s pageWords
+  pub page-put : (r : ℕ) → r ≡ running (s .mode) → set run runningAt r ≡ withWords run s pagePlaces
   page-put r p = rw p (sym page-words)
 
 -- All words of a state, written front to back: V, F and e, the entry pages, the mode.
 pub words-written : (s : State) (run t u : List ℕ) → length run ≡ stateWords → length (s .«entry_pages») ≡ entryWords
     → t ≡ paste (set (set (set run pagesAt (s .pages)) framesAt (s .frames)) entryCountAt (s .«entry_count»)) entryPagesAt (s .«entry_pages») entryWords
-    → u ≡ withWords t s modeWords → u ≡ wordsOf s
+    → u ≡ withWords t s modePlaces → u ≡ wordsOf s
 unfolding wordsOf
 words-written s run t u long k e p =
     rw (p, mode-words t s k, e)
@@ -140,13 +140,13 @@ module _ (run : List ℕ) (s : State) (size : length run ≡ stateWords) (long :
       (table-same entryWords _ _ (λ i h. ap narrow (same (entryPagesAt + i) (λ q. omega arith) (λ q. omega arith))))
       is
 
-  pub mode-decoded : stateIn (withWords run s modeWords) ≡ inMode (stateIn run) (s .mode)
+  pub mode-decoded : stateIn (withWords run s modePlaces) ≡ inMode (stateIn run) (s .mode)
   mode-decoded =
       rw (mode-words run s long)
       (same-fields _ (s .mode) mode-field
       (rw (mode-there, running-put (set run modeAt (modeWord (s .mode))) (simp length-set size)) (mode-back (s .mode))))
 
-  pub page-decoded : stateIn (withWords run s pageWords) ≡ inMode (stateIn run) (modeOf (eqb (getD run modeAt 0) 1) (running (s .mode)))
+  pub page-decoded : stateIn (withWords run s pagePlaces) ≡ inMode (stateIn run) (modeOf (eqb (getD run modeAt 0) 1) (running (s .mode)))
   page-decoded =
       rw (page-words run s long)
       (same-fields _ _ (λ at m r. page-field at r)
@@ -165,20 +165,20 @@ running-mode false page = refl
 module _ (p f e r : ℕ) where
   -- as `words_in_order` asks it
   abbrev onWords : Bool
-  onWords = both (both (within 1 2048 p) (within 1 4096 f)) (both (within 1 16 e) (both (leb r 2047) (ltb r p)))
+  onWords = both (both (pagesInRange p) (framesInRange f)) (both (within 1 16 e) (both (ltb r 2048) (ltb r p)))
 
-  -- a page below V is at most 2047
-  below : p ≤ 2048 → (b : Bool) → ltb r p ≡ b → both (leb r 2047) (ltb r p) ≡ ltb r p
-  below few true e = rw e (both-yes (le-leb r 2047 (omega (arith, ltb-true r p e))) refl)
-  below few false e = rw e (both-no-after (leb r 2047) refl)
+  -- a page below V is below the most that V may be
+  below : p ≤ 2048 → (b : Bool) → ltb r p ≡ b → both (ltb r 2048) (ltb r p) ≡ ltb r p
+  below few true e = rw e (both-yes (lt-ltb r 2048 (omega (arith, ltb-true r p e))) refl)
+  below few false e = rw e (both-no-after (ltb r 2048) refl)
 
-  on-words : onWords ≡ both (within 1 2048 p) (both (within 1 4096 f) (both (within 1 16 e) (ltb (narrow r) (narrow p))))
-  unfolding both
-  on-words = by (within 1 2048 p) refl
+  on-words : onWords ≡ both (pagesInRange p) (both (framesInRange f) (both (within 1 16 e) (ltb (narrow r) (narrow p))))
+  unfolding both pagesInRange
+  on-words = by (pagesInRange p) refl
     where
-      by : (b : Bool) → within 1 2048 p ≡ b
-          → both (both b (within 1 4096 f)) (both (within 1 16 e) (both (leb r 2047) (ltb r p)))
-          ≡ both b (both (within 1 4096 f) (both (within 1 16 e) (ltb (narrow r) (narrow p))))
+      by : (b : Bool) → pagesInRange p ≡ b
+          → both (both b (framesInRange f)) (both (within 1 16 e) (both (ltb r 2048) (ltb r p)))
+          ≡ both b (both (framesInRange f) (both (within 1 16 e) (ltb (narrow r) (narrow p))))
       by true h = let few : p ≤ 2048 = within-high 1 2048 p h in rw (narrow-ltb r p (omega arith), below few (ltb r p) refl) refl
       by false h = refl
 
@@ -195,7 +195,7 @@ words-asked run =
     (on-words (getD run pagesAt 0) (getD run framesAt 0) (getD run entryCountAt 0) (getD run runningAt 0))
 
 pub words-in-order : (run : List ℕ) (a b d q w y r : Bool) → r ≡ both q y → q ≡ both a b → y ≡ both d w
-    → w ≡ both (leb (getD run runningAt 0) 2047) (ltb (getD run runningAt 0) (getD run pagesAt 0))
-    → a ≡ within 1 2048 (getD run pagesAt 0) → b ≡ within 1 4096 (getD run framesAt 0) → d ≡ within 1 16 (getD run entryCountAt 0)
+    → w ≡ both (ltb (getD run runningAt 0) 2048) (ltb (getD run runningAt 0) (getD run pagesAt 0))
+    → a ≡ pagesInRange (getD run pagesAt 0) → b ≡ framesInRange (getD run framesAt 0) → d ≡ within 1 16 (getD run entryCountAt 0)
     → r ≡ stateInOrder (stateIn run)
 words-in-order run a b d q w y r e1 e2 e3 e4 e5 e6 e7 = cc (words-asked run)

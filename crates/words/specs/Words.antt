@@ -95,19 +95,19 @@ withWords run s [] = run
 withWords run s (at ∷ places) = withWords (set run at (getD (wordsOf s) at 0)) s places
 
 -- The places of a state run that a call can change: the page now running, or the mode with it. A call that keeps the state writes nothing there.
-abbrev pub pageWords : List ℕ
-pageWords = runningAt ∷ []
+abbrev pub pagePlaces : List ℕ
+pagePlaces = runningAt ∷ []
 
-abbrev pub modeWords : List ℕ
-modeWords = modeAt ∷ runningAt ∷ []
+abbrev pub modePlaces : List ℕ
+modePlaces = modeAt ∷ runningAt ∷ []
 
 abbrev pub changedBy : Call → List ℕ
 changedBy (syncPage kernel page) = []
 changedBy (syncAll kernel) = []
-changedBy (fetch page) = pageWords
+changedBy (fetch page) = pagePlaces
 changedBy (write address length) = []
-changedBy (enter index) = modeWords
-changedBy (leave page) = modeWords
+changedBy (enter index) = modePlaces
+changedBy (leave page) = modePlaces
 changedBy (deviceWrite address length) = []
 
 -- Values in a run that has a word for each. A run of another length is not written.

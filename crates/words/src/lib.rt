@@ -12,9 +12,11 @@ ghost use Rattle.model.specs.Keeps.{modeOf, running};
 ghost use Rattle.model.specs.Questions.{stateInOrder};
 ghost use Rattle.model.specs.Calls.{replyOf};
 ghost use Rattle.words.specs.Words;
-ghost use Rattle.words.specs.Words.{stateWords, entryPagesAt, entryWords, startNumbers, entryPagesIn, stateIn, modeWord, wordsOf, withWords, pageWords, modeWords, overwritten, withNumbers, runsFit, runAfter, runStarted, WideRefused};
+ghost use Rattle.words.specs.Words.{stateWords, entryPagesAt, entryWords, startNumbers, entryPagesIn, stateIn, modeWord, wordsOf, withWords, pagePlaces, modePlaces, overwritten, withNumbers, runsFit, runAfter, runStarted, WideRefused};
 use model::Answer;
 use model::Called;
+use model::ENTRY_PAGES;
+use model::MOST_PAGES;
 use model::Mode;
 use model::State;
 
@@ -39,9 +41,6 @@ pub const MODE_USER: u64 = 1;
 
 // The length of a numbers run.
 pub const NUMBERS: usize = 2;
-
-// How many entry pages a state has room for.
-const ENTRY_PAGES: usize = 16;
 
 // The widest 16-bit field.
 const WIDEST: u16 = 65535;
@@ -122,7 +121,7 @@ pub fn state_in(run: &[u64]) -> State
 // Writes the page of a state that now runs into a run, and no other word.
 fn put_page(run: &mut [u64], s: State)
     requires { ⌜ length (now run) ≡ stateWords ⌝ }
-    ensures { λ _. ⌜ now (run .exit) ≡ withWords (now (run .entry)) s pageWords ⌝ }
+    ensures { λ _. ⌜ now (run .exit) ≡ withWords (now (run .entry)) s pagePlaces ⌝ }
 {
     let mode = s.mode;
     run[STATE_RUNNING] = questions::running(mode) as u64;
@@ -131,7 +130,7 @@ fn put_page(run: &mut [u64], s: State)
 // Writes both words of a state's mode into a run, and no other. A mode's page is a 16-bit number, on which decoding rests.
 fn put_mode(run: &mut [u64], s: State)
     requires { ⌜ length (now run) ≡ stateWords ⌝ }
-    ensures words { λ _. ⌜ now (run .exit) ≡ withWords (now (run .entry)) s modeWords ⌝ }
+    ensures words { λ _. ⌜ now (run .exit) ≡ withWords (now (run .entry)) s modePlaces ⌝ }
     ensures fits { λ _. ⌜ running (s .mode) < 65536 ⌝ }
 {
     let mode = s.mode;
@@ -182,19 +181,19 @@ fn lendable(run: &[u64], numbers: &[u64], count: usize) -> bool
 }
 
 // The state's part of question 7, on the words of a run. The compiler then drops what the calls below ask of the fields; that the running
-// page is at most 2047 follows from the rest, and is asked for it to know.
+// page is below the most that V may be follows from the rest, and is asked for it to know.
 fn words_in_order(run: &[u64]) -> bool
     requires { ⌜ length (now run) ≡ stateWords ⌝ }
     ensures { λ r. ⌜ r ≡ stateInOrder (stateIn (now (run .entry))) ⌝ }
 {
     let pages = run[STATE_PAGES];
     let sizes = questions::both(
-        questions::in_range(1, 2048, pages),
-        questions::in_range(1, 4096, run[STATE_FRAMES]),
+        questions::pages_in_range(pages),
+        questions::frames_in_range(run[STATE_FRAMES]),
     );
-    let entries = questions::in_range(1, 16, run[STATE_ENTRIES]);
+    let entries = questions::entry_count_in_range(run[STATE_ENTRIES]);
     let running = run[STATE_RUNNING];
-    let exists = questions::both(running <= 2047, running < pages);
+    let exists = questions::both(running < MOST_PAGES, running < pages);
     questions::both(sizes, questions::both(entries, exists))
 }
 
@@ -240,7 +239,7 @@ pub fn reply(numbers: &mut [u64], answer: Answer) -> u64
 pub fn put_fetched(run: &mut [u64], numbers: &mut [u64], called: Called) -> u64
     requires { ⌜ length (now run) ≡ stateWords ⌝ }
     ensures number { λ r. ⌜ r ≡ replyOf (called .answer) .number ⌝ }
-    ensures words { λ _. ⌜ now (run .exit) ≡ runAfter (now (run .entry)) pageWords (replyOf (called .answer)) (called .state) ⌝ }
+    ensures words { λ _. ⌜ now (run .exit) ≡ runAfter (now (run .entry)) pagePlaces (replyOf (called .answer)) (called .state) ⌝ }
     ensures both { λ _. ⌜ now (numbers .exit) ≡ withNumbers 2 (now (numbers .entry)) (replyOf (called .answer)) ⌝ }
 {
     let answer = called.answer;
@@ -257,7 +256,7 @@ pub fn put_fetched(run: &mut [u64], numbers: &mut [u64], called: Called) -> u64
 pub fn put_switched(run: &mut [u64], numbers: &mut [u64], called: Called) -> u64
     requires { ⌜ length (now run) ≡ stateWords ⌝ }
     ensures number { λ r. ⌜ r ≡ replyOf (called .answer) .number ⌝ }
-    ensures words { λ _. ⌜ now (run .exit) ≡ runAfter (now (run .entry)) modeWords (replyOf (called .answer)) (called .state) ⌝ }
+    ensures words { λ _. ⌜ now (run .exit) ≡ runAfter (now (run .entry)) modePlaces (replyOf (called .answer)) (called .state) ⌝ }
     ensures both { λ _. ⌜ now (numbers .exit) ≡ withNumbers 2 (now (numbers .entry)) (replyOf (called .answer)) ⌝ }
 {
     let answer = called.answer;

@@ -13,7 +13,7 @@ use Rattle.model.specs.Questions.{firstNo, seen}
 use Rattle.model.specs.Calls.{settle, Outcome, refusedOf, Call, syncPage, syncAll, fetch, write, enter, leave, deviceWrite, broughtBy, questionsOf, effectOf, answer, pageSynced, allSynced}
 use Rattle.model.proofs.CallLaws.{effect-reply, effect-state, effect-runs}
 use Rattle.model.proofs.TableLaws.{length-table}
-use Rattle.words.specs.Words.{stateWords, pagesAt, entryWords, modeAt, runningAt, entryPagesIn, stateIn, field, numbersBy, modeWords, changedBy, withWords, lendable, runAfter}
+use Rattle.words.specs.Words.{stateWords, pagesAt, entryWords, modeAt, runningAt, entryPagesIn, stateIn, field, numbersBy, modePlaces, changedBy, withWords, lendable, runAfter}
 use Rattle.words.proofs.WordLaws.{narrow-below, run-lent}
 use Rattle.words.proofs.StateLaws.{mode-decoded, page-decoded, running-mode}
 use Rattle.boundary.specs.Boundary.{replied, callAt, StateHeld}
@@ -52,7 +52,7 @@ module _ (run : List ℕ) (t : Tables) where
   mode-stays page = rw (user-mode, running-mode) refl
 
   module _ (size : length run ≡ stateWords) where
-    switched : (call : Call) → running (after call .mode) < 65536 → stateIn (withWords run (after call) modeWords) ≡ after call
+    switched : (call : Call) → running (after call .mode) < 65536 → stateIn (withWords run (after call) modePlaces) ≡ after call
     switched call small = mode-decoded run (after call) size (entries-long call) small ∙ sym (effect-state g call)
 
     words-hold : (call : Call) → running (after call .mode) < 65536 → stateIn (withWords run (after call) (changedBy call)) ≡ after call

@@ -1,5 +1,5 @@
-use borrow.Author.Needs.{needs}
 use Rattle.policy.proofs.RecordLaws.{nothing-asked, record-1, record-2, record-3, record-4, record-5, record-6, record-yes}
+use borrow.Author.Needs.{needs}
 use Rattle.policy.proofs.record_question.Statement.{statement}
 use Rattle.policy.proofs.record_question.Tie as tie
 
@@ -27,7 +27,7 @@ returns-7 c = search (needs, nothing-asked, record-yes)
 pub record-question-spec : {M : Type 1} → statement M
 record-question-spec =
     tie.close
-    (tie.spec returns (λ c κs. search needs) (λ c κs. search needs) (λ c κs. search needs) returns-2
-    (λ c κs. search needs) (λ c κs. search needs) (λ c κs. search needs) returns-3 (λ c. search needs)
-    (λ c. search needs) (λ c. search needs) returns-4 (λ c κs. search needs) returns-5 (λ c κs. search needs) returns-6
-    returns-7)
+    (tie.spec returns (λ c κs. search needs) (λ c κs. search needs) (λ c. search needs) (λ c. search needs)
+    (λ c κs. search needs) returns-2 (λ c κs. search needs) (λ c κs. search needs) (λ c. search needs)
+    (λ c. search needs) (λ c. search needs) (λ c κs. search needs) returns-3 (λ c. search needs) (λ c. search needs)
+    (λ c. search needs) returns-4 (λ c κs. search needs) returns-5 (λ c κs. search needs) returns-6 returns-7)

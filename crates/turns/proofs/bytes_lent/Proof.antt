@@ -1,6 +1,6 @@
 -- `turns::bytes_lent` meets its contract.
-use borrow.Author.Needs.{needs}
 use Rattle.turns.proofs.TurnLaws.{bytes-lent, bytes-bounded, bytes-none}
+use borrow.Author.Needs.{needs}
 use Rattle.turns.proofs.bytes_lent.Statement.{statement}
 use Rattle.turns.proofs.bytes_lent.Tie as tie
 
@@ -13,4 +13,4 @@ returns-2 c = search (needs, bytes-none)
 pub bytes-lent-spec : {M : Type 1} → statement M
 bytes-lent-spec =
     tie.close
-    (tie.spec (λ c κs. search needs) (λ c κs. search needs) (λ c κs. search needs) returns returns-2)
+    (tie.spec (λ c κs. search needs) (λ c. search needs) (λ c κs. search needs) (λ c κs. search needs) returns returns-2)

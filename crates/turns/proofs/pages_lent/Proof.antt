@@ -1,6 +1,6 @@
 -- `turns::pages_lent` meets its contract.
-use borrow.Author.Needs.{needs}
 use Rattle.turns.proofs.TurnLaws.{pages-lent, pages-bounded, pages-none}
+use borrow.Author.Needs.{needs}
 use Rattle.turns.proofs.pages_lent.Statement.{statement}
 use Rattle.turns.proofs.pages_lent.Tie as tie
 
@@ -13,4 +13,4 @@ returns-2 c = search (needs, pages-none)
 pub pages-lent-spec : {M : Type 1} → statement M
 pages-lent-spec =
     tie.close
-    (tie.spec (λ c κs. search needs) (λ c κs. search needs) (λ c. search needs) returns returns-2)
+    (tie.spec (λ c κs. search needs) (λ c. search needs) (λ c κs. search needs) (λ c. search needs) returns returns-2)

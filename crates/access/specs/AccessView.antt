@@ -10,8 +10,8 @@ use Rattle.model.specs.Keeps.{none, excludedIn}
 use Rattle.model.specs.Bits.{present, frameOf}
 use Rattle.model.specs.Questions.{Question, question, View, writePermitted}
 
-abbrev pub lent : Bool → ℕ → ℕ → List ℕ → List ℕ → View
-lent user pages frames shadow exclusion =
+abbrev pub accessView : Bool → ℕ → ℕ → List ℕ → List ℕ → View
+accessView user pages frames shadow exclusion =
     record {
       pages = pages;
       frames = frames;
