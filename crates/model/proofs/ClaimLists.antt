@@ -1,6 +1,5 @@
 -- Demand 3: the claim about the whole list, by induction on it. One call at a time, refused or accepted, and then the rest.
 use Prim.Native.Nat.{ℕ, zero, suc}
-use mathlib.Core.Bool.{true}
 use mathlib.Core.List.{List, [], _∷_}
 use mathlib.Core.Path.{_≡_, refl, sym, ap, fun-ext, _∙_}
 use native.Mathlib.Omega.{arith}

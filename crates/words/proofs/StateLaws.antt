@@ -1,11 +1,11 @@
 -- Laws of a state in a run: all words written, what was written decodes to the same state, and question 7 on the words.
-use Prim.Native.Nat.{ℕ, zero, suc, _+_, _-_, _≤_, _<_}
+use Prim.Native.Nat.{ℕ, _+_, _-_, _≤_, _<_}
 use mathlib.Core.Bool.{Bool, true, false}
 use mathlib.Core.List.{List}
 use mathlib.Core.Path.{_≡_, refl, sym, ap, _∙_}
 use lib.ListN.{length, getD, set, length-set, List·getD-append}
-use lib.Seq.{paste, drop-at, getD-drop, getD-set-same, getD-set-other, set-getD}
-use lib.Dec.{leb, ltb, eqb}
+use lib.Seq.{paste, drop-at, getD-drop, getD-set-same, getD-set-other}
+use lib.Dec.{ltb, eqb}
 use borrow.Author.Tests.{lt-ltb, ltb-true}
 use native.Mathlib.Omega.{arith}
 use mir.Syntax.{w16}
@@ -17,11 +17,11 @@ use Rattle.model.specs.Basics.{both, within}
 use Rattle.model.specs.Edges.{pagesInRange, framesInRange}
 use Rattle.model.specs.Keeps.{inUser, running, modeOf, inMode}
 use Rattle.model.specs.Questions.{stateInOrder}
-use Rattle.model.proofs.QuestionLaws.{both-first, both-second, both-yes, both-no-after, within-high}
+use Rattle.model.proofs.QuestionLaws.{both-yes, both-no-after, within-high}
 use Rattle.model.proofs.TableLaws.{is-table, table-same}
-use Rattle.words.specs.Words.{stateWords, pagesAt, framesAt, entryCountAt, entryPagesAt, entryWords, modeAt, runningAt, widest}
+use Rattle.words.specs.Words.{stateWords, pagesAt, framesAt, entryCountAt, entryPagesAt, entryWords, modeAt, runningAt}
 use Rattle.words.specs.Words.{narrow, field, entryPagesIn, stateIn, modeWord, lastWords, wordsOf, withWords, pagePlaces, modePlaces}
-use Rattle.words.proofs.WordLaws.{front-none, front-word, front-table, front-full, narrow-fits, narrow-wide, narrow-within, narrow-ltb}
+use Rattle.words.proofs.WordLaws.{front-none, front-word, front-table, front-full, narrow-fits, narrow-within, narrow-ltb}
 
 -- A run keeps its length where V, F and e are written before calls that keep it.
 pub sizes-kept : (run t : List ℕ) (a b d : ℕ) → length run ≡ stateWords
