@@ -17,8 +17,8 @@ pub enum Mode {
 pub struct State {
     pub pages: u16,
     pub frames: u16,
-    pub entries: u16,
-    pub entry: [u16; ENTRY_PAGES],
+    pub entry_count: u16,
+    pub entry_pages: [u16; ENTRY_PAGES],
     pub mode: Mode,
 }
 
@@ -41,8 +41,8 @@ pub fn words(s: State) -> [u64; STATE_WORDS] {
     let mut run = [0; STATE_WORDS];
     run[STATE_PAGES] = s.pages.into();
     run[STATE_FRAMES] = s.frames.into();
-    run[STATE_ENTRIES] = s.entries.into();
-    for (word, page) in run[STATE_ENTRY..].iter_mut().zip(s.entry) {
+    run[STATE_ENTRIES] = s.entry_count.into();
+    for (word, page) in run[STATE_ENTRY..].iter_mut().zip(s.entry_pages) {
         *word = page.into();
     }
     let (mode, page) = match s.mode {
@@ -64,8 +64,8 @@ fn state(run: [u64; STATE_WORDS]) -> State {
     State {
         pages: field(run[STATE_PAGES]),
         frames: field(run[STATE_FRAMES]),
-        entries: field(run[STATE_ENTRIES]),
-        entry: std::array::from_fn(|i| field(run[STATE_ENTRY + i])),
+        entry_count: field(run[STATE_ENTRIES]),
+        entry_pages: std::array::from_fn(|i| field(run[STATE_ENTRY + i])),
         mode: match run[STATE_MODE] {
             MODE_KERNEL => Mode::Kernel(page),
             MODE_USER => Mode::User(page),

@@ -113,10 +113,10 @@ fn question_9(t: Tally) -> Tally {
 // The last of sixteen entry pages; an index from e on is refused though its page is approved.
 fn sixteen(t: Tally) -> Tally {
     let user = [0, 0, 0, 0x8000000000008401];
-    let entry = [0, 0, 0, 0, 0, 0, 0, 0, 0, 0, 0, 0, 0, 0, 0, 3];
-    let given = State { pages: 4, frames: 9, entries: 16, entry, mode: User(0) };
-    let left = State { pages: 4, frames: 9, entries: 16, entry, mode: Kernel(3) };
-    let fewer = State { pages: 4, frames: 9, entries: 15, entry, mode: User(0) };
+    let entry_pages = [0, 0, 0, 0, 0, 0, 0, 0, 0, 0, 0, 0, 0, 0, 0, 3];
+    let given = State { pages: 4, frames: 9, entry_count: 16, entry_pages, mode: User(0) };
+    let left = State { pages: 4, frames: 9, entry_count: 16, entry_pages, mode: Kernel(3) };
+    let fewer = State { pages: 4, frames: 9, entry_count: 15, entry_pages, mode: User(0) };
     let t = enter_on(
         t,
         "the last of sixteen indices",

@@ -6,13 +6,10 @@ use crate::calls::State;
 use ::guard::ENTRY_PAGES;
 
 // A state whose first four entry pages are given; the others are 0.
-pub fn state(pages: u16, frames: u16, entries: u16, entry: [u16; 4], mode: Mode) -> State {
-    let mut all = [0u16; ENTRY_PAGES];
-    all[0] = entry[0];
-    all[1] = entry[1];
-    all[2] = entry[2];
-    all[3] = entry[3];
-    State { pages, frames, entries, entry: all, mode }
+pub fn state(pages: u16, frames: u16, entry_count: u16, first: [u16; 4], mode: Mode) -> State {
+    let mut entry_pages = [0u16; ENTRY_PAGES];
+    entry_pages[..4].copy_from_slice(&first);
+    State { pages, frames, entry_count, entry_pages, mode }
 }
 
 pub fn state_in(mode: Mode) -> State {

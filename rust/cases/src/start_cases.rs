@@ -28,8 +28,8 @@ fn before() -> Tables {
 const STATE_BEFORE: State = State {
     pages: 1000,
     frames: 3000,
-    entries: 7,
-    entry: [100, 101, 102, 103, 104, 105, 106, 107, 108, 109, 110, 111, 112, 113, 114, 115],
+    entry_count: 7,
+    entry_pages: [100, 101, 102, 103, 104, 105, 106, 107, 108, 109, 110, 111, 112, 113, 114, 115],
     mode: User(999),
 };
 
@@ -182,8 +182,8 @@ fn sixteen(t: Tally) -> Tally {
     let left = State {
         pages: 17,
         frames: 1,
-        entries: 16,
-        entry: [0, 1, 2, 3, 4, 5, 6, 7, 8, 9, 10, 11, 12, 13, 14, 15],
+        entry_count: 16,
+        entry_pages: [0, 1, 2, 3, 4, 5, 6, 7, 8, 9, 10, 11, 12, 13, 14, 15],
         mode: Kernel(0),
     };
     let tables = entries && numbers && bytes;
