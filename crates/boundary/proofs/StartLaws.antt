@@ -13,7 +13,7 @@ use Rattle.model.specs.Questions.{firstNo, recordQuestions, Lengths, lengthsOf,
 use Rattle.model.specs.Calls.{replyOf, settle, Outcome, outcomeBy, startOf}
 use Rattle.model.proofs.QuestionLaws.{settle-accepted}
 use Rattle.policy.proofs.RecordLaws.{start-refused, start-asked}
-use Rattle.words.specs.Words.{startNumbers, runsFit, runStarted}
+use Rattle.words.specs.Words.{answerNumbers, runsFit, runStarted}
 use Rattle.boundary.specs.Boundary.{returned, replied, startAt}
 use Rattle.boundary.proofs.BoundaryLaws.{Says}
 
@@ -41,15 +41,15 @@ by-record given bytes l zero e =
     seven _ (lengthsFit (policyOf bytes) l) (start-asked given bytes 0 l e refl) ∙ sym (settle-accepted 7 (λ k. k) refl)
 by-record given bytes l (suc n) e = ap (λ (m : ℕ). settle m 7 (λ k. k)) (start-refused given bytes (suc n) l e (λ z. omega arith))
 
-module _ (given : Givens) (bytes run numbers after : List ℕ) (t : Tables) (r : ℕ) (b : Bool) (asks : b ≡ runsFit startNumbers run numbers) where
+module _ (given : Givens) (bytes run numbers after : List ℕ) (t : Tables) (r : ℕ) (b : Bool) (asks : b ≡ runsFit answerNumbers run numbers) where
   pub start-unfit : (q : ℕ) → not b ≡ true → q ≡ settle (firstNo (recordQuestions given bytes (policyOf bytes))) 7 (λ n. n)
-      → Says startNumbers (Refused q) r numbers after → returned r run after t ≡ startAt given bytes run numbers t
+      → Says answerNumbers (Refused q) r numbers after → returned r run after t ≡ startAt given bytes run numbers t
   unfolding startAt replied replyOf
   start-unfit q short e says =
       rw (sym asks ∙ not-true b short, start-number given bytes t, by-record given bytes (lengthsOf t) _ refl, sym e, says .0, says .1) refl
 
   pub started : (run′ : List ℕ) (t′ : Tables) (c : Called) → not b ≡ false → outcomeBy c t′ ≡ startOf given bytes t
-      → Says startNumbers (c .answer) r numbers after → run′ ≡ runStarted run (replyOf (c .answer)) (c .state)
+      → Says answerNumbers (c .answer) r numbers after → run′ ≡ runStarted run (replyOf (c .answer)) (c .state)
       → returned r run′ after t′ ≡ startAt given bytes run numbers t
   unfolding startAt replied outcomeBy
   started run′ t′ c fits e says put = rw (sym asks ∙ not-false b fits, sym e, says .0, says .1, put) refl

@@ -6,7 +6,7 @@ use mathlib.Core.Path.{_≡_}
 use Rattle.model.specs.Keeps.{Tables, guardOf}
 use Rattle.model.specs.Policy.{Givens}
 use Rattle.model.specs.Calls.{Reply, refused, settle, Outcome, startOf, Call, answer}
-use Rattle.words.specs.Words.{stateIn, startNumbers, numbersBy, changedBy, withNumbers, runsFit, lendable, runAfter, runStarted}
+use Rattle.words.specs.Words.{stateIn, answerNumbers, numbersBy, changedBy, withNumbers, runsFit, lendable, runAfter, runStarted}
 
 -- What a call returns, both runs at its exit, and the guard's tables then.
 pub record Returned : Type 0 where
@@ -36,9 +36,9 @@ callAt run numbers t call =
 unfoldable pub startAt : Givens → List ℕ → List ℕ → List ℕ → Tables → Returned
 startAt given bytes run numbers t =
     let o : Outcome = startOf given bytes t in
-    cond (runsFit startNumbers run numbers)
-    (replied startNumbers (o .reply) (runStarted run (o .reply) (o .guard .state)) numbers (o .guard .tables))
-    (replied startNumbers (refused (settle (o .reply .number) 7 (λ n. n))) run numbers t)
+    cond (runsFit answerNumbers run numbers)
+    (replied answerNumbers (o .reply) (runStarted run (o .reply) (o .guard .state)) numbers (o .guard .tables))
+    (replied answerNumbers (refused (settle (o .reply .number) 7 (λ n. n))) run numbers t)
 
 -- Where both runs can be lent, the state run holds after every call the state that the call's definition answers. An accepted start's words
 -- decode to its state by `words::put_state`.

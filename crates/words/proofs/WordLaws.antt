@@ -18,7 +18,7 @@ use Rattle.model.specs.Keeps.{inUser}
 use Rattle.model.specs.Calls.{replyOf}
 use Rattle.model.proofs.QuestionLaws.{both-no, both-first, within-above}
 use Rattle.model.proofs.TableLaws.{is-table}
-use Rattle.words.specs.Words.{stateWords, entryPagesAt, entryWords, modeAt, firstAt, secondAt, widest}
+use Rattle.words.specs.Words.{stateWords, entryPagesAt, entryWords, modeAt, firstAt, secondAt, answerNumbers, widest}
 use Rattle.words.specs.Words.{narrow, field, entryPagesIn, modeWord, overwritten, withNumbers, runsFit, lendable}
 
 -- A word that fits 16 bits, and a wider one.
@@ -90,24 +90,24 @@ unfolding Front
 front-full size words run (e, f) = sym (append-nil run) ∙ (ap (λ (l : List ℕ). l ++ []) (sym (take-all size run (omega arith))) ∙ f [])
 
 -- A numbers run of its length is written, and one of another is not.
-pub numbers-written : (numbers : List ℕ) (a b : ℕ) → length numbers ≡ 2 → set (set numbers firstAt a) secondAt b ≡ overwritten numbers (a ∷ b ∷ [])
+pub numbers-written : (numbers : List ℕ) (a b : ℕ) → length numbers ≡ answerNumbers → set (set numbers firstAt a) secondAt b ≡ overwritten numbers (a ∷ b ∷ [])
 unfolding overwritten
 numbers-written numbers a b p =
-    rw (eq-eqb (length numbers) 2 p)
-    (front-full 2 _ _ (front-word _ secondAt b _ _ (omega arith) (front-word _ firstAt a _ _ (omega arith) (front-none _ numbers p))))
+    rw (eq-eqb (length numbers) answerNumbers p)
+    (front-full answerNumbers _ _ (front-word _ secondAt b _ _ (omega arith) (front-word _ firstAt a _ _ (omega arith) (front-none _ numbers p))))
 
-pub numbers-left : (numbers : List ℕ) (a b : ℕ) → (length numbers ≡ 2 → ⊥) → numbers ≡ overwritten numbers (a ∷ b ∷ [])
+pub numbers-left : (numbers : List ℕ) (a b : ℕ) → (length numbers ≡ answerNumbers → ⊥) → numbers ≡ overwritten numbers (a ∷ b ∷ [])
 unfolding overwritten
-numbers-left numbers a b p = rw (ne-eqb (length numbers) 2 p) refl
+numbers-left numbers a b p = rw (ne-eqb (length numbers) answerNumbers p) refl
 
 -- What an answer says to the numbers run.
 pub says-done : (answer : Answer) (numbers after : List ℕ) (a b : ℕ) → answer ≡ Done a b → after ≡ overwritten numbers (a ∷ b ∷ [])
-    → after ≡ withNumbers 2 numbers (replyOf answer)
+    → after ≡ withNumbers answerNumbers numbers (replyOf answer)
 unfolding withNumbers replyOf
 says-done answer numbers after a b p q = rw p q
 
 pub says-refused : (answer : Answer) (numbers after : List ℕ) (n : ℕ) → answer ≡ Refused n → after ≡ overwritten numbers (0 ∷ 0 ∷ [])
-    → after ≡ withNumbers 2 numbers (replyOf answer)
+    → after ≡ withNumbers answerNumbers numbers (replyOf answer)
 unfolding withNumbers replyOf
 says-refused answer numbers after n p q = rw p q
 

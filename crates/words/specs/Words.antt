@@ -46,18 +46,19 @@ firstAt = 0
 abbrev pub secondAt : ℕ
 secondAt = 1
 
--- How many numbers a call gives, which is the length of its numbers run. The start gives two.
-abbrev pub startNumbers : ℕ
-startNumbers = 2
+-- An answer has two numbers.
+abbrev pub answerNumbers : ℕ
+answerNumbers = 2
 
+-- How many numbers a call gives, which is the length of its numbers run. The start gives those of an answer.
 abbrev pub numbersBy : Call → ℕ
-numbersBy (syncPage kernel page) = 2
-numbersBy (syncAll kernel) = 2
-numbersBy (fetch page) = 2
-numbersBy (write address length) = 2
-numbersBy (enter index) = 2
-numbersBy (leave page) = 2
-numbersBy (deviceWrite address length) = 2
+numbersBy (syncPage kernel page) = answerNumbers
+numbersBy (syncAll kernel) = answerNumbers
+numbersBy (fetch page) = answerNumbers
+numbersBy (write address length) = answerNumbers
+numbersBy (enter index) = answerNumbers
+numbersBy (leave page) = answerNumbers
+numbersBy (deviceWrite address length) = answerNumbers
 
 -- The mode word: 0 for kernel mode, 1 for user mode.
 unfoldable pub modeWord : Mode → ℕ

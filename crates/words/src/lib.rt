@@ -12,7 +12,7 @@ ghost use Rattle.model.specs.Keeps.{modeOf, running};
 ghost use Rattle.model.specs.Questions.{stateInOrder};
 ghost use Rattle.model.specs.Calls.{replyOf};
 ghost use Rattle.words.specs.Words;
-ghost use Rattle.words.specs.Words.{stateWords, entryPagesAt, entryWords, startNumbers, entryPagesIn, stateIn, modeWord, wordsOf, withWords, pagePlaces, modePlaces, overwritten, withNumbers, runsFit, runAfter, runStarted, WideRefused};
+ghost use Rattle.words.specs.Words.{stateWords, entryPagesAt, entryWords, answerNumbers, entryPagesIn, stateIn, modeWord, wordsOf, withWords, pagePlaces, modePlaces, overwritten, withNumbers, runsFit, runAfter, runStarted, WideRefused};
 use model::Answer;
 use model::Called;
 use model::ENTRY_PAGES;
@@ -220,7 +220,7 @@ fn put_numbers(numbers: &mut [u64], first: u64, second: u64)
 // An answer: the number to return, and the call's two numbers, which are 0 where it was refused.
 pub fn reply(numbers: &mut [u64], answer: Answer) -> u64
     ensures number { λ r. ⌜ r ≡ replyOf answer .number ⌝ }
-    ensures both { λ _. ⌜ now (numbers .exit) ≡ withNumbers 2 (now (numbers .entry)) (replyOf answer) ⌝ }
+    ensures both { λ _. ⌜ now (numbers .exit) ≡ withNumbers answerNumbers (now (numbers .entry)) (replyOf answer) ⌝ }
 {
     match answer {
         Answer::Done(first, second) => {
@@ -240,7 +240,7 @@ pub fn put_fetched(run: &mut [u64], numbers: &mut [u64], called: Called) -> u64
     requires { ⌜ length (now run) ≡ stateWords ⌝ }
     ensures number { λ r. ⌜ r ≡ replyOf (called .answer) .number ⌝ }
     ensures words { λ _. ⌜ now (run .exit) ≡ runAfter (now (run .entry)) pagePlaces (replyOf (called .answer)) (called .state) ⌝ }
-    ensures both { λ _. ⌜ now (numbers .exit) ≡ withNumbers 2 (now (numbers .entry)) (replyOf (called .answer)) ⌝ }
+    ensures both { λ _. ⌜ now (numbers .exit) ≡ withNumbers answerNumbers (now (numbers .entry)) (replyOf (called .answer)) ⌝ }
 {
     let answer = called.answer;
     let after = called.state;
@@ -257,7 +257,7 @@ pub fn put_switched(run: &mut [u64], numbers: &mut [u64], called: Called) -> u64
     requires { ⌜ length (now run) ≡ stateWords ⌝ }
     ensures number { λ r. ⌜ r ≡ replyOf (called .answer) .number ⌝ }
     ensures words { λ _. ⌜ now (run .exit) ≡ runAfter (now (run .entry)) modePlaces (replyOf (called .answer)) (called .state) ⌝ }
-    ensures both { λ _. ⌜ now (numbers .exit) ≡ withNumbers 2 (now (numbers .entry)) (replyOf (called .answer)) ⌝ }
+    ensures both { λ _. ⌜ now (numbers .exit) ≡ withNumbers answerNumbers (now (numbers .entry)) (replyOf (called .answer)) ⌝ }
 {
     let answer = called.answer;
     let after = called.state;
@@ -274,7 +274,7 @@ pub fn put_started(run: &mut [u64], numbers: &mut [u64], called: Called) -> u64
     requires { ⌜ length (now run) ≡ stateWords ⌝ }
     ensures number { λ r. ⌜ r ≡ replyOf (called .answer) .number ⌝ }
     ensures words { λ _. ⌜ now (run .exit) ≡ runStarted (now (run .entry)) (replyOf (called .answer)) (called .state) ⌝ }
-    ensures both { λ _. ⌜ now (numbers .exit) ≡ withNumbers startNumbers (now (numbers .entry)) (replyOf (called .answer)) ⌝ }
+    ensures both { λ _. ⌜ now (numbers .exit) ≡ withNumbers answerNumbers (now (numbers .entry)) (replyOf (called .answer)) ⌝ }
 {
     let answer = called.answer;
     let after = called.state;
