@@ -8,11 +8,11 @@ use native.Mathlib.Omega.{arith}
 use borrow.Author.Tests.{not-true, not-false}
 use Rattle.model.specs.declared.Answer.the-variants.{Refused}
 use Rattle.model.specs.declared.Called.{Called}
-use Rattle.model.specs.Keeps.{Guard, running, modeOf, inMode}
+use Rattle.model.specs.Keeps.{Guard, running, inMode}
 use Rattle.model.specs.Questions.{Question, question, firstNo, View, seen, stateInOrder, syncPageQuestions, syncAllQuestions, fetchQuestions, writeQuestions, enterQuestions, leaveQuestions, deviceWriteQuestions}
 use Rattle.model.specs.Calls.{replyOf, settle, Outcome, outcomeBy, refusedOf, Call, syncPage, syncAll, fetch, write, enter, leave, deviceWrite, broughtBy, questionsOf, pageSynced, allSynced, switchTo, effectOf, answer}
 use Rattle.model.proofs.QuestionLaws.{firstNo-yes, firstNo-no, settle-accepted}
-use Rattle.model.proofs.StateLaws.{state-no}
+use Rattle.model.proofs.StateLaws.{running-modeOf, state-no}
 use Rattle.model.proofs.AcceptedLaws.{fetch-page, enter-page, leave-page}
 
 -- Down the questions: past a yes, past one that is always answered so, at a no, and at the end.
@@ -79,11 +79,6 @@ effect-state g (write address length) = refl
 effect-state g (enter index) = refl
 effect-state g (leave page) = refl
 effect-state g (deviceWrite address length) = refl
-
-running-modeOf : (user : Bool) (page : ℕ) → running (modeOf user page) ≡ page
-unfolding running modeOf
-running-modeOf true page = refl
-running-modeOf false page = refl
 
 pub effect-runs : (g : Guard) (call : Call) (limit : ℕ) → g .state .pages ≤ limit → running (g .state .mode) < limit
     → firstNo (questionsOf (seen g) call) ≡ 0 → running (effectOf g call .guard .state .mode) < limit

@@ -18,22 +18,12 @@ use Rattle.model.specs.Switch.{switchedAll}
 use Rattle.model.specs.Calls.{Call, syncPage, syncAll, fetch, write, enter, leave, deviceWrite, questionsOf, rulesOf, pageSynced, allSynced, switchTo, effectOf}
 use Rattle.model.specs.OnePage.{synchronised, nothing, seenBy, settled, stepped, switchedPage, told, news}
 use Rattle.model.specs.Claim.{Carried, carriedAfter}
-use Rattle.model.proofs.StateLaws.{state-parts, frames-few, mode-fits}
+use Rattle.model.proofs.StateLaws.{inUser-modeOf, running-modeOf, state-parts, frames-few, mode-fits}
 use Rattle.model.proofs.ClaimPages.{Good, told-good}
 use Rattle.model.proofs.SweepLaws.{sweep-shadow-length, sweep-map-length, sweep-at}
 use Rattle.model.proofs.SwitchLaws.{length-switched, switched-at}
 use Rattle.model.proofs.AcceptedLaws.{syncPage-page, fetch-page, enter-page, leave-page}
 use Rattle.model.proofs.ClaimKept.{Kept, pageOf}
-
-inUser-modeOf : (user : Bool) (page : ℕ) → inUser (modeOf user page) ≡ user
-unfolding inUser modeOf
-inUser-modeOf true page = refl
-inUser-modeOf false page = refl
-
-running-modeOf : (user : Bool) (page : ℕ) → running (modeOf user page) ≡ page
-unfolding running modeOf
-running-modeOf true page = refl
-running-modeOf false page = refl
 
 module _ (policy : Policy) (carried : Carried) (g : Guard) (h : Kept policy carried g) where
   -- A synchronised page is as its one-page guard is told, if the tables have the step's slot at it.

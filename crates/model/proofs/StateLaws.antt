@@ -1,20 +1,31 @@
--- Laws of question 7, by its parts: the tables that a call is lent, and of the state V, F and the page that runs. Another mode on a page below V
+-- Laws of the mode, and of question 7 by its parts: the tables that a call is lent, and of the state V, F and the page that runs. Another mode on a page below V
 -- keeps it.
 use Prim.Native.Nat.{ℕ, _≤_, _<_}
 use mathlib.Core.Bool.{Bool, true, false, not}
 use mathlib.Core.List.{List, [], _∷_}
-use mathlib.Core.Path.{_≡_, sym, _∙_}
+use mathlib.Core.Path.{_≡_, refl, sym, _∙_}
 use lib.Dec.{eqb}
 use borrow.Author.Tests.{lt-ltb, ltb-true, eqb-true, not-false}
 use Rattle.model.specs.declared.Mode.{Mode}
 use Rattle.model.specs.declared.State.{State}
 use Rattle.model.specs.Basics.{within}
 use Rattle.model.specs.Edges.{pagesInRange, framesInRange}
-use Rattle.model.specs.Keeps.{running, inMode}
+use Rattle.model.specs.Keeps.{inUser, running, modeOf, inMode}
 use Rattle.model.specs.Questions.{stateInOrder, inOrder}
 use Rattle.model.proofs.QuestionLaws.{both-yes, both-no-after, both-first, both-second, within-high}
 
--- The parts, each by its name. The two laws after it alone know their order.
+-- Kernel or user, and the page that runs, of a mode made of both.
+pub inUser-modeOf : (user : Bool) (page : ℕ) → inUser (modeOf user page) ≡ user
+unfolding inUser modeOf
+inUser-modeOf true page = refl
+inUser-modeOf false page = refl
+
+pub running-modeOf : (user : Bool) (page : ℕ) → running (modeOf user page) ≡ page
+unfolding running modeOf
+running-modeOf true page = refl
+running-modeOf false page = refl
+
+-- The parts of the state's question, each by its name. The two laws after it alone know their order.
 pub record Fits (s : State) : Type 0 where
   pub pages : pagesInRange (s .pages) ≡ true
   pub frames : framesInRange (s .frames) ≡ true

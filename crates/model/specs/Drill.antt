@@ -8,7 +8,7 @@ use lib.Dec.{ltb, eqb}
 use Rattle.model.specs.declared.Mode.{Mode}
 use Rattle.model.specs.Basics.{within}
 use Rattle.model.specs.Keeps.{Guard, vectorBytes, excludedIn, inUser, running}
-use Rattle.model.specs.Policy.{nothingGiven, Policy, policyOf, numberAt}
+use Rattle.model.specs.Policy.{Givens, nothingGiven, Policy, policyOf, numberAt}
 use Rattle.model.specs.Questions.{question, firstNo}
 use Rattle.model.specs.Calls.{Reply, accepted, refused, settle, Outcome, startOf, Call, syncPage, syncAll, fetch, write, enter, leave, deviceWrite, answer}
 
@@ -21,11 +21,14 @@ pub record Drill : Type 0 where
   pub guard : Guard
   pub kernel : List ℕ
 
--- The start on tables of the record's own sizes, all zeros.
+-- What the drill's start is given beside the record, and the start on tables of the record's own sizes, all zeros.
+abbrev pub drillGiven : Givens
+drillGiven = nothingGiven
+
 unfoldable pub drillStart : List ℕ → Outcome
 drillStart record′ =
     let policy : Policy = policyOf record′ in
-    startOf nothingGiven record′
+    startOf drillGiven record′
     (record {
       shadow = replicate (policy .pages) 0;
       map = replicate (policy .pages) 0;

@@ -9,9 +9,9 @@ use Rattle.model.specs.declared.Answer.{Answer}
 use Rattle.model.specs.declared.Called.{Called}
 use Rattle.model.specs.Edges.{pagesInRange, framesInRange}
 use Rattle.model.specs.Keeps.{Tables, tables, Guard, guardOf, vectorBytes}
-use Rattle.model.specs.Policy.{nothingGiven, policyOf}
+use Rattle.model.specs.Policy.{policyOf}
 use Rattle.model.specs.Calls.{Outcome, replyOf, startOf}
-use Rattle.model.specs.Drill.{Drill, Drilled, Turn, drillStart, startLine, turn, closing, callLines}
+use Rattle.model.specs.Drill.{drillGiven, Drill, Drilled, Turn, drillStart, startLine, turn, closing, callLines}
 use Rattle.lines.specs.Text.{text}
 use Rattle.turns.specs.declared.TurnResult.{TurnResult}
 
@@ -52,7 +52,7 @@ bytesLent record′ = cond (framesInRange (policyOf record′ .frames)) (vectorB
 -- The start as the drill makes it: on tables of those lengths, all zeros.
 unfoldable pub lentStart : List ℕ → Outcome
 lentStart record′ =
-    startOf nothingGiven record′
+    startOf drillGiven record′
     (tables (replicate (pagesLent record′) 0) (replicate (pagesLent record′) 0) (replicate (bytesLent record′) 0))
 
 -- On every record it opens the drill as the model's start does: the same line, calls in the same cases, and where they follow the same guard.

@@ -6,10 +6,9 @@ ghost use Prim.Native.Nat.{_+_, _*_, _^_, _≤_, _<_};
 ghost use mathlib.Core.Bool.{false};
 ghost use lib.Dec.{eqb};
 ghost use Rattle.model.specs.Keeps.{tables, Guard, guardOf};
-ghost use Rattle.model.specs.Policy.{nothingGiven};
 ghost use Rattle.model.specs.Calls.{refused, replyOf, outcomeBy, startOf, answer};
 ghost use Rattle.model.specs.Drill;
-ghost use Rattle.model.specs.Drill.{callLimit, policyExtent, indexOf, lengthOf, valueOf, edited, callOf, performed, line};
+ghost use Rattle.model.specs.Drill.{drillGiven, callLimit, policyExtent, indexOf, lengthOf, valueOf, edited, callOf, performed, line};
 ghost use Rattle.lines.specs.Text.{text};
 ghost use Rattle.turns.specs.Turns.{drillOf, editedBy, performedBy, turnBy, openingOf, openedBy, pagesLent, bytesLent, OpensAsDefined, goesOn, leftAfter, LoopsAsDefined};
 use lines::Line;
@@ -79,7 +78,7 @@ fn was_accepted(answer: Answer) -> bool
 // The start, with its line. Calls follow where it is accepted.
 pub fn open(bytes: &[u8], shadow: &mut [u64], map: &mut [u16], exclusion: &mut [u8]) -> TurnResult
     ensures { λ r. ⌜ openedBy r (tables (now (shadow .exit)) (now (map .exit)) (now (exclusion .exit)))
-        ≡ openingOf (startOf nothingGiven (now (bytes .entry)) (tables (now (shadow .entry)) (now (map .entry)) (now (exclusion .entry)))) ⌝ }
+        ≡ openingOf (startOf drillGiven (now (bytes .entry)) (tables (now (shadow .entry)) (now (map .entry)) (now (exclusion .entry)))) ⌝ }
 {
     let started = start::start(bytes, shadow, map, exclusion);
     let answer = started.answer;

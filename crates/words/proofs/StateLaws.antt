@@ -18,6 +18,7 @@ use Rattle.model.specs.Edges.{pagesInRange, framesInRange}
 use Rattle.model.specs.Keeps.{inUser, running, modeOf, inMode}
 use Rattle.model.specs.Questions.{stateInOrder}
 use Rattle.model.proofs.QuestionLaws.{both-yes, both-no-after, within-high}
+use Rattle.model.proofs.StateLaws.{running-modeOf}
 use Rattle.model.proofs.TableLaws.{is-table, table-same}
 use Rattle.words.specs.Words.{stateWords, pagesAt, framesAt, entryCountAt, entryPagesAt, entryWords, modeAt, runningAt}
 use Rattle.words.specs.Words.{narrow, field, entryPagesIn, stateIn, modeWord, lastWords, wordsOf, withWords, pagePlaces, modePlaces}
@@ -156,11 +157,6 @@ module _ (run : List ℕ) (s : State) (size : length run ≡ stateWords) (long :
 pub running-fits : (mode : Mode) (r : ℕ) → r ≡ running mode → Fits w16 r → running mode < 65536
 running-fits mode r e h = rw e at (h .fits)
 
-pub running-mode : (b : Bool) (page : ℕ) → running (modeOf b page) ≡ page
-unfolding running modeOf
-running-mode true page = refl
-running-mode false page = refl
-
 -- The state's part of question 7, on the words of a run: as on the fields.
 module _ (p f e r : ℕ) where
   -- as `words_in_order` asks it
@@ -187,7 +183,7 @@ words-asked : (run : List ℕ)
 unfolding stateInOrder stateIn field pagesInRange framesInRange
 words-asked run =
     rw (
-      running-mode,
+      running-modeOf,
       narrow-within 1 2048 (getD run pagesAt 0) (omega arith),
       narrow-within 1 4096 (getD run framesAt 0) (omega arith),
       narrow-within 1 16 (getD run entryCountAt 0) (omega arith),

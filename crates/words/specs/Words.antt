@@ -52,13 +52,7 @@ answerNumbers = 2
 
 -- How many numbers a call gives, which is the length of its numbers run. The start gives those of an answer.
 abbrev pub numbersBy : Call → ℕ
-numbersBy (syncPage kernel page) = answerNumbers
-numbersBy (syncAll kernel) = answerNumbers
-numbersBy (fetch page) = answerNumbers
-numbersBy (write address length) = answerNumbers
-numbersBy (enter index) = answerNumbers
-numbersBy (leave page) = answerNumbers
-numbersBy (deviceWrite address length) = answerNumbers
+numbersBy call = answerNumbers
 
 -- The mode word: 0 for kernel mode, 1 for user mode.
 unfoldable pub modeWord : Mode → ℕ
@@ -134,9 +128,12 @@ runAfter run places reply s = settle (reply .number) (withWords run s places) (�
 unfoldable pub runStarted : List ℕ → Reply → State → List ℕ
 runStarted run reply s = settle (reply .number) (wordsOf s) (λ _. run)
 
+-- The words that hold a number of 16 bits which question 7 asks of the state.
+abbrev pub fieldPlaces : List ℕ
+fieldPlaces = pagesAt ∷ framesAt ∷ entryCountAt ∷ runningAt ∷ []
+
 -- Beside the length and the mode word, the runs need no test of their own: a word wider than its field, as V, F, e or the running page, makes
 -- a state that question 7 of every call refuses.
 unfoldable pub WideRefused : Type 0
 WideRefused =
-    (run : List ℕ) (at : ℕ) → widest < getD run at 0 → member at (pagesAt ∷ framesAt ∷ entryCountAt ∷ runningAt ∷ []) ≡ true
-    → stateInOrder (stateIn run) ≡ false
+    (run : List ℕ) (at : ℕ) → widest < getD run at 0 → member at fieldPlaces ≡ true → stateInOrder (stateIn run) ≡ false

@@ -1,30 +1,25 @@
 -- `boundary::state_held` meets its contract: an accepted call puts the words that it can change, on a page below V, and a refused one leaves the
 -- run.
 use Prim.Native.Nat.{ℕ, zero, suc, _≤_, _<_}
-use mathlib.Core.Bool.{Bool, true, false}
+use mathlib.Core.Bool.{true}
 use mathlib.Core.List.{List}
 use mathlib.Core.Path.{_≡_, refl, sym, ap, _∙_}
 use lib.ListN.{length, getD}
 use lib.Dec.{eqb}
 use native.Mathlib.Omega.{arith}
 use Rattle.model.specs.declared.State.{State}
-use Rattle.model.specs.Keeps.{Tables, Guard, guardOf, inUser, running, modeOf, inMode}
+use Rattle.model.specs.Keeps.{Tables, Guard, guardOf, running, modeOf, inMode}
 use Rattle.model.specs.Questions.{firstNo, seen}
 use Rattle.model.specs.Calls.{settle, Outcome, refusedOf, Call, syncPage, syncAll, fetch, write, enter, leave, deviceWrite, broughtBy, questionsOf, effectOf, answer, pageSynced, allSynced}
+use Rattle.model.proofs.StateLaws.{inUser-modeOf, running-modeOf}
 use Rattle.model.proofs.CallLaws.{effect-reply, effect-state, effect-runs}
 use Rattle.model.proofs.TableLaws.{length-table}
 use Rattle.words.specs.Words.{stateWords, pagesAt, entryWords, modeAt, runningAt, entryPagesIn, stateIn, field, numbersBy, modePlaces, changedBy, withWords, lendable, runAfter}
 use Rattle.words.proofs.WordLaws.{narrow-below, run-lent}
-use Rattle.words.proofs.StateLaws.{mode-decoded, page-decoded, running-mode}
+use Rattle.words.proofs.StateLaws.{mode-decoded, page-decoded}
 use Rattle.boundary.specs.Boundary.{replied, callAt, StateHeld}
 use Rattle.boundary.proofs.state_held.Statement.{statement}
 use Rattle.boundary.proofs.state_held.Tie as tie
-
--- The mode word says whether a mode is user mode.
-user-mode : (b : Bool) (page : ℕ) → inUser (modeOf b page) ≡ b
-unfolding inUser modeOf
-user-mode true page = refl
-user-mode false page = refl
 
 module _ (run : List ℕ) (t : Tables) where
   abbrev g : Guard
@@ -40,7 +35,7 @@ module _ (run : List ℕ) (t : Tables) where
 
   narrow-running : running (stateIn run .mode) < 65536
   unfolding stateIn field
-  narrow-running = rw running-mode (omega (arith, narrow-below (getD run runningAt 0)))
+  narrow-running = rw running-modeOf (omega (arith, narrow-below (getD run runningAt 0)))
 
   entries-long : (call : Call) → length (after call .«entry_pages») ≡ entryWords
   unfolding stateIn inMode entryPagesIn
@@ -49,7 +44,7 @@ module _ (run : List ℕ) (t : Tables) where
   -- A fetch keeps kernel or user.
   mode-stays : (page : ℕ) → modeOf (eqb (getD run modeAt 0) 1) (running (after (fetch page) .mode)) ≡ after (fetch page) .mode
   unfolding effectOf inMode stateIn
-  mode-stays page = rw (user-mode, running-mode) refl
+  mode-stays page = rw (inUser-modeOf, running-modeOf) refl
 
   module _ (size : length run ≡ stateWords) where
     switched : (call : Call) → running (after call .mode) < 65536 → stateIn (withWords run (after call) modePlaces) ≡ after call

@@ -7,10 +7,10 @@ use lib.Dec.{leb, eqb}
 use lib.ListN.{length}
 use Rattle.model.specs.Edges.{pagesInRange, framesInRange}
 use Rattle.model.specs.Keeps.{Tables, guardOf}
-use Rattle.model.specs.Policy.{nothingGiven, policyOf, zeroState}
+use Rattle.model.specs.Policy.{policyOf, zeroState}
 use Rattle.model.specs.Questions.{firstNo, sizesInRange, policyQuestions, recordQuestions, startQuestions}
 use Rattle.model.specs.Calls.{Outcome, nothingBrought, refusedOf, settle, startOf}
-use Rattle.model.specs.Drill.{drillStart, startLine}
+use Rattle.model.specs.Drill.{drillGiven, drillStart, startLine}
 use Rattle.model.proofs.QuestionLaws.{both-no, both-no-after}
 use Rattle.turns.specs.Turns.{Opening, openingOf, pagesLent, bytesLent, lentStart, OpensAsDefined}
 use Rattle.turns.proofs.opens_as_defined.Statement.{statement}
@@ -25,11 +25,11 @@ outside : List ℕ → Tables → Outcome
 outside bytes t = refusedOf (guardOf zeroState t) nothingBrought (cond (leb 8 (length bytes)) 2 1)
 
 module _ (bytes : List ℕ) where
-  start-outside : (t : Tables) → sizesInRange (policyOf bytes) ≡ false → startOf nothingGiven bytes t ≡ outside bytes t
+  start-outside : (t : Tables) → sizesInRange (policyOf bytes) ≡ false → startOf drillGiven bytes t ≡ outside bytes t
   unfolding startOf startQuestions recordQuestions policyQuestions firstNo settle outside
   start-outside t p = at (leb 8 (length bytes)) refl
     where
-      at : (b : Bool) → leb 8 (length bytes) ≡ b → startOf nothingGiven bytes t ≡ outside bytes t
+      at : (b : Bool) → leb 8 (length bytes) ≡ b → startOf drillGiven bytes t ≡ outside bytes t
       at true e = rw (e, p) refl
       at false e = rw e refl
 
@@ -42,7 +42,7 @@ module _ (bytes : List ℕ) where
       at false h = absurd (false≢true h)
 
   opens-outside : (t t′ : Tables) → sizesInRange (policyOf bytes) ≡ false
-      → Same (openingOf (startOf nothingGiven bytes t)) (openingOf (startOf nothingGiven bytes t′))
+      → Same (openingOf (startOf drillGiven bytes t)) (openingOf (startOf drillGiven bytes t′))
   opens-outside t t′ p = rw (start-outside t p, start-outside t′ p) (same-outside t t′)
 
   opens : (v f : Bool) → pagesInRange (policyOf bytes .pages) ≡ v → framesInRange (policyOf bytes .frames) ≡ f

@@ -1,18 +1,19 @@
 -- `words::wide_words` meets its contract: 65535 is above every V, F and e, and no running page below V.
 use Prim.Native.Nat.{ℕ, _<_}
-use mathlib.Core.Bool.{Bool, true, false}
+use mathlib.Core.Bool.{Bool, true, false, false≢true}
 use mathlib.Core.List.{List, [], _∷_}
 use mathlib.Core.Path.{_≡_, refl, sym}
 use lib.ListN.{getD}
 use lib.Dec.{eqb}
-use borrow.Author.Tests.{le-ltb, eqb-true}
-use Rattle.model.specs.Basics.{both, either, within, member}
+use native.Mathlib.Omega.{arith}
+use borrow.Author.Tests.{eqb-true}
+use Rattle.model.specs.Basics.{either, within, member}
 use Rattle.model.specs.Edges.{pagesInRange, framesInRange}
 use Rattle.model.specs.Questions.{stateInOrder}
-use Rattle.model.proofs.QuestionLaws.{both-no-after}
-use Rattle.words.specs.Words.{pagesAt, framesAt, entryCountAt, runningAt, widest, narrow, field, stateIn, WideRefused}
+use Rattle.model.proofs.QuestionLaws.{within-high}
+use Rattle.model.proofs.StateLaws.{running-modeOf, Fits, state-parts}
+use Rattle.words.specs.Words.{pagesAt, framesAt, entryCountAt, runningAt, widest, field, stateIn, fieldPlaces, WideRefused}
 use Rattle.words.proofs.WordLaws.{narrow-wide, narrow-below}
-use Rattle.words.proofs.StateLaws.{running-mode}
 use Rattle.words.proofs.wide_words.Statement.{statement}
 use Rattle.words.proofs.wide_words.Tie as tie
 
@@ -21,36 +22,57 @@ unfolding field
 wide-field run at p = sym (narrow-wide (getD run at 0) p)
 
 module _ (run : List ℕ) where
-  wide-pages : widest < getD run pagesAt 0 → stateInOrder (stateIn run) ≡ false
-  unfolding stateInOrder stateIn pagesInRange within both
-  wide-pages p = rw (wide-field run pagesAt p) refl
+  abbrev Refused : Type 0
+  Refused = stateInOrder (stateIn run) ≡ false
 
-  wide-frames : widest < getD run framesAt 0 → stateInOrder (stateIn run) ≡ false
-  unfolding stateInOrder stateIn framesInRange within both
-  wide-frames p = both-no-after (pagesInRange (field run pagesAt)) (rw (wide-field run framesAt p) refl)
+  -- A state that has a part out of order is not in order.
+  unfit : (Fits (stateIn run) → ⊥) → Refused
+  unfit h = by (stateInOrder (stateIn run)) refl
+    where
+      by : (b : Bool) → stateInOrder (stateIn run) ≡ b → b ≡ false
+      by true e = absurd (h (state-parts (stateIn run) e))
+      by false e = refl
 
-  wide-entries : widest < getD run entryCountAt 0 → stateInOrder (stateIn run) ≡ false
-  unfolding stateInOrder stateIn within both
-  wide-entries p =
-      both-no-after (pagesInRange (field run pagesAt)) (both-no-after (framesInRange (field run framesAt)) (rw (wide-field run entryCountAt p) refl))
+  too-wide : (low high at : ℕ) → high < widest → widest < getD run at 0 → within low high (field run at) ≡ true → ⊥
+  too-wide low high at small p q = omega (arith, within-high low high (field run at) q, wide-field run at p)
 
-  wide-running : widest < getD run runningAt 0 → stateInOrder (stateIn run) ≡ false
-  unfolding stateInOrder stateIn field
+  wide-pages : widest < getD run pagesAt 0 → Refused
+  unfolding stateIn pagesInRange
+  wide-pages p = unfit (λ f. too-wide 1 2048 pagesAt (omega arith) p (f .pages))
+
+  wide-frames : widest < getD run framesAt 0 → Refused
+  unfolding stateIn framesInRange
+  wide-frames p = unfit (λ f. too-wide 1 4096 framesAt (omega arith) p (f .frames))
+
+  wide-entries : widest < getD run entryCountAt 0 → Refused
+  unfolding stateIn
+  wide-entries p = unfit (λ f. too-wide 1 16 entryCountAt (omega arith) p (f .entryCount))
+
+  wide-running : widest < getD run runningAt 0 → Refused
+  unfolding stateIn field
   wide-running p =
-      both-no-after (pagesInRange (field run pagesAt)) (both-no-after (framesInRange (field run framesAt)) (both-no-after (within 1 16 (field run entryCountAt))
-      (rw (running-mode, wide-field run runningAt p) (le-ltb widest (narrow (getD run pagesAt 0)) (narrow-below (getD run pagesAt 0))))))
+      unfit (λ f. omega (arith, rw running-modeOf at (f .running-below), wide-field run runningAt p, narrow-below (getD run pagesAt 0)))
 
   -- Each place of the list, and no other.
-  wide-at : (at : ℕ) → widest < getD run at 0 → member at (pagesAt ∷ framesAt ∷ entryCountAt ∷ runningAt ∷ []) ≡ true → stateInOrder (stateIn run) ≡ false
+  at-place : (at place : ℕ) (places : List ℕ) → (widest < getD run place 0 → Refused) → (member at places ≡ true → Refused) → widest < getD run at 0
+      → member at (place ∷ places) ≡ true → Refused
   unfolding member either
-  wide-at at p m = by (eqb at pagesAt) (eqb at framesAt) (eqb at entryCountAt) (eqb at runningAt) refl refl refl refl
+  at-place at place places here there p m = by (eqb at place) refl
     where
-      by : (a b c d : Bool) → eqb at pagesAt ≡ a → eqb at framesAt ≡ b → eqb at entryCountAt ≡ c → eqb at runningAt ≡ d → stateInOrder (stateIn run) ≡ false
-      by true b c d e f g h = wide-pages (rw (eqb-true at pagesAt e) at p)
-      by false true c d e f g h = wide-frames (rw (eqb-true at framesAt f) at p)
-      by false false true d e f g h = wide-entries (rw (eqb-true at entryCountAt g) at p)
-      by false false false true e f g h = wide-running (rw (eqb-true at runningAt h) at p)
-      by false false false false e f g h = absurd (mathlib.Core.Bool.false≢true (rw (e, f, g, h) at m))
+      by : (b : Bool) → eqb at place ≡ b → Refused
+      by true e = here (rw (eqb-true at place e) at p)
+      by false e = there (rw e at m)
+
+  nowhere : (at : ℕ) → member at [] ≡ true → Refused
+  unfolding member
+  nowhere at m = absurd (false≢true m)
+
+  wide-at : (at : ℕ) → widest < getD run at 0 → member at fieldPlaces ≡ true → Refused
+  wide-at at p =
+      at-place at pagesAt _ wide-pages
+      (at-place at framesAt _ wide-frames
+      (at-place at entryCountAt _ wide-entries
+      (at-place at runningAt _ wide-running (nowhere at) p) p) p) p
 
 returns : tie.Need-returns
 unfolding WideRefused
