@@ -8,10 +8,12 @@ ghost use mathlib.Core.Bool.{cond, not};
 ghost use Prim.Native.Nat.{_<_, _≤_, _^_, _/_};
 ghost use lib.Bits.{bitXor};
 ghost use Rattle.model.specs.Basics.{differs, flag};
-ghost use Rattle.model.specs.Bits.{present, writable, userBit, noExecute, kernelNoExecute, approvedMark, frameOf, fieldsOf, takenApart, approved, ordinaryNoExecute, ordinary};
+ghost use Rattle.model.specs.Bits.{present, writable, userBit, noExecute, kernelNoExecute, approvedMark, frameOf, fieldsOf, usable, takenApart, approved, ordinaryNoExecute, ordinary};
 ghost use Rattle.model.specs.Switch.{noExecuteIn, switched};
 
 // The weights of the bits. Division and remainder by them are shifts and masks.
+const PRESENT: u64 = 0x1;
+
 const WRITABLE: u64 = 0x2;
 
 const USER: u64 = 0x4;
@@ -23,6 +25,9 @@ const APPROVED: u64 = 0x400;
 const FRAME: u64 = 0x1000;
 
 pub const NO_EXECUTE: u64 = 0x8000_0000_0000_0000;
+// Bits 52 to 62, on which the processor faults.
+const RESERVED: u64 = 0x7ff0_0000_0000_0000;
+
 // One above the largest number that the 40 bits of a frame hold.
 const FRAMES: u64 = 0x100_0000_0000;
 
@@ -79,10 +84,18 @@ fn fields_of(entry: u64) -> Fields
     }
 }
 
+// Present with no reserved bit, in one test: less 1, a present entry has bit 0 clear and its other bits as they are, and any other entry has
+// bit 0 set.
+fn usable(entry: u64) -> bool
+    ensures { λ r. ⌜ r ≡ usable entry ⌝ }
+{
+    std::num::wrapping_sub_u64(entry, 1) & (RESERVED | PRESENT) == 0
+}
+
 pub fn take_apart(entry: u64) -> Entry
     ensures { λ r. ⌜ r ≡ takenApart entry ⌝ }
 {
-    if present(entry) {
+    if usable(entry) {
         Entry::Present(fields_of(entry))
     } else {
         Entry::Absent

@@ -7,7 +7,7 @@ use native.Mathlib.Omega.{arith}
 use Rattle.model.specs.declared.Entry.the-variants.{Absent, Present}
 use Rattle.model.specs.declared.Fields.{Fields}
 use Rattle.model.specs.Basics.{bit, flag}
-use Rattle.model.specs.Bits.{present, noExecute, frameOf, approvedMark, approvedNoExecute, approved, fieldsOf, takenApart, ordinaryNoExecute, ordinary}
+use Rattle.model.specs.Bits.{present, noExecute, frameOf, approvedMark, approvedNoExecute, approved, fieldsOf, usable, takenApart, ordinaryNoExecute, ordinary}
 use Rattle.model.specs.Switch.{noExecuteIn, switched}
 use Rattle.model.proofs.VectorLaws.{flag-weight, flag-small, flag-test}
 
@@ -44,7 +44,7 @@ bit-flag false x h = bit-off 63 (x + 0) (omega arith)
 -- A kernel entry is taken apart as absent, or as present with its own fields.
 pub taken-apart : (entry : ℕ) → (takenApart entry ≡ Absent) ⊎ (takenApart entry ≡ Present (fieldsOf entry))
 unfolding takenApart
-taken-apart entry = by (present entry)
+taken-apart entry = by (usable entry)
   where
     by : (b : Bool) → (cond b (Present (fieldsOf entry)) Absent ≡ Absent) ⊎ (cond b (Present (fieldsOf entry)) Absent ≡ Present (fieldsOf entry))
     by true = inr refl

@@ -1,10 +1,11 @@
 -- Document 01, "Entry bits", with the entries that "Synchronising one page" makes of them: kernel entries taken apart, shadow entries made.
 use Prim.Native.Nat.{ℕ, _+_, _*_, _/_, _%_, _^_}
 use mathlib.Core.Bool.{Bool, true, not, cond}
+use lib.Dec.{eqb}
 use Rattle.model.specs.declared.Entry.{Entry}
 use Rattle.model.specs.declared.Entry.the-variants.{Absent, Present}
 use Rattle.model.specs.declared.Fields.{Fields}
-use Rattle.model.specs.Basics.{bit, either, flag}
+use Rattle.model.specs.Basics.{bit, both, either, flag}
 
 -- "bit 0 present, 1 writable, 2 user, 63 no-execute, 12 to 51 the frame": the same bits in kernel and shadow entries.
 unfoldable pub present : ℕ → Bool
@@ -32,9 +33,17 @@ approvedMark entry = bit 10 entry
 unfoldable pub fieldsOf : ℕ → Fields
 fieldsOf entry = record { writable = writable entry; user = userBit entry; «no_execute» = noExecute entry; frame = frameOf entry }
 
+-- K1: "The processor faults on bits 52 to 62", reserved bits. "A kernel entry with any of those bits set is now absent, on approved pages
+-- too." Only a kernel entry is asked, never a shadow entry.
+unfoldable pub reserved : ℕ → ℕ
+reserved entry = entry / 2 ^ 52 % 2 ^ 11
+
+unfoldable pub usable : ℕ → Bool
+usable entry = both (present entry) (eqb (reserved entry) 0)
+
 -- "A kernel entry is taken apart first: absent, or present with its fields." "Other bits are ignored."
 unfoldable pub takenApart : ℕ → Entry
-takenApart entry = cond (present entry) (Present (fieldsOf entry)) Absent
+takenApart entry = cond (usable entry) (Present (fieldsOf entry)) Absent
 
 -- "Approved entry: bits 0 and 10, the frame; bit 63 set in user mode only."
 unfoldable pub approvedNoExecute : Bool → Bool

@@ -82,6 +82,10 @@ unfoldable pub ofLengths : Mode → ℕ → ℕ → ℕ → Guard
 ofLengths mode shadow map exclusion =
     guardOf (sixPages mode) (record { shadow = replicate shadow 0; map = replicate map 0; exclusion = replicate exclusion 0 })
 
+-- The started guard in a mode, with ordinary entries at the three pages that are not approved.
+unfoldable pub filled : Mode → Guard
+filled mode = with6 mode (set (set (set shadow6 0 0x4003) 3 0x6003) 5 0x7003)
+
 -- A user page of frame 6 and a kernel page of frame 7, as they stand in each mode.
 unfoldable pub leaving : List ℕ
 leaving = set (set shadow6 5 0x8000000000006007) 3 0x8000000000007003
@@ -154,6 +158,34 @@ syncCases =
     ∷ row
     (answer (guardOf (sixPages (Kernel 1)) (tables shadow6 (9 ∷ replicate 5 65535) (0x28 ∷ []))) (syncPage (replicate 6 0x4003) 0))
     (outcome (accepted 1 0) (guardOf (sixPages (Kernel 1)) (tables (set shadow6 0 0x9401) (9 ∷ replicate 5 65535) (0x28 ∷ []))))
+    -- K1: "A kernel entry with any of those bits set is now absent, on approved pages too." Bit 52, bit 62 and all of 52 to 62, each on an
+    -- alias of an approved frame, which does not join, and on an approved page, which keeps its number
+    ∷ row
+    (answer (filled (Kernel 1))
+    (syncAll
+    (0x0010000000005003 ∷ 0x0010000000005003 ∷ 0x4000000000003003 ∷ 0x4000000000003003 ∷ 0x7ff0000000005003 ∷ 0x7ff0000000005003 ∷ [])))
+    (outcome (accepted 6 0) (with6 (Kernel 1) (replicate 6 0)))
+    -- the same on ordinary pages; an approved page with bit 57 alone, one with bits 52 and 63 and another frame, one that is not present either
+    ∷ row
+    (answer (filled (User 1))
+    (syncAll
+    (0x0010000000004007 ∷ 0x0200000000005003 ∷ 0x8010000000006007 ∷ 0x4000000000006007 ∷ 0x7ff0000000005002 ∷ 0x7ff0000000007007 ∷ [])))
+    (outcome (accepted 6 0) (with6 (User 1) (replicate 6 0)))
+    -- bits 51 and 63, on either side, are none of these: both on an approved page and bit 63 on an alias, which joins, and on an ordinary page
+    ∷ row
+    (answer (filled (Kernel 1))
+    (syncAll
+    (0x8000000000004003 ∷ 0x0008000000005003 ∷ 0x8000000000003003 ∷ 0x8000000000005003 ∷ 0x8008000000005003 ∷ 0x8000000000007007 ∷ [])))
+    (outcome (accepted 3 1)
+    (guardOf (sixPages (Kernel 1))
+    (record {
+      shadow = 0x8000000000004203 ∷ 0x5401 ∷ 0x3401 ∷ 0x5401 ∷ 0x5401 ∷ 0x8000000000007207 ∷ [];
+      map = 65535 ∷ 5 ∷ 3 ∷ 5 ∷ 5 ∷ 65535 ∷ [];
+      exclusion = 0x28 ∷ [];
+    })))
+    -- one page: an approved one gets entry 0, and its own frame again once the bit is gone
+    ∷ row (answer started6 (syncPage (replicate 6 0x0010000000005003) 1)) (outcome (accepted 1 0) (with6 (Kernel 1) (set shadow6 1 0)))
+    ∷ row (answer (with6 (Kernel 1) (set shadow6 1 0)) (syncPage (replicate 6 0x7003) 1)) (outcome (accepted 1 0) started6)
     -- 7 of the kernel table's length, and of each part of the state; 9 of the page
     ∷ stays started6 (syncAll (replicate 5 0)) (refused 7)
     ∷ stays started6 (syncPage (replicate 7 0) 0) (refused 7)
@@ -209,6 +241,9 @@ accessCases =
     -- page V - 1 with bit 9 set in user mode; in kernel mode an entry without the mark, whose frame has its highest bit set
     ∷ row (answer (with6 (User 1) (set shadow6 5 0x6207)) (fetch 5)) (outcome (accepted 6 6) (with6 (User 5) (set shadow6 5 0x6207)))
     ∷ row (answer (at0 (Kernel 1) 0x0018000000004001) (fetch 0)) (outcome (accepted 549755813892 549755813892) (at0 (Kernel 0) 0x0018000000004001))
+    -- K1 asks kernel entries alone: a shadow entry with all of bits 52 to 62 is fetched and written as one without
+    ∷ row (answer (at0 (Kernel 1) 0x7ff0000000004001) (fetch 0)) (outcome (accepted 4 4) (at0 (Kernel 0) 0x7ff0000000004001))
+    ∷ stays (at0 (User 1) 0x7ff0000000006007) (write 0 1) (accepted 6 6)
     ∷ stays started6 (fetch 6) (refused 9)
     ∷ stays started6 (fetch 0) (refused 11)
     ∷ stays (at0 (User 1) 0x4001) (fetch 0) (refused 12)
@@ -273,6 +308,23 @@ switchCases =
     -- "sets bit 63 of each present shadow entry [..], approved mark and bits 2 and 9 as found, other bits kept": an absent entry keeps all bits
     ∷ row (answer (with6 (User 5) (set (set left6 0 0x8000000000006006) 3 0x8000000000007e1f)) (enter 1))
     (outcome (accepted 5 0) (with6 (Kernel 2) (set (set leaving 0 0x8000000000006006) 3 0x7e1f)))
+    -- K1 asks kernel entries alone: a switch keeps bit 52, bit 62 and all of 52 to 62 of a shadow entry as found, the page's that is run too
+    ∷ row
+    (answer
+    (with6 (Kernel 1)
+    (0x8010000000004007 ∷ 0x0010000000005401 ∷ 0x4000000000003401 ∷ 0xc000000000007003 ∷ 0x7ff0000000005401 ∷ 0xfff0000000006007 ∷ []))
+    (leave 5))
+    (outcome (accepted 5 0)
+    (with6 (User 5)
+    (0x0010000000004007 ∷ 0x8010000000005401 ∷ 0xc000000000003401 ∷ 0xc000000000007003 ∷ 0xfff0000000005401 ∷ 0x7ff0000000006007 ∷ [])))
+    ∷ row
+    (answer
+    (with6 (User 5)
+    (0x0010000000004007 ∷ 0x8010000000005401 ∷ 0xc000000000003401 ∷ 0xc000000000007003 ∷ 0xfff0000000005401 ∷ 0x7ff0000000006007 ∷ []))
+    (enter 1))
+    (outcome (accepted 5 0)
+    (with6 (Kernel 2)
+    (0x8010000000004007 ∷ 0x0010000000005401 ∷ 0x4000000000003401 ∷ 0xc000000000007003 ∷ 0x7ff0000000005401 ∷ 0xfff0000000006007 ∷ [])))
     ∷ []
 
 -- What an answer gives, with the tables that a call left.

@@ -1,0 +1,12 @@
+-- One law, of one less than the entry.
+use native.Mathlib.Omega.{arith}
+use Rattle.entry.proofs.EntryLaws.{usable-is}
+use borrow.Author.Needs.{needs}
+use Rattle.entry.proofs.usable.Statement.{statement}
+use Rattle.entry.proofs.usable.Tie as tie
+
+returns : tie.Need-returns
+returns c = usable-is _ _ (omega arith) (c .wrapping-sub-u64 .ensures)
+
+pub usable-spec : {M : Type 1} → statement M
+usable-spec = tie.close (tie.spec (λ c κs. search needs) returns)
