@@ -4,11 +4,11 @@
 use model::Entry;
 use model::Fields;
 ghost use mathlib.Core.Path.{_≡_};
-ghost use mathlib.Core.Bool.{cond, not};
+ghost use mathlib.Core.Bool.{true, cond, not};
 ghost use Prim.Native.Nat.{_<_, _≤_, _^_, _/_};
 ghost use lib.Bits.{bitXor};
 ghost use Rattle.model.specs.Basics.{differs, flag};
-ghost use Rattle.model.specs.Bits.{present, writable, userBit, noExecute, kernelNoExecute, approvedMark, frameOf, fieldsOf, usable, takenApart, approved, ordinaryNoExecute, ordinary};
+ghost use Rattle.model.specs.Bits.{present, writable, userBit, noExecute, kernelNoExecute, approvedMark, frameOf, fieldsOf, usable, takenApart, approved, ordinary};
 ghost use Rattle.model.specs.Switch.{noExecuteIn, switched};
 
 // The weights of the bits. Division and remainder by them are shifts and masks.
@@ -115,31 +115,14 @@ pub fn approved(user: bool, frame: u16) -> u64
     1 + APPROVED + frame as u64 * FRAME + weight_if(user, NO_EXECUTE)
 }
 
-// Bit 63 of an ordinary entry.
-fn ordinary_no_execute(user: bool, bit9: bool, bit2: bool) -> bool
-    ensures { λ r. ⌜ r ≡ ordinaryNoExecute user bit9 bit2 ⌝ }
-{
-    !user | bit9 | !bit2
-}
-
-// The frame has 40 bits, as `frame_of` gives it: a larger one would not fit the entry.
-fn ordinary(user: bool, x: Fields) -> u64
-    requires { ⌜ x .frame < 2 ^ 40 ⌝ }
-    ensures { λ r. ⌜ r ≡ ordinary user x ⌝ }
-{
-    1
-        + weight_if(x.writable, WRITABLE)
-        + weight_if(x.user, USER)
-        + weight_if(x.no_execute, KERNEL_NO_EXECUTE)
-        + x.frame * FRAME
-        + weight_if(ordinary_no_execute(user, x.no_execute, x.user), NO_EXECUTE)
-}
-
-// The ordinary entry of a kernel entry, from its own fields: the compiler then masks the entry once.
+// The ordinary entry of a kernel entry whose reserved bits are clear: bits 3 to 11 alone are left out, bit 63 is copied to bit 9, and it is set
+// beside where the mode is kernel or bit 2 is clear.
 pub fn ordinary_of(user: bool, entry: u64) -> u64
+    requires { ⌜ usable entry ≡ true ⌝ }
     ensures { λ r. ⌜ r ≡ ordinary user (fieldsOf entry) ⌝ }
 {
-    ordinary(user, fields_of(entry))
+    entry / FRAME * FRAME + entry % 8 + entry / NO_EXECUTE * KERNEL_NO_EXECUTE
+        | weight_if(!user | !user_bit(entry), NO_EXECUTE)
 }
 
 // Bit 63 of the result is whether the entry may be executed in the mode: an approved one in kernel mode, an ordinary one in user mode by

@@ -2,8 +2,9 @@
 use Prim.Native.Nat.{ℕ, _+_, _*_, _/_, _%_, _^_, _≤_, _<_}
 use mathlib.Core.Bool.{Bool, true, false, cond}
 use mathlib.Core.Logic.{_⊎_, inl, inr}
-use mathlib.Core.Path.{_≡_, refl}
+use mathlib.Core.Path.{_≡_, refl, ap, _∙_}
 use native.Mathlib.Omega.{arith}
+use Rattle.model.specs.declared.Entry.{Entry}
 use Rattle.model.specs.declared.Entry.the-variants.{Absent, Present}
 use Rattle.model.specs.declared.Fields.{Fields}
 use Rattle.model.specs.Basics.{bit, flag}
@@ -49,6 +50,18 @@ taken-apart entry = by (usable entry)
     by : (b : Bool) → (cond b (Present (fieldsOf entry)) Absent ≡ Absent) ⊎ (cond b (Present (fieldsOf entry)) Absent ≡ Present (fieldsOf entry))
     by true = inr refl
     by false = inl refl
+
+isPresent : Entry → Bool
+isPresent Absent = false
+isPresent (Present x) = true
+
+pub present-usable : (entry : ℕ) (x : Fields) → takenApart entry ≡ Present x → usable entry ≡ true
+unfolding takenApart isPresent
+present-usable entry x p = by (usable entry) ∙ ap isPresent p
+  where
+    by : (b : Bool) → b ≡ isPresent (cond b (Present (fieldsOf entry)) Absent)
+    by true = refl
+    by false = refl
 
 -- An approved entry: "bits 0 and 10, the frame; bit 63 set in user mode only".
 module _ (user : Bool) (f : ℕ) where

@@ -1,12 +1,18 @@
--- `entry::ordinary_of` meets its contract.
+-- One law, of a usable entry of 64 bits.
+use native.Mathlib.Omega.{arith}
+use Rattle.entry.proofs.EntryLaws.{copied-fits, ordinary-is}
 use borrow.Author.Needs.{needs}
 use Rattle.entry.proofs.ordinary_of.Statement.{statement}
 use Rattle.entry.proofs.ordinary_of.Tie as tie
 
+add-result-2 : tie.Need-add-result-2
+add-result-2 c = record { fits = copied-fits _ (omega arith) }
+
 returns : tie.Need-returns
-returns c = cc
+returns c = search (needs, ordinary-is)
 
 pub ordinary-of-spec : {M : Type 1} → statement M
 ordinary-of-spec =
     tie.close
-    (tie.spec (λ c κs. search needs) (λ c κs. search needs) returns)
+    (tie.spec (λ c. search needs) (λ c. search needs) (λ c. search needs) add-result-2 (λ c κs. search needs)
+    (λ c κs. search needs) returns)

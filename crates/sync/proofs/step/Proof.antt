@@ -1,5 +1,5 @@
 -- A law for each of the five steps.
-use Rattle.sync.proofs.SyncLaws.{step-absent, step-approved, step-above, step-excluded, step-ordinary, frame-in}
+use Rattle.sync.proofs.SyncLaws.{step-absent, step-usable, step-approved, step-above, step-excluded, step-ordinary, frame-in}
 use borrow.Author.Needs.{needs}
 use Rattle.sync.proofs.step.Statement.{statement}
 use Rattle.sync.proofs.step.Tie as tie
@@ -19,6 +19,9 @@ excluded-within-requires c κs = search (needs, frame-in)
 returns-4 : tie.Need-returns-4
 returns-4 c = search (needs, step-excluded)
 
+ordinary-of-requires : tie.Need-ordinary-of-requires
+ordinary-of-requires c κs = search (needs, step-usable)
+
 returns-5 : tie.Need-returns-5
 returns-5 c = search (needs, step-ordinary)
 
@@ -26,5 +29,5 @@ pub step-spec : {M : Type 1} → statement M
 step-spec =
     tie.close
     (tie.spec (λ c κs. search needs) (λ c. search needs) (λ c. search needs) returns (λ c κs. search needs) returns-2
-    returns-3 excluded-within-requires (λ c. search needs) (λ c κs. search needs) returns-4 (λ c κs. search needs)
+    returns-3 excluded-within-requires (λ c. search needs) (λ c κs. search needs) returns-4 ordinary-of-requires
     returns-5)
