@@ -3,7 +3,7 @@ use Prim.Native.Nat.{ℕ, zero, suc, _+_, _-_, _*_, _/_, _%_, _^_, _<_}
 use mathlib.Core.Bool.{Bool, true, false, not, cond, _||_}
 use mathlib.Core.Path.{_≡_, refl, ap, ap₂, _∙_}
 use native.Mathlib.Omega.{arith}
-use lib.Bits.{bitAnd, bitOr, and-mask, and-block, or-block, or-zero-r}
+use lib.Bits.{bitAnd, bitOr, and-mask, and-high, and-block, or-block, or-zero-r}
 use lib.Dec.{eqb}
 use borrow.Author.Tests.{eq-eqb, ne-eqb, eqb-true, eqb-false}
 use Rattle.model.specs.declared.Entry.the-variants.{Absent, Present}
@@ -18,36 +18,58 @@ pub fields-are : (entry : ℕ) {frame : ℕ} {w u x : Bool} → w ≡ writable e
 unfolding fieldsOf
 fields-are entry w u x f = rw (w, u, x, f)
 
--- Bit 0 and bits 52 to 62 of a number, as the mask of both takes them.
-masked : (x : ℕ) → bitAnd x 0x7ff0000000000001 ≡ x / 2 ^ 52 % 2 ^ 11 * 2 ^ 52 + x % 2
-masked x =
-    let parts : x ≡ x / 2 ^ 52 * 2 ^ 52 + x % 2 ^ 52 = omega arith in
-    let low : x % 2 ^ 52 % 2 ≡ x % 2 = omega arith in
-    ap (λ (y : ℕ). bitAnd y 0x7ff0000000000001) parts
-    ∙ and-block 52 (x / 2 ^ 52) (2 ^ 11 - 1) (x % 2 ^ 52) (2 ^ 1 - 1) (omega arith) (omega arith)
-    ∙ ap₂ (λ (a b : ℕ). a * 2 ^ 52 + b) (and-mask (x / 2 ^ 52) 11) (and-mask (x % 2 ^ 52) 1 ∙ low)
+-- Bit 1 and bits 53 to 63 of a number of 64 bits, as the mask of both takes them.
+masked : (x : ℕ) → x < 2 ^ 64 → bitAnd x 0xffe0000000000002 ≡ x / 2 ^ 53 * 2 ^ 53 + x / 2 % 2 * 2
+masked x h =
+    let parts : x ≡ x / 2 ^ 53 * 2 ^ 53 + x % 2 ^ 53 = omega arith in
+    let low : x % 2 ^ 53 / 2 % 2 ≡ x / 2 % 2 = omega arith in
+    let high : x / 2 ^ 53 % 2 ^ 11 ≡ x / 2 ^ 53 = omega arith in
+    ap (λ (y : ℕ). bitAnd y 0xffe0000000000002) parts
+    ∙ and-block 53 (x / 2 ^ 53) (2 ^ 11 - 1) (x % 2 ^ 53) (2 ^ (1 + 1) - 2 ^ 1) (omega arith) (omega arith)
+    ∙ ap₂ (λ (a b : ℕ). a * 2 ^ 53 + b) (and-mask (x / 2 ^ 53) 11 ∙ high) (and-high (x % 2 ^ 53) 1 1 ∙ ap (λ (d : ℕ). d * 2) low)
 
--- The test of bit 0 and the reserved bits together, on one less than the entry.
-none-of : (r d : ℕ) → d ≡ 0 → eqb (r * 2 ^ 52 + d) 0 ≡ eqb r 0
-none-of zero d p = rw p
-none-of (suc r) d p = rw (ne-eqb (suc r) 0 (λ q. omega arith)) (ne-eqb (suc r * 2 ^ 52 + d) 0 (λ q. omega arith))
+scaled : (r d : ℕ) → d ≡ 0 → eqb (r * 2 ^ 53 + d * 2) 0 ≡ eqb r 0
+scaled zero d p = rw p
+scaled (suc r) d p = rw (ne-eqb (suc r) 0 (λ q. omega arith)) (ne-eqb (suc r * 2 ^ 53 + d * 2) 0 (λ q. omega arith))
 
-pub usable-is : (entry x : ℕ) → x < 2 ^ 64 → (x + 1) % 2 ^ 64 ≡ entry → eqb (bitAnd x 0x7ff0000000000001) 0 ≡ usable entry
-unfolding usable present reserved bit both
-usable-is entry x h e = rw (masked x) (by (eqb (x % 2) 0) refl)
+-- Of a number above 0: it is odd and its bits from 52 on are 0 just where twice the number before it has none of the mask's bits.
+none-of : (z : ℕ) → eqb (z / 2 ^ 52 * 2 ^ 53 + z % 2 * 2) 0 ≡ both (eqb (suc z % 2) 1) (eqb (suc z / 2 ^ 52) 0)
+unfolding both
+none-of z = by (eqb (z % 2) 0) refl
   where
-    by : (t : Bool) → eqb (x % 2) 0 ≡ t
-        → eqb (x / 2 ^ 52 % 2 ^ 11 * 2 ^ 52 + x % 2) 0 ≡ both (eqb (entry / 2 ^ 0 % 2) 1) (eqb (entry / 2 ^ 52 % 2 ^ 11) 0)
+    by : (t : Bool) → eqb (z % 2) 0 ≡ t → eqb (z / 2 ^ 52 * 2 ^ 53 + z % 2 * 2) 0 ≡ both (eqb (suc z % 2) 1) (eqb (suc z / 2 ^ 52) 0)
     by true t =
-        let even : x % 2 ≡ 0 = eqb-true (x % 2) 0 t in
-        let odd : entry / 2 ^ 0 % 2 ≡ 1 = omega arith in
-        let more : entry ≡ x + 1 = omega arith in
-        let high : (x + 1) / 2 ^ 52 ≡ x / 2 ^ 52 = omega arith in
-        let same : entry / 2 ^ 52 % 2 ^ 11 ≡ x / 2 ^ 52 % 2 ^ 11 = rw (more, high) in
-        rw (eq-eqb (entry / 2 ^ 0 % 2) 1 odd, same) (none-of (x / 2 ^ 52 % 2 ^ 11) (x % 2) even)
+        let even : z % 2 ≡ 0 = eqb-true (z % 2) 0 t in
+        let odd : suc z % 2 ≡ 1 = omega arith in
+        let same : suc z / 2 ^ 52 ≡ z / 2 ^ 52 = omega arith in
+        rw (eq-eqb (suc z % 2) 1 odd, same) (scaled (z / 2 ^ 52) (z % 2) even)
     by false t =
-        let odd : x % 2 ≡ 0 → ⊥ = eqb-false (x % 2) 0 t in
-        rw (ne-eqb (entry / 2 ^ 0 % 2) 1 (λ p. odd (omega arith))) (ne-eqb (x / 2 ^ 52 % 2 ^ 11 * 2 ^ 52 + x % 2) 0 (λ p. odd (omega arith)))
+        let odd : z % 2 ≡ 0 → ⊥ = eqb-false (z % 2) 0 t in
+        rw (ne-eqb (suc z % 2) 1 (λ p. odd (omega arith))) (ne-eqb (z / 2 ^ 52 * 2 ^ 53 + z % 2 * 2) 0 (λ p. odd (omega arith)))
+
+-- The test of bit 0 and the reserved bits together, on the entry shifted left once, less 2.
+pub usable-is : (entry x : ℕ) → x < 2 ^ 64 → (x + 2) % 2 ^ 64 ≡ (entry * 2 ^ 1) % 2 ^ 64 → eqb (bitAnd x 0xffe0000000000002) 0 ≡ usable entry
+unfolding usable present reserved bit both
+usable-is entry x h e = rw (masked x h, bit-0, high) (by (entry % 2 ^ 63) refl)
+  where
+    doubled : (entry * 2 ^ 1) % 2 ^ 64 ≡ entry % 2 ^ 63 * 2
+    doubled = omega arith
+
+    bit-0 : entry / 2 ^ 0 % 2 ≡ entry % 2 ^ 63 % 2
+    bit-0 = omega arith
+
+    high : entry / 2 ^ 52 % 2 ^ 11 ≡ entry % 2 ^ 63 / 2 ^ 52
+    high = omega arith
+
+    by : (y : ℕ) → entry % 2 ^ 63 ≡ y → eqb (x / 2 ^ 53 * 2 ^ 53 + x / 2 % 2 * 2) 0 ≡ both (eqb (entry % 2 ^ 63 % 2) 1) (eqb (entry % 2 ^ 63 / 2 ^ 52) 0)
+    by zero p =
+        let last : x ≡ 2 ^ 64 - 2 = omega (arith, doubled) in
+        rw (p, last)
+    by (suc z) p =
+        let twice : x ≡ z * 2 = omega (arith, doubled) in
+        let low : z * 2 / 2 % 2 ≡ z % 2 = omega arith in
+        let up : z * 2 / 2 ^ 53 ≡ z / 2 ^ 52 = omega arith in
+        rw (p, twice, low, up) (none-of z)
 
 pub apart-present : (entry : ℕ) {p : Bool} {x : Fields} → p ≡ usable entry → p ≡ true → x ≡ fieldsOf entry → Present x ≡ takenApart entry
 unfolding takenApart

@@ -84,12 +84,12 @@ fn fields_of(entry: u64) -> Fields
     }
 }
 
-// Present with no reserved bit, in one test: less 1, a present entry has bit 0 clear and its other bits as they are, and any other entry has
-// bit 0 set.
+// Present with no reserved bit, in one test. Shifted left once, bit 63 is gone and the present bit weighs 2. Less 2, the present bit is clear
+// where it was set, with the bits above as they were, and set where it was clear.
 fn usable(entry: u64) -> bool
     ensures { λ r. ⌜ r ≡ usable entry ⌝ }
 {
-    std::num::wrapping_sub_u64(entry, 1) & (RESERVED | PRESENT) == 0
+    std::num::wrapping_sub_u64(entry << 1, 2) & (RESERVED | PRESENT) << 1 == 0
 }
 
 pub fn take_apart(entry: u64) -> Entry
