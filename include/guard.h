@@ -93,7 +93,7 @@ enum guard_refusal {
  *
  * What a synchronisation makes of a page's kernel entry, by the first line that fits:
  *
- *   bit 0 clear (absent)                        shadow entry 0; the other bits of the kernel entry are not read
+ *   bit 0 clear, or any of bits 52..62 set      shadow entry 0: the entry is absent. An approved page stays approved
  *   the map has a frame for the page            an approved entry with the map's frame, whatever the kernel's frame is
  *   frame at or above F                         shadow entry 0
  *   frame excluded                              an approved entry with this frame, which the map has for the page from then on
@@ -115,9 +115,13 @@ enum guard_refusal {
  *   10      approved           ignored         0                      1
  *   11      available          ignored         0                      0
  *   12..51  frame              read            kernel bits 12..51     the map's frame
- *   52..62  reserved           ignored         0                      0
+ *   52..62  reserved           read            0                      0
  *   63 K    no-execute         read            1                      0
  *   63 U    no-execute         read            bit 9, or bit 2 clear  1
+ *
+ * The processor faults on an entry with any of bits 52 to 62 set. A kernel that uses such entries as markers, not as mappings, gets
+ * shadow entry 0 for them. Only kernel entries are asked for these bits: in a shadow entry no call asks for them or changes them,
+ * but that a synchronisation makes the entry anew.
  *
  * An accepted guard_enter or guard_leave sets or clears bit 63 of every shadow entry whose bit 0 is set, by the last two rows
  * and the entry's own bits 2, 9 and 10. It keeps every other bit. A processor that walks the shadow table sets bits 5 and 6 in
@@ -135,6 +139,7 @@ enum guard_refusal {
 #define GUARD_ENTRY_USER (UINT64_C(1) << 2)
 #define GUARD_ENTRY_KERNEL_NO_EXECUTE (UINT64_C(1) << 9) /* shadow entries only: the kernel entry's bit 63 */
 #define GUARD_ENTRY_APPROVED (UINT64_C(1) << 10)         /* shadow entries only */
+#define GUARD_ENTRY_RESERVED (UINT64_C(0x7ff) << 52)     /* kernel entries only: with any of them set the entry is absent */
 #define GUARD_ENTRY_NO_EXECUTE (UINT64_C(1) << 63)
 
 /* The frame of an entry, and the bits 12 to 51 for a frame below 2^40. */

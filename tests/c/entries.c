@@ -12,7 +12,7 @@
 /* The named bits, as document 01 has them. */
 _Static_assert(GUARD_ENTRY_PRESENT == 0x1 && GUARD_ENTRY_WRITABLE == 0x2 && GUARD_ENTRY_USER == 0x4, "bits 0, 1 and 2");
 _Static_assert(GUARD_ENTRY_KERNEL_NO_EXECUTE == 0x200 && GUARD_ENTRY_APPROVED == 0x400, "bits 9 and 10");
-_Static_assert(GUARD_ENTRY_NO_EXECUTE == 0x8000000000000000, "bit 63");
+_Static_assert(GUARD_ENTRY_RESERVED == 0x7ff0000000000000 && GUARD_ENTRY_NO_EXECUTE == 0x8000000000000000, "bits 52 to 63");
 _Static_assert(GUARD_ENTRY_FRAME(0xfff2345678901fff) == 0x2345678901 && GUARD_ENTRY_FRAME(0x000ffffffffff000) == 0xffffffffff,
                "bits 12 to 51");
 _Static_assert(GUARD_ENTRY_OF_FRAME(0x2345678901) == 0x2345678901000 && GUARD_MAP_NONE == 65535, "a frame's bits; no frame");
@@ -189,7 +189,21 @@ static uint64_t sync_page(struct guard *g, uint64_t page)
                            page, g->numbers, GUARD_NUMBERS);
 }
 
-/* A kernel entry drawn by its fields: mostly present, its frame ordinary, excluded or past the last, every other bit at random. */
+/* Reserved bits of a kernel entry: mostly none, else one of them or any. */
+static uint64_t reserved_bits(void)
+{
+    switch (below(16)) {
+    case 0:
+        return UINT64_C(1) << (52 + below(11));
+    case 1:
+        return word() & GUARD_ENTRY_RESERVED;
+    default:
+        return 0;
+    }
+}
+
+/* A kernel entry drawn by its fields: mostly present, its frame ordinary, excluded or past the last, reserved bits as above, every
+ * other bit at random. */
 static uint64_t kernel_entry(void)
 {
     uint64_t frame = below(FRAMES);
@@ -204,7 +218,7 @@ static uint64_t kernel_entry(void)
         frame = word() & UINT64_C(0xffffffffff);
         break;
     }
-    uint64_t entry = (word() & ~UINT64_C(0x000ffffffffff000)) | GUARD_ENTRY_OF_FRAME(frame);
+    uint64_t entry = (word() & ~UINT64_C(0x7ffffffffffff000)) | reserved_bits() | GUARD_ENTRY_OF_FRAME(frame);
     return below(8) ? entry | GUARD_ENTRY_PRESENT : entry & ~GUARD_ENTRY_PRESENT;
 }
 
@@ -212,7 +226,8 @@ static uint64_t kernel_entry(void)
 static int synchronised(int user)
 {
     struct guard g = started(user);
-    unsigned kinds[5] = {0};
+    /* absent by bit 0; by a reserved bit, of an approved page and of another; then the other lines of the list */
+    unsigned kinds[7] = {0};
     for (int i = 0; i < ROUNDS; i++) {
         uint64_t page = below(PAGES);
         /* a page approved by an earlier round stays approved: begin anew at times */
@@ -226,6 +241,8 @@ static int synchronised(int user)
         uint16_t want_map = old_map;
         if (!(entry & GUARD_ENTRY_PRESENT)) {
             kinds[0]++;
+        } else if (entry & GUARD_ENTRY_RESERVED) {
+            kinds[old_map != GUARD_MAP_NONE ? 5 : 6]++;
         } else if (old_map != GUARD_MAP_NONE) {
             want = by_table(1, user, entry, old_map);
             kinds[1]++;
@@ -243,9 +260,36 @@ static int synchronised(int user)
             g.numbers[0] != (want != old_shadow) || g.numbers[1] != (want_map != old_map))
             return 0;
     }
-    for (int k = 0; k < 5; k++)
+    for (int k = 0; k < 7; k++)
         if (kinds[k] < 100)
             return 0;
+    return 1;
+}
+
+/* Each reserved bit alone, on an approved page, on an alias of its frame and on an ordinary page: entry 0, and the map as it was. The
+ * bits beside them are no reserved ones. */
+static int reserved(int user)
+{
+    for (unsigned k = 51; k <= 63; k++) {
+        struct guard g = started(user);
+        int absent = k != 51 && k != 63;
+        uint64_t set = UINT64_C(1) << k;
+        g.kernel[0] = set | 0x2003;
+        g.kernel[5] = set | 0x2007;
+        g.kernel[6] = set | 0x3007;
+        g.shadow[6] = 0x3007;
+        for (uint64_t page = 0; page < 7; page++)
+            if (g.kernel[page] != 0 && sync_page(&g, page) != GUARD_ACCEPTED)
+                return 0;
+        if (g.shadow[0] != (absent ? 0 : by_table(1, user, g.kernel[0], 2)) || g.map[0] != 2)
+            return 0;
+        /* with bit 51 the frame is past the last one */
+        if (k != 63 && (g.shadow[5] != 0 || g.map[5] != GUARD_MAP_NONE || g.shadow[6] != 0 || g.map[6] != GUARD_MAP_NONE))
+            return 0;
+        if (k == 63 && (g.shadow[5] != by_table(1, user, g.kernel[5], 2) || g.map[5] != 2 ||
+                        g.shadow[6] != by_table(0, user, g.kernel[6], 3) || g.map[6] != GUARD_MAP_NONE))
+            return 0;
+    }
     return 1;
 }
 
@@ -359,6 +403,7 @@ int main(void)
     check(start_entries(), "entries, map and vector after the start");
     for (int user = 0; user < 2; user++) {
         check(synchronised(user), user ? "synchronised entries in user mode" : "synchronised entries in kernel mode");
+        check(reserved(user), user ? "reserved bits in user mode" : "reserved bits in kernel mode");
         check(switched(user), user ? "entries after a leave" : "entries after an enter");
         check(asked(user), user ? "bits that the calls ask for in user mode" : "bits that the calls ask for in kernel mode");
         check(accessed_and_dirty(user), user ? "accessed and dirty bits in user mode" : "accessed and dirty bits in kernel mode");

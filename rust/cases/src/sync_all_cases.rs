@@ -163,6 +163,28 @@ fn extremes(t: Tally) -> Tally {
             map: [65535, 2, 65535, 65535, 65535, 65535, 8, 65535],
         },
     );
+    // K1: bit 52 or bit 62 on every page, and every bit but the present one on the last.
+    let t = eight(
+        t,
+        "every page has a reserved bit",
+        Kernel(1),
+        [
+            0x0010000000003003,
+            0x4000000000003003,
+            0x0010000000009003,
+            0x4000000000008003,
+            0x0010000000004003,
+            0x4000000000005005,
+            0x8010000000008003,
+            0xfffffffffffffffe,
+        ],
+        before(),
+        Done(5, 0),
+        Tables {
+            shadow: [0, 0, 0, 0, 0, 0, 0, 0],
+            map: [65535, 2, 65535, 65535, 65535, 65535, 8, 65535],
+        },
+    );
     // Step 2 on a damaged map: 9 and 65534 are frames, 65535 is none.
     eight(
         t,

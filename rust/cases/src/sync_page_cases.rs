@@ -80,6 +80,74 @@ fn step_1(t: Tally) -> Tally {
     )
 }
 
+// K1: "A kernel entry with any of those bits set is now absent, on approved pages too." Those are bits 52 to 62, each alone and all.
+// An ordinary page, an alias of frame 2, a page approved for frame 2: each has entry 0 then, and its number in the map.
+fn reserved(t: Tally) -> Tally {
+    let mut t = t;
+    let each = (52..=62).map(|bit| (format!("bit {bit}"), 1 << bit));
+    let all = ("bits 52 to 62".to_string(), 0x7ff0000000000000);
+    for (bits, set) in each.chain([all]) {
+        for (words, mode) in [("kernel", Kernel(1)), ("user", User(1))] {
+            t = page_0(
+                t,
+                &format!("an ordinary page with {bits} is absent in {words} mode"),
+                mode,
+                [set | 0x3007, 0x8000000000003007, 65535],
+                [1, 0, 0, 65535],
+            );
+            t = page_0(
+                t,
+                &format!("an alias with {bits} does not join in {words} mode"),
+                mode,
+                [set | 0x2007, 0, 65535],
+                [0, 0, 0, 65535],
+            );
+            t = page_0(
+                t,
+                &format!(
+                    "an approved page with {bits} is absent in {words} mode and stays approved"
+                ),
+                mode,
+                [set | 0x2003, 0x2401, 2],
+                [1, 0, 0, 2],
+            );
+        }
+    }
+    t
+}
+
+// K1: bits 51 and 63, on either side of 52 to 62, make no entry absent.
+fn not_reserved(t: Tally) -> Tally {
+    let t = page_0(
+        t,
+        "an approved page with bit 51 is mapped",
+        Kernel(1),
+        [0x0008000000002003, 0, 2],
+        [1, 0, 0x2401, 2],
+    );
+    let t = page_0(
+        t,
+        "an approved page with bit 63 is mapped",
+        User(1),
+        [0x8000000000002003, 0, 2],
+        [1, 0, 0x8000000000002401, 2],
+    );
+    let t = page_0(
+        t,
+        "an alias with bit 63 joins",
+        Kernel(1),
+        [0x8000000000002003, 0, 65535],
+        [1, 1, 0x2401, 2],
+    );
+    page_0(
+        t,
+        "bit 63 with bit 62 is absent",
+        User(1),
+        [0xc000000000003007, 0x3007, 65535],
+        [1, 0, 0, 65535],
+    )
+}
+
 // "2. Else the map has a frame for this page: an approved entry with the map's frame, not the kernel's."
 // "Approved entry: bits 0 and 10, the frame; bit 63 set in user mode only."
 fn step_2(t: Tally) -> Tally {
@@ -291,12 +359,12 @@ fn step_5_kernel(t: Tally) -> Tally {
         [0x7003, 0x8000000000007003, 65535],
         [0, 0, 0x8000000000007003, 65535],
     );
-    // "Other bits are ignored": bits 3 to 11 and 52 to 62 are set.
+    // "Other bits are ignored": bits 3 to 11 are set.
     page_0(
         t,
         "other bits of a kernel entry are ignored",
         Kernel(1),
-        [0x7ff0000000003ffb, 0, 65535],
+        [0x3ffb, 0, 65535],
         [1, 0, 0x8000000000003003, 65535],
     )
 }
@@ -335,7 +403,7 @@ fn step_5_user(t: Tally) -> Tally {
         t,
         "other bits of a kernel entry are ignored in user mode",
         User(1),
-        [0x7ff0000000003fff, 0, 65535],
+        [0x3fff, 0, 65535],
         [1, 0, 0x3007, 65535],
     )
 }
@@ -406,6 +474,8 @@ fn pages(t: Tally) -> Tally {
 
 pub fn all(t: Tally) -> Tally {
     let t = step_1(t);
+    let t = reserved(t);
+    let t = not_reserved(t);
     let t = step_2(t);
     let t = step_2_damaged(t);
     let t = step_3(t);

@@ -6,6 +6,7 @@ mod aim;
 mod call;
 mod damage;
 mod damaged;
+mod entries;
 mod list;
 mod run;
 mod sides;

@@ -26,6 +26,9 @@ pub fn run_list(plan: &Plan, seed: u64, tally: &mut Tally) -> Result<(), String>
         let before = lent.clone();
         let number = compare(plan.fault, &mut lent, &call)?;
         tally.count_started(call.kind(), number)?;
+        if number == 0 {
+            tally.count_entries(&listed, &before);
+        }
         compare_guard(&mut guard, &listed, number, &lent)?;
         check_claim(&mut claim, &listed, number, &before, &lent)?;
     }

@@ -4,9 +4,11 @@
 use std::io::{self, Write};
 
 use guard::Refusal;
+use reference::claim;
 
-use crate::call::KINDS;
+use crate::call::{Lent, KINDS};
 use crate::damage::Damage;
+use crate::entries::Entries;
 
 /// The least count of a cell that can be reached.
 const CELL_MINIMUM: u64 = 1000;
@@ -69,12 +71,19 @@ pub struct Tally {
     damaged: Numbers,
     /// By kind of damage and call.
     damage: [[u64; KINDS.len()]; Damage::ALL.len()],
+    /// Of the lists from a start.
+    entries: Entries,
 }
 
 impl Tally {
     /// Counts a call of a list from a start, by its place in the calls; a number that is no refusal is an error.
     pub fn count_started(&mut self, kind: usize, number: u64) -> Result<(), String> {
         count(&mut self.started, kind, number)
+    }
+
+    /// Counts the kernel entries of an accepted call of a list from a start, with the tables as it found them.
+    pub(crate) fn count_entries(&mut self, call: &claim::Call, found: &Lent) {
+        self.entries.count(call, found);
     }
 
     pub(crate) fn count_damaged(
@@ -96,6 +105,7 @@ impl Tally {
     pub fn complaints(&self) -> Vec<String> {
         let mut complaints = self.complaints_of(Half::Started);
         complaints.extend(self.complaints_of(Half::Damaged));
+        complaints.extend(self.entries.complaints());
         for number in 0..NUMBERS {
             let of_a_call = OF_THE_CALL.iter().any(|numbers| numbers.contains(&number));
             if of_a_call == OF_THE_DRILL.contains(&number) {
@@ -136,11 +146,12 @@ impl Tally {
         complaints
     }
 
-    /// Prints the three tables; a cell that cannot be reached is a dash.
+    /// Prints the tables; a cell that cannot be reached is a dash.
     pub fn print(&self, out: &mut impl Write) -> io::Result<()> {
         self.print_numbers(out, Half::Started)?;
         self.print_numbers(out, Half::Damaged)?;
-        self.print_damage(out)
+        self.print_damage(out)?;
+        self.entries.print(out)
     }
 
     fn print_numbers(&self, out: &mut impl Write, half: Half) -> io::Result<()> {

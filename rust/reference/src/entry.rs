@@ -13,6 +13,8 @@ pub const NO_EXECUTE: u64 = 1 << 63;
 pub const FRAME_SHIFT: u32 = 12;
 /// Bits 12 to 51.
 pub const FRAME: u64 = ((1 << 40) - 1) << FRAME_SHIFT;
+/// Bits 52 to 62, on which the processor faults. A kernel entry with one of them is absent; a shadow entry is not asked.
+pub const RESERVED: u64 = ((1 << 11) - 1) << 52;
 
 /// The number in the approval map of a page without an approved frame.
 pub const NO_FRAME: u16 = u16::MAX;

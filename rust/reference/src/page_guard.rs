@@ -76,7 +76,9 @@ impl PageGuard {
     /// Told an accepted synchronisation of its page, alone or with others, with the kernel table's entry for it.
     pub fn told_synchronised(&mut self, kernel_entry: u64) {
         let kernel = Entry(kernel_entry);
-        self.entry = if !kernel.bit(0) {
+        // K1: a kernel entry with any of bits 52 to 62 set is absent.
+        let is_absent = !kernel.bit(0) || (52..=62).any(|place| kernel.bit(place));
+        self.entry = if is_absent {
             0
         } else if self.approval != NONE {
             self.approved(self.approval.into()).0

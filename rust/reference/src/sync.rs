@@ -2,7 +2,7 @@
 //! One step serves the exact guard, the planted mistakes and the variant without approval; each is compiled apart.
 
 use crate::entry::{
-    approved, framed, is_excluded, ordinary, FRAME, FRAME_SHIFT, NO_FRAME, PRESENT,
+    approved, framed, is_excluded, ordinary, FRAME, FRAME_SHIFT, NO_FRAME, PRESENT, RESERVED,
 };
 use crate::fault;
 use crate::state::{Answer, Refusal, State, MAX_FRAMES, MAX_VECTOR};
@@ -24,7 +24,12 @@ fn step<const IN_USER: bool, const VARIANT: u8>(
     is_excluded: impl Fn(u64) -> bool,
     joined: &mut u64,
 ) -> u64 {
-    if kernel & PRESENT == 0 {
+    let reserved = match VARIANT {
+        fault::IGNORE_RESERVED => 0,
+        fault::RESERVED_IF_NOT_APPROVED if *place != NO_FRAME => 0,
+        _ => RESERVED,
+    };
+    if kernel & (PRESENT | reserved) != PRESENT {
         if VARIANT == fault::FORGET_APPROVAL {
             *place = NO_FRAME;
         }

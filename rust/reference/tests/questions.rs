@@ -348,9 +348,35 @@ fn a_kernel_frame_has_forty_bits() {
         assert_eq!(guard.synchronise(0, frame << 12 | 3), Ok((0, 0)), "frame {frame}");
         assert_eq!(guard.map[0], NO_FRAME);
     }
-    // Bits 52 to 62 and 3 to 11 are ignored.
-    assert_eq!(guard.synchronise(0, 0x7ff0_0000_0000_3ffb), Ok((1, 0)));
+    // Bits 3 to 11 are ignored.
+    assert_eq!(guard.synchronise(0, 0x3ffb), Ok((1, 0)));
     assert_eq!(guard.shadow[0], NO_EXECUTE | 0x3003);
+}
+
+/// K1: each of bits 52 to 62 makes an entry absent: an ordinary page, an alias of the approved frame 2, and the approved page 1.
+#[test]
+fn a_reserved_bit_makes_an_entry_absent() {
+    for bit in 52..=62 {
+        let mut guard = Guard::cases();
+        assert_eq!(guard.synchronise(0, 0x3003), Ok((1, 0)));
+        for (page, entry, changed) in [(0, 0x3003, 1), (2, 0x2003, 0), (1, 0x2003, 1)] {
+            assert_eq!(guard.synchronise(page, 1 << bit | entry), Ok((changed, 0)), "bit {bit}");
+            assert_eq!(guard.shadow[page as usize], 0, "bit {bit}");
+        }
+        assert_eq!(guard.map, [NO_FRAME, 2, NO_FRAME, NO_FRAME]);
+        assert_eq!(guard.synchronise(1, 0x3003), Ok((1, 0)));
+        assert_eq!(guard.shadow[1], 0x2401, "the page is approved again");
+    }
+}
+
+/// The bits on either side are no reserved ones: bit 51 belongs to the frame, bit 63 is no-execute.
+#[test]
+fn bits_51_and_63_are_not_reserved() {
+    let mut guard = Guard::cases();
+    assert_eq!(guard.synchronise(1, 1 << 51 | NO_EXECUTE | 0x2003), Ok((0, 0)));
+    assert_eq!(guard.shadow[1], 0x2401);
+    assert_eq!(guard.synchronise(0, NO_EXECUTE | 0x3003), Ok((1, 0)));
+    assert_eq!(guard.shadow[0], NO_EXECUTE | 0x3203);
 }
 
 #[test]
