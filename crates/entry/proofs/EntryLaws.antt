@@ -47,14 +47,22 @@ none-of z = by (eqb (z % 2) 0) refl
         let odd : z % 2 ≡ 0 → ⊥ = eqb-false (z % 2) 0 t in
         rw (ne-eqb (suc z % 2) 1 (λ p. odd (omega arith))) (ne-eqb (z / 2 ^ 52 * 2 ^ 53 + z % 2 * 2) 0 (λ p. odd (omega arith)))
 
--- The test of bit 0 and the reserved bits together, on the entry shifted left once, less 2.
-pub usable-is : (entry x : ℕ) → x < 2 ^ 64 → (x + 2) % 2 ^ 64 ≡ (entry * 2 ^ 1) % 2 ^ 64 → eqb (bitAnd x 0xffe0000000000002) 0 ≡ usable entry
+-- An entry shifted left once, less 2, is twice one less than the entry without its bit 63, or where that is 0 the highest even number.
+shifted-is : (entry x z : ℕ) → x < 2 ^ 64 → (x + 2) % 2 ^ 64 ≡ entry * 2 % 2 ^ 64 → entry % 2 ^ 63 ≡ suc z → x ≡ z * 2
+shifted-is entry x z h e p =
+    let doubled : entry * 2 % 2 ^ 64 ≡ entry % 2 ^ 63 * 2 = omega arith in
+    omega arith
+
+shifted-zero : (entry x : ℕ) → x < 2 ^ 64 → (x + 2) % 2 ^ 64 ≡ entry * 2 % 2 ^ 64 → entry % 2 ^ 63 ≡ 0 → x ≡ 2 ^ 64 - 2
+shifted-zero entry x h e p =
+    let doubled : entry * 2 % 2 ^ 64 ≡ entry % 2 ^ 63 * 2 = omega arith in
+    omega arith
+
+-- The test of bit 0 and the reserved bits together, on the shifted entry.
+pub usable-is : (entry x : ℕ) → x < 2 ^ 64 → (x + 2) % 2 ^ 64 ≡ entry * 2 % 2 ^ 64 → eqb (bitAnd x 0xffe0000000000002) 0 ≡ usable entry
 unfolding usable present reserved bit both
 usable-is entry x h e = rw (masked x h, bit-0, high) (by (entry % 2 ^ 63) refl)
   where
-    doubled : (entry * 2 ^ 1) % 2 ^ 64 ≡ entry % 2 ^ 63 * 2
-    doubled = omega arith
-
     bit-0 : entry / 2 ^ 0 % 2 ≡ entry % 2 ^ 63 % 2
     bit-0 = omega arith
 
@@ -62,14 +70,55 @@ usable-is entry x h e = rw (masked x h, bit-0, high) (by (entry % 2 ^ 63) refl)
     high = omega arith
 
     by : (y : ℕ) → entry % 2 ^ 63 ≡ y → eqb (x / 2 ^ 53 * 2 ^ 53 + x / 2 % 2 * 2) 0 ≡ both (eqb (entry % 2 ^ 63 % 2) 1) (eqb (entry % 2 ^ 63 / 2 ^ 52) 0)
-    by zero p =
-        let last : x ≡ 2 ^ 64 - 2 = omega (arith, doubled) in
-        rw (p, last)
+    by zero p = rw (p, shifted-zero entry x h e p)
     by (suc z) p =
-        let twice : x ≡ z * 2 = omega (arith, doubled) in
         let low : z * 2 / 2 % 2 ≡ z % 2 = omega arith in
         let up : z * 2 / 2 ^ 53 ≡ z / 2 ^ 52 = omega arith in
-        rw (p, twice, low, up) (none-of z)
+        rw (p, shifted-is entry x z h e p, low, up) (none-of z)
+
+-- A usable entry is odd, and its reserved bits are 0.
+usable-parts : (entry : ℕ) → usable entry ≡ true → (entry % 2 ≡ 1) × (entry / 2 ^ 52 % 2 ^ 11 ≡ 0)
+unfolding usable present reserved bit
+usable-parts entry p =
+    let odd : entry / 2 ^ 0 % 2 ≡ 1 = eqb-true (entry / 2 ^ 0 % 2) 1 (both-first _ _ p) in
+    (omega arith, eqb-true (entry / 2 ^ 52 % 2 ^ 11) 0 (both-second (eqb (entry / 2 ^ 0 % 2) 1) _ p))
+
+-- What a usable entry has from bit 12 on: a frame of 40 bits, and bit 63.
+above-12 : (entry : ℕ) → usable entry ≡ true → entry / 2 ^ 12 ≡ entry / 2 ^ 63 * 2 ^ 51 + frameOf entry
+unfolding frameOf
+above-12 entry p =
+    let at-52 : entry / 2 ^ 12 / 2 ^ 40 ≡ entry / 2 ^ 52 = omega arith in
+    let at-63 : entry / 2 ^ 12 / 2 ^ 51 ≡ entry / 2 ^ 63 = omega arith in
+    parts (entry / 2 ^ 12) (ap (λ (x : ℕ). x % 2 ^ 11) at-52 ∙ (usable-parts entry p) .1)
+    ∙ ap (λ (x : ℕ). x * 2 ^ 51 + entry / 2 ^ 12 % 2 ^ 40) at-63
+  where
+    parts : (y : ℕ) → y / 2 ^ 40 % 2 ^ 11 ≡ 0 → y ≡ y / 2 ^ 51 * 2 ^ 51 + y % 2 ^ 40
+    parts y p = omega arith
+
+-- The frame of a usable entry, from the shifted entry.
+pub frame-is : (entry x : ℕ) → x < 2 ^ 64 → (x + 2) % 2 ^ 64 ≡ entry * 2 % 2 ^ 64 → usable entry ≡ true → x / 2 ^ 13 ≡ frameOf entry
+unfolding frameOf
+frame-is entry x h e p = by (entry % 2 ^ 63) refl
+  where
+    odd : entry % 2 ≡ 1
+    odd = (usable-parts entry p) .0
+
+    above : entry / 2 ^ 12 % 2 ^ 40 ≡ entry % 2 ^ 63 / 2 ^ 12
+    above =
+        let parts : entry / 2 ^ 12 ≡ entry / 2 ^ 63 * 2 ^ 51 + entry / 2 ^ 12 % 2 ^ 40 = above-12 entry p in
+        let down : entry % 2 ^ 63 / 2 ^ 12 ≡ entry / 2 ^ 12 - entry / 2 ^ 63 * 2 ^ 51 = omega arith in
+        omega (arith, parts, down)
+
+    by : (y : ℕ) → entry % 2 ^ 63 ≡ y → x / 2 ^ 13 ≡ entry / 2 ^ 12 % 2 ^ 40
+    by zero q = absurd (omega (arith, odd))
+    by (suc z) q =
+        let low : z * 2 / 2 ^ 13 ≡ z / 2 ^ 12 = omega arith in
+        let even : z % 2 ≡ 0 = omega (arith, odd) in
+        let same : suc z / 2 ^ 12 ≡ z / 2 ^ 12 = omega arith in
+        rw (shifted-is entry x z h e q, low, above, q, same)
+
+pub usable-yes : (entry : ℕ) {b : Bool} → b ≡ usable entry → b ≡ true → usable entry ≡ true
+usable-yes entry p q = rw (← p) q
 
 pub apart-present : (entry : ℕ) {p : Bool} {x : Fields} → p ≡ usable entry → p ≡ true → x ≡ fieldsOf entry → Present x ≡ takenApart entry
 unfolding takenApart
@@ -78,13 +127,6 @@ apart-present entry p t x = rw (← p, t, x)
 pub apart-absent : (entry : ℕ) {p : Bool} → p ≡ usable entry → p ≡ false → Absent ≡ takenApart entry
 unfolding takenApart
 apart-absent entry p t = rw (← p, t)
-
--- A usable entry is odd, and its reserved bits are 0.
-usable-parts : (entry : ℕ) → usable entry ≡ true → (entry % 2 ≡ 1) × (entry / 2 ^ 52 % 2 ^ 11 ≡ 0)
-unfolding usable present reserved bit
-usable-parts entry p =
-    let odd : entry / 2 ^ 0 % 2 ≡ 1 = eqb-true (entry / 2 ^ 0 % 2) 1 (both-first _ _ p) in
-    (omega arith, eqb-true (entry / 2 ^ 52 % 2 ^ 11) 0 (both-second (eqb (entry / 2 ^ 0 % 2) 1) _ p))
 
 -- Bit 63 set beside what it was.
 top-set : (c : ℕ) (b t : Bool) → c / 2 ^ 63 ≡ flag t 0 → bitOr c (cond b (2 ^ 63) 0) ≡ c % 2 ^ 63 + flag (either t b) 63
@@ -119,10 +161,6 @@ low-8 x p =
     let by-8 : x / 2 ^ 2 / 2 ≡ x / 8 = omega arith in
     omega arith
 
--- What a number has from bit 12 on, where bits 52 to 62 are 0: a frame of 40 bits, and bit 63.
-above-12 : (y : ℕ) → y / 2 ^ 40 % 2 ^ 11 ≡ 0 → y ≡ y / 2 ^ 51 * 2 ^ 51 + y % 2 ^ 40
-above-12 y p = omega arith
-
 -- A top bit t, a frame f, r below 8 and t again at bit 9, taken apart at bit 63.
 parts-63 : (t f r : ℕ) → t < 2 → f < 2 ^ 40 → r < 8
     → (((t * 2 ^ 51 + f) * 2 ^ 12 + r + t * 2 ^ 9) / 2 ^ 63 ≡ t) × (((t * 2 ^ 51 + f) * 2 ^ 12 + r + t * 2 ^ 9) % 2 ^ 63 ≡ r + t * 2 ^ 9 + f * 2 ^ 12)
@@ -145,17 +183,13 @@ unfolding ordinary fieldsOf writable userBit noExecute frameOf
 ordinary-is user entry u w h p q r =
     let t : ℕ = entry / 2 ^ 63 in
     let f : ℕ = frameOf entry in
-    let (odd, clear) = usable-parts entry p in
+    let odd : entry % 2 ≡ 1 = (usable-parts entry p) .0 in
     let top : t ≡ flag (bit 63 entry) 0 = omega (arith, flag-bit 63 entry) in
-    let at-52 : entry / 2 ^ 12 / 2 ^ 40 ≡ entry / 2 ^ 52 = omega arith in
-    let at-63 : entry / 2 ^ 12 / 2 ^ 51 ≡ t = omega arith in
-    let above : entry / 2 ^ 12 ≡ t * 2 ^ 51 + f =
-    above-12 (entry / 2 ^ 12) (ap (λ (x : ℕ). x % 2 ^ 11) at-52 ∙ clear) ∙ ap (λ (x : ℕ). x * 2 ^ 51 + f) at-63 in
     let (high, low) = parts-63 t f (entry % 8) (omega arith) (omega arith) (omega arith) in
     let flags : entry % 8 + t * 2 ^ 9 + f * 2 ^ 12 ≡ 2 ^ 0 + flag (bit 1 entry) 1 + flag (bit 2 entry) 2 + flag (bit 63 entry) 9 + f * 2 ^ 12 =
     rw (weight-of 1 1 entry, weight-of 2 2 entry, flag-weight (bit 63 entry) 9, top, low-8 entry odd) in
     let set : Bool = not user || not (bit 2 entry) in
     rw (r, q)
-    (ap (λ (y : ℕ). bitOr (y * 2 ^ 12 + entry % 8 + t * 2 ^ 9) (cond set (2 ^ 63) 0)) above
+    (ap (λ (y : ℕ). bitOr (y * 2 ^ 12 + entry % 8 + t * 2 ^ 9) (cond set (2 ^ 63) 0)) (above-12 entry p)
     ∙ top-set ((t * 2 ^ 51 + f) * 2 ^ 12 + entry % 8 + t * 2 ^ 9) set (bit 63 entry) (high ∙ top)
     ∙ ap₂ (λ (a : ℕ) (b : Bool). a + flag b 63) (low ∙ flags) (ordinary-bit user (bit 63 entry) (bit 2 entry)))

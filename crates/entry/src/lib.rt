@@ -5,7 +5,7 @@ use model::Entry;
 use model::Fields;
 ghost use mathlib.Core.Path.{_≡_};
 ghost use mathlib.Core.Bool.{true, cond, not};
-ghost use Prim.Native.Nat.{_<_, _≤_, _^_, _/_};
+ghost use Prim.Native.Nat.{_+_, _*_, _/_, _%_, _^_, _<_, _≤_};
 ghost use lib.Bits.{bitXor};
 ghost use Rattle.model.specs.Basics.{differs, flag};
 ghost use Rattle.model.specs.Bits.{present, writable, userBit, noExecute, kernelNoExecute, approvedMark, frameOf, fieldsOf, usable, takenApart, approved, ordinary};
@@ -73,23 +73,32 @@ pub fn frame_of(entry: u64) -> u64
     entry / FRAME % FRAMES
 }
 
+// An entry shifted left once, less 2: bit 63 is gone. The present bit, which weighs 2 then, is clear where it was set, with the bits above as
+// they were, and set where it was clear.
+fn shifted(entry: u64) -> u64
+    ensures { λ r. ⌜ (r + 2) % 2 ^ 64 ≡ entry * 2 % 2 ^ 64 ⌝ }
+{
+    std::num::wrapping_sub_u64(entry << 1, 2)
+}
+
+// Present with no reserved bit, in one test.
+fn usable(entry: u64) -> bool
+    ensures { λ r. ⌜ r ≡ usable entry ⌝ }
+{
+    shifted(entry) & (RESERVED | PRESENT) << 1 == 0
+}
+
+// The fields of a usable entry. Shifted, it has nothing above its frame: the frame takes a shift and no mask.
 fn fields_of(entry: u64) -> Fields
-    ensures { λ r. ⌜ (r ≡ fieldsOf entry) × (r .frame < 2 ^ 40) ⌝ }
+    requires { ⌜ usable entry ≡ true ⌝ }
+    ensures { λ r. ⌜ r ≡ fieldsOf entry ⌝ }
 {
     Fields {
         writable: writable(entry),
         user: user_bit(entry),
         no_execute: no_execute(entry),
-        frame: frame_of(entry),
+        frame: shifted(entry) / (FRAME * 2),
     }
-}
-
-// Present with no reserved bit, in one test. Shifted left once, bit 63 is gone and the present bit weighs 2. Less 2, the present bit is clear
-// where it was set, with the bits above as they were, and set where it was clear.
-fn usable(entry: u64) -> bool
-    ensures { λ r. ⌜ r ≡ usable entry ⌝ }
-{
-    std::num::wrapping_sub_u64(entry << 1, 2) & (RESERVED | PRESENT) << 1 == 0
 }
 
 pub fn take_apart(entry: u64) -> Entry

@@ -54,7 +54,7 @@ impl Explainer<'_> {
         }
     }
 
-    /// The line of the script that an answer belongs to, as its beginning, and what made a start refused.
+    /// The line of the script that an answer belongs to, as its beginning; and what made a start refused, or what an edited entry is.
     fn script_line(&self, kind: &str, number: u64) -> Result<(String, String), String> {
         let Some(script) = self.script else {
             return Ok(Default::default());
@@ -71,7 +71,8 @@ impl Explainer<'_> {
         match script.call(at) {
             None => Err("the script has no call for this line".into()),
             Some((line, code)) if kind == "X" || kind == code.to_string() => {
-                Ok((beginning(line), String::new()))
+                let entry = script.value(at).filter(|_| kind == "0" && number == 0);
+                Ok((beginning(line), entry.map_or("", explain_edited).into()))
             }
             Some((line, _)) => Err(format!("this does not answer line {line} of the script")),
         }
@@ -135,6 +136,16 @@ fn changed(count: u64) -> String {
 
 fn counted(count: u64, one: &str, many: &str) -> String {
     format!("{count} {}", if count == 1 { one } else { many })
+}
+
+/// A kernel entry that says present and is absent all the same: the processor would fault on it.
+fn explain_edited(entry: u64) -> &'static str {
+    const RESERVED: u64 = ((1 << 11) - 1) << 52;
+    if entry & 1 == 1 && entry & RESERVED != 0 {
+        " (an entry with any of bits 52 to 62 set is absent)"
+    } else {
+        ""
+    }
 }
 
 /// A shadow entry by its bits; bits without a name are shown as a number.

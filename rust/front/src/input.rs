@@ -57,6 +57,13 @@ impl DrillInput {
         Some((*self.lines.get(offset)?, self.bytes[offset]))
     }
 
+    /// The value of a call, counted from 0: of an edit, the kernel entry.
+    pub(crate) fn value(&self, at: usize) -> Option<u64> {
+        let end = self.calls_begin()? + CALL_BYTES * (at + 1);
+        let value = self.bytes.get(end - 8..end)?;
+        Some(u64::from_le_bytes(value.try_into().ok()?))
+    }
+
     /// The drill reads no further than its last call, so that more of them would be dropped without a word.
     pub(crate) fn check_calls(&self) -> Result<(), LineError> {
         match self.call(MOST_CALLS) {

@@ -1,4 +1,4 @@
--- One law, of one less than the entry.
+-- One law, of the shifted entry.
 use native.Mathlib.Omega.{arith}
 use Rattle.entry.proofs.EntryLaws.{usable-is}
 use borrow.Author.Needs.{needs}
@@ -6,7 +6,7 @@ use Rattle.entry.proofs.usable.Statement.{statement}
 use Rattle.entry.proofs.usable.Tie as tie
 
 returns : tie.Need-returns
-returns c = usable-is _ _ (omega arith) (c .wrapping-sub-u64 .ensures)
+returns c = usable-is _ _ (omega arith) (c .shifted .ensures)
 
 pub usable-spec : {M : Type 1} → statement M
 usable-spec = tie.close (tie.spec (λ c κs. search needs) returns)
