@@ -1,3 +1,4 @@
 -- Laws of this crate's proofs.
-mod EntryLaws
+mod ApartLaws
+mod OrdinaryLaws
 mod SwitchLaws

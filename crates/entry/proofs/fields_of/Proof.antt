@@ -1,5 +1,5 @@
 -- The fields, of which the frame comes from the shifted entry.
-use Rattle.entry.proofs.EntryLaws.{frame-is, fields-are}
+use Rattle.entry.proofs.ApartLaws.{frame-is, fields-are}
 use borrow.Author.Needs.{needs}
 use Rattle.entry.proofs.fields_of.Statement.{statement}
 use Rattle.entry.proofs.fields_of.Tie as tie

@@ -1,6 +1,6 @@
 -- One law, of a usable entry of 64 bits.
 use native.Mathlib.Omega.{arith}
-use Rattle.entry.proofs.EntryLaws.{copied-fits, ordinary-is}
+use Rattle.entry.proofs.OrdinaryLaws.{copied-fits, ordinary-is}
 use borrow.Author.Needs.{needs}
 use Rattle.entry.proofs.ordinary_of.Statement.{statement}
 use Rattle.entry.proofs.ordinary_of.Tie as tie

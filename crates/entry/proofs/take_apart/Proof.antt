@@ -1,5 +1,5 @@
 -- Present with its fields, or absent.
-use Rattle.entry.proofs.EntryLaws.{usable-yes, apart-present, apart-absent}
+use Rattle.entry.proofs.ApartLaws.{usable-yes, apart-present, apart-absent}
 use borrow.Author.Needs.{needs}
 use Rattle.entry.proofs.take_apart.Statement.{statement}
 use Rattle.entry.proofs.take_apart.Tie as tie

@@ -1,6 +1,6 @@
 -- One law, of the shifted entry.
 use native.Mathlib.Omega.{arith}
-use Rattle.entry.proofs.EntryLaws.{usable-is}
+use Rattle.entry.proofs.ApartLaws.{usable-is}
 use borrow.Author.Needs.{needs}
 use Rattle.entry.proofs.usable.Statement.{statement}
 use Rattle.entry.proofs.usable.Tie as tie

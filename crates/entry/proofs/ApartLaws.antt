@@ -1,22 +1,16 @@
--- A law for each answer of this crate's functions: an entry taken apart, and bit 63 of an ordinary one.
+-- Kernel entries taken apart: the test of bit 0 and the reserved bits together, the frame and the other fields.
 use Prim.Native.Nat.{ℕ, zero, suc, _+_, _-_, _*_, _/_, _%_, _^_, _<_}
-use mathlib.Core.Bool.{Bool, true, false, not, cond, _||_}
+use mathlib.Core.Bool.{Bool, true, false}
 use mathlib.Core.Path.{_≡_, refl, ap, ap₂, _∙_}
 use native.Mathlib.Omega.{arith}
-use lib.Bits.{bitAnd, bitOr, and-mask, and-high, and-block, or-block, or-zero-r}
+use lib.Bits.{bitAnd, and-mask, and-high, and-block}
 use lib.Dec.{eqb}
 use borrow.Author.Tests.{eq-eqb, ne-eqb, eqb-true, eqb-false}
 use Rattle.model.specs.declared.Entry.the-variants.{Absent, Present}
 use Rattle.model.specs.declared.Fields.{Fields}
-use Rattle.model.specs.Basics.{bit, both, either, flag}
-use Rattle.model.specs.Bits.{present, writable, userBit, noExecute, frameOf, fieldsOf, reserved, usable, takenApart, ordinaryNoExecute, ordinary}
+use Rattle.model.specs.Basics.{bit, both}
+use Rattle.model.specs.Bits.{present, writable, userBit, noExecute, frameOf, fieldsOf, reserved, usable, takenApart}
 use Rattle.model.proofs.QuestionLaws.{both-first, both-second}
-use Rattle.model.proofs.VectorLaws.{flag-weight, flag-bit}
-
-pub fields-are : (entry : ℕ) {frame : ℕ} {w u x : Bool} → w ≡ writable entry → u ≡ userBit entry → x ≡ noExecute entry → frame ≡ frameOf entry
-    → record { writable = w; user = u; «no_execute» = x; frame = frame } ≡ fieldsOf entry
-unfolding fieldsOf
-fields-are entry w u x f = rw (w, u, x, f)
 
 -- Bit 1 and bits 53 to 63 of a number of 64 bits, as the mask of both takes them.
 masked : (x : ℕ) → x < 2 ^ 64 → bitAnd x 0xffe0000000000002 ≡ x / 2 ^ 53 * 2 ^ 53 + x / 2 % 2 * 2
@@ -77,14 +71,14 @@ usable-is entry x h e = rw (masked x h, bit-0, high) (by (entry % 2 ^ 63) refl)
         rw (p, shifted-is entry x z h e p, low, up) (none-of z)
 
 -- A usable entry is odd, and its reserved bits are 0.
-usable-parts : (entry : ℕ) → usable entry ≡ true → (entry % 2 ≡ 1) × (entry / 2 ^ 52 % 2 ^ 11 ≡ 0)
+pub usable-parts : (entry : ℕ) → usable entry ≡ true → (entry % 2 ≡ 1) × (entry / 2 ^ 52 % 2 ^ 11 ≡ 0)
 unfolding usable present reserved bit
 usable-parts entry p =
     let odd : entry / 2 ^ 0 % 2 ≡ 1 = eqb-true (entry / 2 ^ 0 % 2) 1 (both-first _ _ p) in
     (omega arith, eqb-true (entry / 2 ^ 52 % 2 ^ 11) 0 (both-second (eqb (entry / 2 ^ 0 % 2) 1) _ p))
 
 -- What a usable entry has from bit 12 on: a frame of 40 bits, and bit 63.
-above-12 : (entry : ℕ) → usable entry ≡ true → entry / 2 ^ 12 ≡ entry / 2 ^ 63 * 2 ^ 51 + frameOf entry
+pub above-12 : (entry : ℕ) → usable entry ≡ true → entry / 2 ^ 12 ≡ entry / 2 ^ 63 * 2 ^ 51 + frameOf entry
 unfolding frameOf
 above-12 entry p =
     let at-52 : entry / 2 ^ 12 / 2 ^ 40 ≡ entry / 2 ^ 52 = omega arith in
@@ -117,6 +111,11 @@ frame-is entry x h e p = by (entry % 2 ^ 63) refl
         let same : suc z / 2 ^ 12 ≡ z / 2 ^ 12 = omega arith in
         rw (shifted-is entry x z h e q, low, above, q, same)
 
+pub fields-are : (entry : ℕ) {frame : ℕ} {w u x : Bool} → w ≡ writable entry → u ≡ userBit entry → x ≡ noExecute entry → frame ≡ frameOf entry
+    → record { writable = w; user = u; «no_execute» = x; frame = frame } ≡ fieldsOf entry
+unfolding fieldsOf
+fields-are entry w u x f = rw (w, u, x, f)
+
 pub usable-yes : (entry : ℕ) {b : Bool} → b ≡ usable entry → b ≡ true → usable entry ≡ true
 usable-yes entry p q = rw (← p) q
 
@@ -127,69 +126,3 @@ apart-present entry p t x = rw (← p, t, x)
 pub apart-absent : (entry : ℕ) {p : Bool} → p ≡ usable entry → p ≡ false → Absent ≡ takenApart entry
 unfolding takenApart
 apart-absent entry p t = rw (← p, t)
-
--- Bit 63 set beside what it was.
-top-set : (c : ℕ) (b t : Bool) → c / 2 ^ 63 ≡ flag t 0 → bitOr c (cond b (2 ^ 63) 0) ≡ c % 2 ^ 63 + flag (either t b) 63
-unfolding flag either
-top-set c false true p = or-zero-r c ∙ omega arith
-top-set c false false p = or-zero-r c ∙ omega arith
-top-set c true t p =
-    let parts : c ≡ flag t 0 * 2 ^ 63 + c % 2 ^ 63 = omega arith in
-    ap (λ (x : ℕ). bitOr x (2 ^ 63)) parts ∙ or-block 63 (flag t 0) 1 (c % 2 ^ 63) 0 (omega arith) (omega arith)
-    ∙ by t
-  where
-    by : (t : Bool) → bitOr (flag t 0) 1 * 2 ^ 63 + bitOr (c % 2 ^ 63) 0 ≡ c % 2 ^ 63 + flag (either t true) 63
-    by true = rw (or-zero-r (c % 2 ^ 63)) (omega arith)
-    by false = rw (or-zero-r (c % 2 ^ 63)) (omega arith)
-
--- Bit 63 of an ordinary entry: the kernel entry's own, and set in kernel mode and where bit 2 is clear.
-ordinary-bit : (user bit9 bit2 : Bool) → either bit9 (not user || not bit2) ≡ ordinaryNoExecute user bit9 bit2
-unfolding ordinaryNoExecute either
-ordinary-bit false true bit2 = refl
-ordinary-bit false false bit2 = refl
-ordinary-bit true true bit2 = refl
-ordinary-bit true false bit2 = refl
-
--- A number's bit times a weight.
-weight-of : (j k x : ℕ) → flag (bit k x) j ≡ x / 2 ^ k % 2 * 2 ^ j
-weight-of j k x = flag-weight (bit k x) j ∙ ap (λ (d : ℕ). d * 2 ^ j) (flag-bit k x)
-
--- Bits 0 to 2 of an odd number.
-low-8 : (x : ℕ) → x % 2 ≡ 1 → x % 8 ≡ 1 + x / 2 ^ 1 % 2 * 2 ^ 1 + x / 2 ^ 2 % 2 * 2 ^ 2
-low-8 x p =
-    let by-4 : x / 2 ^ 1 / 2 ≡ x / 2 ^ 2 = omega arith in
-    let by-8 : x / 2 ^ 2 / 2 ≡ x / 8 = omega arith in
-    omega arith
-
--- A top bit t, a frame f, r below 8 and t again at bit 9, taken apart at bit 63.
-parts-63 : (t f r : ℕ) → t < 2 → f < 2 ^ 40 → r < 8
-    → (((t * 2 ^ 51 + f) * 2 ^ 12 + r + t * 2 ^ 9) / 2 ^ 63 ≡ t) × (((t * 2 ^ 51 + f) * 2 ^ 12 + r + t * 2 ^ 9) % 2 ^ 63 ≡ r + t * 2 ^ 9 + f * 2 ^ 12)
-parts-63 zero f r a b c = (omega arith, omega arith)
-parts-63 (suc zero) f r a b c = (omega arith, omega arith)
-parts-63 (suc (suc t)) f r a b c = absurd (omega arith)
-
--- What is copied fits 64 bits.
-pub copied-fits : (entry : ℕ) → entry < 2 ^ 64 → entry / 2 ^ 12 * 2 ^ 12 + entry % 8 + entry / 2 ^ 63 * 2 ^ 9 < 2 ^ 64
-copied-fits entry h = sum (entry / 2 ^ 12) (entry % 8) (entry / 2 ^ 63) (omega arith) (omega arith) (omega arith)
-  where
-    sum : (y r t : ℕ) → y < 2 ^ 52 → r < 8 → t < 2 → y * 2 ^ 12 + r + t * 2 ^ 9 < 2 ^ 64
-    sum y r t a b c = omega arith
-
--- An ordinary entry: what a usable entry has at bits 0 to 2 and from bit 12 on, and bit 63 copied to bit 9.
-pub ordinary-is : (user : Bool) (entry : ℕ) (u : Bool) (w : ℕ) → entry < 2 ^ 64 → usable entry ≡ true → u ≡ userBit entry
-    → w ≡ cond (not user || not u) (2 ^ 63) 0
-    → bitOr (entry / 2 ^ 12 * 2 ^ 12 + entry % 8 + entry / 2 ^ 63 * 2 ^ 9) w ≡ ordinary user (fieldsOf entry)
-unfolding ordinary fieldsOf writable userBit noExecute frameOf
-ordinary-is user entry u w h p q r =
-    let t : ℕ = entry / 2 ^ 63 in
-    let f : ℕ = frameOf entry in
-    let odd : entry % 2 ≡ 1 = (usable-parts entry p) .0 in
-    let top : t ≡ flag (bit 63 entry) 0 = omega (arith, flag-bit 63 entry) in
-    let (high, low) = parts-63 t f (entry % 8) (omega arith) (omega arith) (omega arith) in
-    let flags : entry % 8 + t * 2 ^ 9 + f * 2 ^ 12 ≡ 2 ^ 0 + flag (bit 1 entry) 1 + flag (bit 2 entry) 2 + flag (bit 63 entry) 9 + f * 2 ^ 12 =
-    rw (weight-of 1 1 entry, weight-of 2 2 entry, flag-weight (bit 63 entry) 9, top, low-8 entry odd) in
-    let set : Bool = not user || not (bit 2 entry) in
-    rw (r, q)
-    (ap (λ (y : ℕ). bitOr (y * 2 ^ 12 + entry % 8 + t * 2 ^ 9) (cond set (2 ^ 63) 0)) (above-12 entry p)
-    ∙ top-set ((t * 2 ^ 51 + f) * 2 ^ 12 + entry % 8 + t * 2 ^ 9) set (bit 63 entry) (high ∙ top)
-    ∙ ap₂ (λ (a : ℕ) (b : Bool). a + flag b 63) (low ∙ flags) (ordinary-bit user (bit 63 entry) (bit 2 entry)))
