@@ -9,7 +9,7 @@ use borrow.Author.Tests.{eq-eqb, ne-eqb, eqb-true, eqb-false}
 use Rattle.model.specs.declared.Entry.the-variants.{Absent, Present}
 use Rattle.model.specs.declared.Fields.{Fields}
 use Rattle.model.specs.Basics.{bit, both}
-use Rattle.model.specs.Bits.{present, writable, userBit, noExecute, frameOf, fieldsOf, reserved, usable, takenApart}
+use Rattle.model.specs.Bits.{present, writable, userBit, noExecute, frameOf, fieldsOf, reserved, valid, takenApart}
 use Rattle.model.proofs.QuestionLaws.{both-first, both-second}
 
 -- Bit 1 and bits 53 to 63 of a number of 64 bits, as the mask of both takes them.
@@ -53,9 +53,9 @@ shifted-zero entry x h e p =
     omega arith
 
 -- The test of bit 0 and the reserved bits together, on the shifted entry.
-pub usable-is : (entry x : ℕ) → x < 2 ^ 64 → (x + 2) % 2 ^ 64 ≡ entry * 2 % 2 ^ 64 → eqb (bitAnd x 0xffe0000000000002) 0 ≡ usable entry
-unfolding usable present reserved bit both
-usable-is entry x h e = rw (masked x h, bit-0, high) (by (entry % 2 ^ 63) refl)
+pub valid-is : (entry x : ℕ) → x < 2 ^ 64 → (x + 2) % 2 ^ 64 ≡ entry * 2 % 2 ^ 64 → eqb (bitAnd x 0xffe0000000000002) 0 ≡ valid entry
+unfolding valid present reserved bit both
+valid-is entry x h e = rw (masked x h, bit-0, high) (by (entry % 2 ^ 63) refl)
   where
     bit-0 : entry / 2 ^ 0 % 2 ≡ entry % 2 ^ 63 % 2
     bit-0 = omega arith
@@ -70,32 +70,32 @@ usable-is entry x h e = rw (masked x h, bit-0, high) (by (entry % 2 ^ 63) refl)
         let up : z * 2 / 2 ^ 53 ≡ z / 2 ^ 52 = omega arith in
         rw (p, shifted-is entry x z h e p, low, up) (none-of z)
 
--- A usable entry is odd, and its reserved bits are 0.
-pub usable-parts : (entry : ℕ) → usable entry ≡ true → (entry % 2 ≡ 1) × (entry / 2 ^ 52 % 2 ^ 11 ≡ 0)
-unfolding usable present reserved bit
-usable-parts entry p =
+-- A valid entry is odd, and its reserved bits are 0.
+pub valid-parts : (entry : ℕ) → valid entry ≡ true → (entry % 2 ≡ 1) × (entry / 2 ^ 52 % 2 ^ 11 ≡ 0)
+unfolding valid present reserved bit
+valid-parts entry p =
     let odd : entry / 2 ^ 0 % 2 ≡ 1 = eqb-true (entry / 2 ^ 0 % 2) 1 (both-first _ _ p) in
     (omega arith, eqb-true (entry / 2 ^ 52 % 2 ^ 11) 0 (both-second (eqb (entry / 2 ^ 0 % 2) 1) _ p))
 
--- What a usable entry has from bit 12 on: a frame of 40 bits, and bit 63.
-pub above-12 : (entry : ℕ) → usable entry ≡ true → entry / 2 ^ 12 ≡ entry / 2 ^ 63 * 2 ^ 51 + frameOf entry
+-- What a valid entry has from bit 12 on: a frame of 40 bits, and bit 63.
+pub above-12 : (entry : ℕ) → valid entry ≡ true → entry / 2 ^ 12 ≡ entry / 2 ^ 63 * 2 ^ 51 + frameOf entry
 unfolding frameOf
 above-12 entry p =
     let at-52 : entry / 2 ^ 12 / 2 ^ 40 ≡ entry / 2 ^ 52 = omega arith in
     let at-63 : entry / 2 ^ 12 / 2 ^ 51 ≡ entry / 2 ^ 63 = omega arith in
-    parts (entry / 2 ^ 12) (ap (λ (x : ℕ). x % 2 ^ 11) at-52 ∙ (usable-parts entry p) .1)
+    parts (entry / 2 ^ 12) (ap (λ (x : ℕ). x % 2 ^ 11) at-52 ∙ (valid-parts entry p) .1)
     ∙ ap (λ (x : ℕ). x * 2 ^ 51 + entry / 2 ^ 12 % 2 ^ 40) at-63
   where
     parts : (y : ℕ) → y / 2 ^ 40 % 2 ^ 11 ≡ 0 → y ≡ y / 2 ^ 51 * 2 ^ 51 + y % 2 ^ 40
     parts y p = omega arith
 
--- The frame of a usable entry, from the shifted entry.
-pub frame-is : (entry x : ℕ) → x < 2 ^ 64 → (x + 2) % 2 ^ 64 ≡ entry * 2 % 2 ^ 64 → usable entry ≡ true → x / 2 ^ 13 ≡ frameOf entry
+-- The frame of a valid entry, from the shifted entry.
+pub frame-is : (entry x : ℕ) → x < 2 ^ 64 → (x + 2) % 2 ^ 64 ≡ entry * 2 % 2 ^ 64 → valid entry ≡ true → x / 2 ^ 13 ≡ frameOf entry
 unfolding frameOf
 frame-is entry x h e p = by (entry % 2 ^ 63) refl
   where
     odd : entry % 2 ≡ 1
-    odd = (usable-parts entry p) .0
+    odd = (valid-parts entry p) .0
 
     above : entry / 2 ^ 12 % 2 ^ 40 ≡ entry % 2 ^ 63 / 2 ^ 12
     above =
@@ -116,13 +116,13 @@ pub fields-are : (entry : ℕ) {frame : ℕ} {w u x : Bool} → w ≡ writable e
 unfolding fieldsOf
 fields-are entry w u x f = rw (w, u, x, f)
 
-pub usable-yes : (entry : ℕ) {b : Bool} → b ≡ usable entry → b ≡ true → usable entry ≡ true
-usable-yes entry p q = rw (← p) q
+pub valid-yes : (entry : ℕ) {b : Bool} → b ≡ valid entry → b ≡ true → valid entry ≡ true
+valid-yes entry p q = rw (← p) q
 
-pub apart-present : (entry : ℕ) {p : Bool} {x : Fields} → p ≡ usable entry → p ≡ true → x ≡ fieldsOf entry → Present x ≡ takenApart entry
+pub apart-present : (entry : ℕ) {p : Bool} {x : Fields} → p ≡ valid entry → p ≡ true → x ≡ fieldsOf entry → Present x ≡ takenApart entry
 unfolding takenApart
 apart-present entry p t x = rw (← p, t, x)
 
-pub apart-absent : (entry : ℕ) {p : Bool} → p ≡ usable entry → p ≡ false → Absent ≡ takenApart entry
+pub apart-absent : (entry : ℕ) {p : Bool} → p ≡ valid entry → p ≡ false → Absent ≡ takenApart entry
 unfolding takenApart
 apart-absent entry p t = rw (← p, t)

@@ -1,13 +1,13 @@
--- An ordinary entry made of a usable kernel entry.
+-- An ordinary entry made of a valid kernel entry.
 use Prim.Native.Nat.{ℕ, zero, suc, _+_, _*_, _/_, _%_, _^_, _<_}
 use mathlib.Core.Bool.{Bool, true, false, not, cond, _||_}
 use mathlib.Core.Path.{_≡_, refl, ap, ap₂, _∙_}
 use native.Mathlib.Omega.{arith}
 use lib.Bits.{bitOr, or-block, or-zero-r}
 use Rattle.model.specs.Basics.{bit, either, flag}
-use Rattle.model.specs.Bits.{writable, userBit, noExecute, frameOf, fieldsOf, usable, ordinaryNoExecute, ordinary}
+use Rattle.model.specs.Bits.{writable, userBit, noExecute, frameOf, fieldsOf, valid, ordinaryNoExecute, ordinary}
 use Rattle.model.proofs.VectorLaws.{flag-weight, flag-bit}
-use Rattle.entry.proofs.ApartLaws.{usable-parts, above-12}
+use Rattle.entry.proofs.ApartLaws.{valid-parts, above-12}
 
 -- Bit 63 set beside what it was.
 top-set : (c : ℕ) (b t : Bool) → c / 2 ^ 63 ≡ flag t 0 → bitOr c (cond b (2 ^ 63) 0) ≡ c % 2 ^ 63 + flag (either t b) 63
@@ -56,15 +56,15 @@ copied-fits entry h = sum (entry / 2 ^ 12) (entry % 8) (entry / 2 ^ 63) (omega a
     sum : (y r t : ℕ) → y < 2 ^ 52 → r < 8 → t < 2 → y * 2 ^ 12 + r + t * 2 ^ 9 < 2 ^ 64
     sum y r t a b c = omega arith
 
--- An ordinary entry: what a usable entry has at bits 0 to 2 and from bit 12 on, and bit 63 copied to bit 9.
-pub ordinary-is : (user : Bool) (entry : ℕ) (u : Bool) (w : ℕ) → entry < 2 ^ 64 → usable entry ≡ true → u ≡ userBit entry
+-- An ordinary entry: what a valid entry has at bits 0 to 2 and from bit 12 on, and bit 63 copied to bit 9.
+pub ordinary-is : (user : Bool) (entry : ℕ) (u : Bool) (w : ℕ) → entry < 2 ^ 64 → valid entry ≡ true → u ≡ userBit entry
     → w ≡ cond (not user || not u) (2 ^ 63) 0
     → bitOr (entry / 2 ^ 12 * 2 ^ 12 + entry % 8 + entry / 2 ^ 63 * 2 ^ 9) w ≡ ordinary user (fieldsOf entry)
 unfolding ordinary fieldsOf writable userBit noExecute frameOf
 ordinary-is user entry u w h p q r =
     let t : ℕ = entry / 2 ^ 63 in
     let f : ℕ = frameOf entry in
-    let odd : entry % 2 ≡ 1 = (usable-parts entry p) .0 in
+    let odd : entry % 2 ≡ 1 = (valid-parts entry p) .0 in
     let top : t ≡ flag (bit 63 entry) 0 = omega (arith, flag-bit 63 entry) in
     let (high, low) = parts-63 t f (entry % 8) (omega arith) (omega arith) (omega arith) in
     let flags : entry % 8 + t * 2 ^ 9 + f * 2 ^ 12 ≡ 2 ^ 0 + flag (bit 1 entry) 1 + flag (bit 2 entry) 2 + flag (bit 63 entry) 9 + f * 2 ^ 12 =

@@ -8,7 +8,7 @@ ghost use mathlib.Core.Bool.{true, cond, not};
 ghost use Prim.Native.Nat.{_+_, _*_, _/_, _%_, _^_, _<_, _≤_};
 ghost use lib.Bits.{bitXor};
 ghost use Rattle.model.specs.Basics.{differs, flag};
-ghost use Rattle.model.specs.Bits.{present, writable, userBit, noExecute, kernelNoExecute, approvedMark, frameOf, fieldsOf, usable, takenApart, approved, ordinary};
+ghost use Rattle.model.specs.Bits.{present, writable, userBit, noExecute, kernelNoExecute, approvedMark, frameOf, fieldsOf, valid, takenApart, approved, ordinary};
 ghost use Rattle.model.specs.Switch.{noExecuteIn, switched};
 
 // The weights of the bits. Division and remainder by them are shifts and masks.
@@ -82,15 +82,15 @@ fn shifted(entry: u64) -> u64
 }
 
 // Present with no reserved bit, in one test.
-fn usable(entry: u64) -> bool
-    ensures { λ r. ⌜ r ≡ usable entry ⌝ }
+fn valid(entry: u64) -> bool
+    ensures { λ r. ⌜ r ≡ valid entry ⌝ }
 {
     shifted(entry) & (RESERVED | PRESENT) << 1 == 0
 }
 
-// The fields of a usable entry. Shifted, it has nothing above its frame: the frame takes a shift and no mask.
+// The fields of a valid entry. Shifted, it has nothing above its frame: the frame takes a shift and no mask.
 fn fields_of(entry: u64) -> Fields
-    requires { ⌜ usable entry ≡ true ⌝ }
+    requires { ⌜ valid entry ≡ true ⌝ }
     ensures { λ r. ⌜ r ≡ fieldsOf entry ⌝ }
 {
     Fields {
@@ -104,7 +104,7 @@ fn fields_of(entry: u64) -> Fields
 pub fn take_apart(entry: u64) -> Entry
     ensures { λ r. ⌜ r ≡ takenApart entry ⌝ }
 {
-    if usable(entry) {
+    if valid(entry) {
         Entry::Present(fields_of(entry))
     } else {
         Entry::Absent
@@ -127,7 +127,7 @@ pub fn approved(user: bool, frame: u16) -> u64
 // The ordinary entry of a kernel entry whose reserved bits are clear: bits 3 to 11 alone are left out, bit 63 is copied to bit 9, and it is set
 // beside where the mode is kernel or bit 2 is clear.
 pub fn ordinary_of(user: bool, entry: u64) -> u64
-    requires { ⌜ usable entry ≡ true ⌝ }
+    requires { ⌜ valid entry ≡ true ⌝ }
     ensures { λ r. ⌜ r ≡ ordinary user (fieldsOf entry) ⌝ }
 {
     entry / FRAME * FRAME + entry % 8 + entry / NO_EXECUTE * KERNEL_NO_EXECUTE

@@ -8,7 +8,7 @@ use Rattle.model.specs.declared.Entry.{Entry}
 use Rattle.model.specs.declared.Entry.the-variants.{Absent, Present}
 use Rattle.model.specs.declared.Fields.{Fields}
 use Rattle.model.specs.Basics.{bit, flag}
-use Rattle.model.specs.Bits.{present, noExecute, frameOf, approvedMark, approvedNoExecute, approved, fieldsOf, usable, takenApart, ordinaryNoExecute, ordinary}
+use Rattle.model.specs.Bits.{present, noExecute, frameOf, approvedMark, approvedNoExecute, approved, fieldsOf, valid, takenApart, ordinaryNoExecute, ordinary}
 use Rattle.model.specs.Switch.{noExecuteIn, switched}
 use Rattle.model.proofs.VectorLaws.{flag-weight, flag-small, flag-test}
 
@@ -45,7 +45,7 @@ bit-flag false x h = bit-off 63 (x + 0) (omega arith)
 -- A kernel entry is taken apart as absent, or as present with its own fields.
 pub taken-apart : (entry : ℕ) → (takenApart entry ≡ Absent) ⊎ (takenApart entry ≡ Present (fieldsOf entry))
 unfolding takenApart
-taken-apart entry = by (usable entry)
+taken-apart entry = by (valid entry)
   where
     by : (b : Bool) → (cond b (Present (fieldsOf entry)) Absent ≡ Absent) ⊎ (cond b (Present (fieldsOf entry)) Absent ≡ Present (fieldsOf entry))
     by true = inr refl
@@ -55,9 +55,9 @@ isPresent : Entry → Bool
 isPresent Absent = false
 isPresent (Present x) = true
 
-pub present-usable : (entry : ℕ) (x : Fields) → takenApart entry ≡ Present x → usable entry ≡ true
+pub present-valid : (entry : ℕ) (x : Fields) → takenApart entry ≡ Present x → valid entry ≡ true
 unfolding takenApart isPresent
-present-usable entry x p = by (usable entry) ∙ ap isPresent p
+present-valid entry x p = by (valid entry) ∙ ap isPresent p
   where
     by : (b : Bool) → b ≡ isPresent (cond b (Present (fieldsOf entry)) Absent)
     by true = refl

@@ -38,12 +38,12 @@ fieldsOf entry = record { writable = writable entry; user = userBit entry; «no_
 unfoldable pub reserved : ℕ → ℕ
 reserved entry = entry / 2 ^ 52 % 2 ^ 11
 
-unfoldable pub usable : ℕ → Bool
-usable entry = both (present entry) (eqb (reserved entry) 0)
+unfoldable pub valid : ℕ → Bool
+valid entry = both (present entry) (eqb (reserved entry) 0)
 
 -- "A kernel entry is taken apart first: absent, or present with its fields." "Other bits are ignored."
 unfoldable pub takenApart : ℕ → Entry
-takenApart entry = cond (usable entry) (Present (fieldsOf entry)) Absent
+takenApart entry = cond (valid entry) (Present (fieldsOf entry)) Absent
 
 -- "Approved entry: bits 0 and 10, the frame; bit 63 set in user mode only."
 unfoldable pub approvedNoExecute : Bool → Bool

@@ -17,11 +17,11 @@ use Rattle.model.specs.declared.State.{State}
 use Rattle.model.specs.declared.Answer.the-variants.{Done, Refused}
 use Rattle.model.specs.Basics.{differs}
 use Rattle.model.specs.Keeps.{none, Tables, withThree, Guard, guardOf, vectorBytes, inUser}
-use Rattle.model.specs.Bits.{fieldsOf, usable, takenApart, approved, ordinary}
+use Rattle.model.specs.Bits.{fieldsOf, valid, takenApart, approved, ordinary}
 use Rattle.model.specs.Sync.{Rules, Slot, slot, stepOf, step, Sweep, sweep, sweepFrom, entryIn, stepFrom}
 use Rattle.model.specs.Questions.{stateInOrder, inOrder, syncAllQuestions, syncPageQuestions}
 use Rattle.model.specs.Calls.{replyOf, outcomeBy, keptBy, rulesOf, pageSynced, allSynced, syncPage, syncAll, questionsOf, effectOf, answer}
-use Rattle.model.proofs.BitLaws.{taken-apart, present-usable}
+use Rattle.model.proofs.BitLaws.{taken-apart, present-valid}
 use Rattle.model.proofs.StateLaws.{in-order}
 use Rattle.model.proofs.CallLaws.{passed, stopped, none-left, refused-by, accepted-by}
 use Rattle.model.proofs.SweepLaws.{getD-inside, whole, whole-more, whole-over}
@@ -46,8 +46,8 @@ module _ (r : Rules) (k a : ℕ) (e : Entry) (apart : e ≡ takenApart k) where
   unfolding step stepOf
   step-absent p = rw (← apart, p)
 
-  pub step-usable : (x : Fields) → e ≡ Present x → usable k ≡ true
-  step-usable x p = present-usable k x (sym apart ∙ p)
+  pub step-valid : (x : Fields) → e ≡ Present x → valid k ≡ true
+  step-valid x p = present-valid k x (sym apart ∙ p)
 
   pub step-approved : (x : Fields) (n : ℕ) → e ≡ Present x → (a ≡ 65535 → ⊥) → n ≡ approved (r .user) a → slot n a ≡ step r k a
   unfolding step stepOf

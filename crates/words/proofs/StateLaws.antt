@@ -1,12 +1,12 @@
 -- Laws of a state in a run: all words written, what was written decodes to the same state, and question 7 on the words.
 use Prim.Native.Nat.{ℕ, _+_, _-_, _≤_, _<_}
-use mathlib.Core.Bool.{Bool, true, false}
+use mathlib.Core.Bool.{Bool, true, false, not}
 use mathlib.Core.List.{List}
 use mathlib.Core.Path.{_≡_, refl, sym, ap, _∙_}
 use lib.ListN.{length, getD, set, length-set, List·getD-append}
 use lib.Seq.{paste, drop-at, getD-drop, getD-set-same, getD-set-other}
 use lib.Dec.{ltb, eqb}
-use borrow.Author.Tests.{lt-ltb, ltb-true}
+use borrow.Author.Tests.{not-true, not-false}
 use native.Mathlib.Omega.{arith}
 use mir.Syntax.{w16}
 use mir.Val.{Fits}
@@ -17,7 +17,7 @@ use Rattle.model.specs.Basics.{both, within}
 use Rattle.model.specs.Edges.{pagesInRange, framesInRange}
 use Rattle.model.specs.Keeps.{inUser, running, modeOf, inMode}
 use Rattle.model.specs.Questions.{stateInOrder}
-use Rattle.model.proofs.QuestionLaws.{both-yes, both-no-after, within-high}
+use Rattle.model.proofs.QuestionLaws.{within-high}
 use Rattle.model.proofs.StateLaws.{running-modeOf}
 use Rattle.model.proofs.TableLaws.{is-table, table-same}
 use Rattle.words.specs.Words.{stateWords, pagesAt, framesAt, entryCountAt, entryPagesAt, entryWords, modeAt, runningAt}
@@ -157,41 +157,35 @@ module _ (run : List ℕ) (s : State) (size : length run ≡ stateWords) (long :
 pub running-fits : (mode : Mode) (r : ℕ) → r ≡ running mode → Fits w16 r → running mode < 65536
 running-fits mode r e h = rw e at (h .fits)
 
--- The state's part of question 7, on the words of a run: as on the fields.
-module _ (p f e r : ℕ) where
-  -- as `words_in_order` asks it
-  abbrev onWords : Bool
-  onWords = both (both (pagesInRange p) (framesInRange f)) (both (within 1 16 e) (both (ltb r 2048) (ltb r p)))
+-- The state's part of question 7, on the words of a run: as on the fields. V is asked first.
+module _ (run : List ℕ) where
+  abbrev word : ℕ → ℕ
+  word at = getD run at 0
 
-  -- a page below V is below the most that V may be
-  below : p ≤ 2048 → (b : Bool) → ltb r p ≡ b → both (ltb r 2048) (ltb r p) ≡ ltb r p
-  below few true e = rw e (both-yes (lt-ltb r 2048 (omega (arith, ltb-true r p e))) refl)
-  below few false e = rw e (both-no-after (ltb r 2048) refl)
-
-  on-words : onWords ≡ both (pagesInRange p) (both (framesInRange f) (both (within 1 16 e) (ltb (narrow r) (narrow p))))
-  unfolding both pagesInRange
-  on-words = by (pagesInRange p) refl
+  words-asked : both (pagesInRange (word pagesAt)) (both (framesInRange (word framesAt)) (both (within 1 16 (word entryCountAt)) (ltb (word runningAt) (word pagesAt))))
+      ≡ stateInOrder (stateIn run)
+  unfolding stateInOrder stateIn field pagesInRange framesInRange both
+  words-asked =
+      rw (
+        running-modeOf,
+        narrow-within 1 2048 (word pagesAt) (omega arith),
+        narrow-within 1 4096 (word framesAt) (omega arith),
+        narrow-within 1 16 (word entryCountAt) (omega arith),
+      )
+      (by (within 1 2048 (word pagesAt)) refl)
     where
-      by : (b : Bool) → pagesInRange p ≡ b
-          → both (both b (framesInRange f)) (both (within 1 16 e) (both (ltb r 2048) (ltb r p)))
-          ≡ both b (both (framesInRange f) (both (within 1 16 e) (ltb (narrow r) (narrow p))))
-      by true h = let few : p ≤ 2048 = within-high 1 2048 p h in rw (narrow-ltb r p (omega arith), below few (ltb r p) refl) refl
+      by : (b : Bool) → within 1 2048 (word pagesAt) ≡ b
+          → both b (both (within 1 4096 (word framesAt)) (both (within 1 16 (word entryCountAt)) (ltb (word runningAt) (word pagesAt))))
+          ≡ both b (both (within 1 4096 (word framesAt)) (both (within 1 16 (word entryCountAt)) (ltb (narrow (word runningAt)) (narrow (word pagesAt)))))
+      by true h = let few : word pagesAt ≤ 2048 = within-high 1 2048 (word pagesAt) h in rw (narrow-ltb (word runningAt) (word pagesAt) (omega arith)) refl
       by false h = refl
 
-words-asked : (run : List ℕ)
-    → onWords (getD run pagesAt 0) (getD run framesAt 0) (getD run entryCountAt 0) (getD run runningAt 0) ≡ stateInOrder (stateIn run)
-unfolding stateInOrder stateIn field pagesInRange framesInRange
-words-asked run =
-    rw (
-      running-modeOf,
-      narrow-within 1 2048 (getD run pagesAt 0) (omega arith),
-      narrow-within 1 4096 (getD run framesAt 0) (omega arith),
-      narrow-within 1 16 (getD run entryCountAt 0) (omega arith),
-    )
-    (on-words (getD run pagesAt 0) (getD run framesAt 0) (getD run entryCountAt 0) (getD run runningAt 0))
+  module _ (a : Bool) (asked : a ≡ pagesInRange (word pagesAt)) where
+    pub pages-wrong : not a ≡ true → false ≡ stateInOrder (stateIn run)
+    unfolding both
+    pages-wrong n = rw (sym asked ∙ not-true a n) at words-asked
 
-pub words-in-order : (run : List ℕ) (a b d q w y r : Bool) → r ≡ both q y → q ≡ both a b → y ≡ both d w
-    → w ≡ both (ltb (getD run runningAt 0) 2048) (ltb (getD run runningAt 0) (getD run pagesAt 0))
-    → a ≡ pagesInRange (getD run pagesAt 0) → b ≡ framesInRange (getD run framesAt 0) → d ≡ within 1 16 (getD run entryCountAt 0)
-    → r ≡ stateInOrder (stateIn run)
-words-in-order run a b d q w y r e1 e2 e3 e4 e5 e6 e7 = cc (words-asked run)
+    pub words-in-order : (b d y z : Bool) → not a ≡ false → z ≡ both b y → y ≡ both d (ltb (word runningAt) (word pagesAt))
+        → b ≡ framesInRange (word framesAt) → d ≡ within 1 16 (word entryCountAt) → z ≡ stateInOrder (stateIn run)
+    unfolding both
+    words-in-order b d y z n e1 e2 e3 e4 = rw (e1, e2, e3, e4) (rw (sym asked ∙ not-false a n) at words-asked)

@@ -16,7 +16,6 @@ ghost use Rattle.words.specs.Words.{stateWords, entryPagesAt, entryWords
 use model::Answer;
 use model::Called;
 use model::ENTRY_PAGES;
-use model::MOST_PAGES;
 use model::Mode;
 use model::State;
 
@@ -180,21 +179,19 @@ fn lendable(run: &[u64], numbers: &[u64], count: usize) -> bool
     run[STATE_MODE] <= MODE_USER
 }
 
-// The state's part of question 7, on the words of a run. The compiler then drops what the calls below ask of the fields; that the running
-// page is below the most that V may be follows from the rest, and is asked for it to know.
+// The state's part of question 7, on the words of a run. The compiler then drops what the calls below ask of the fields: that the running page
+// has 16 bits too it knows where V was asked before.
 fn words_in_order(run: &[u64]) -> bool
     requires { ⌜ length (now run) ≡ stateWords ⌝ }
     ensures { λ r. ⌜ r ≡ stateInOrder (stateIn (now (run .entry))) ⌝ }
 {
     let pages = run[STATE_PAGES];
-    let sizes = questions::both(
-        questions::pages_in_range(pages),
-        questions::frames_in_range(run[STATE_FRAMES]),
-    );
+    if !questions::pages_in_range(pages) {
+        return false;
+    }
+    let frames = questions::frames_in_range(run[STATE_FRAMES]);
     let entries = questions::entry_count_in_range(run[STATE_ENTRIES]);
-    let running = run[STATE_RUNNING];
-    let exists = questions::both(running < MOST_PAGES, running < pages);
-    questions::both(sizes, questions::both(entries, exists))
+    questions::both(frames, questions::both(entries, run[STATE_RUNNING] < pages))
 }
 
 // Both runs can be lent, and the state is in order.

@@ -1,4 +1,4 @@
--- One law, of a usable entry of 64 bits.
+-- One law, of a valid entry of 64 bits.
 use native.Mathlib.Omega.{arith}
 use Rattle.entry.proofs.OrdinaryLaws.{copied-fits, ordinary-is}
 use borrow.Author.Needs.{needs}

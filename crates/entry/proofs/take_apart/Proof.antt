@@ -1,11 +1,11 @@
 -- Present with its fields, or absent.
-use Rattle.entry.proofs.ApartLaws.{usable-yes, apart-present, apart-absent}
+use Rattle.entry.proofs.ApartLaws.{valid-yes, apart-present, apart-absent}
 use borrow.Author.Needs.{needs}
 use Rattle.entry.proofs.take_apart.Statement.{statement}
 use Rattle.entry.proofs.take_apart.Tie as tie
 
 fields-of-requires : tie.Need-fields-of-requires
-fields-of-requires c κs = search (needs, usable-yes)
+fields-of-requires c κs = search (needs, valid-yes)
 
 returns : tie.Need-returns
 returns c = search (needs, apart-present)

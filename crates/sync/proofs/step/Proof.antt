@@ -1,5 +1,5 @@
 -- A law for each of the five steps.
-use Rattle.sync.proofs.SyncLaws.{step-absent, step-usable, step-approved, step-above, step-excluded, step-ordinary, frame-in}
+use Rattle.sync.proofs.SyncLaws.{step-absent, step-valid, step-approved, step-above, step-excluded, step-ordinary, frame-in}
 use borrow.Author.Needs.{needs}
 use Rattle.sync.proofs.step.Statement.{statement}
 use Rattle.sync.proofs.step.Tie as tie
@@ -20,7 +20,7 @@ returns-4 : tie.Need-returns-4
 returns-4 c = search (needs, step-excluded)
 
 ordinary-of-requires : tie.Need-ordinary-of-requires
-ordinary-of-requires c κs = search (needs, step-usable)
+ordinary-of-requires c κs = search (needs, step-valid)
 
 returns-5 : tie.Need-returns-5
 returns-5 c = search (needs, step-ordinary)

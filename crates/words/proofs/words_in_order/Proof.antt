@@ -1,15 +1,18 @@
--- `words::words_in_order` meets its contract.
+-- V is out of range, or the rest is asked.
+use Rattle.words.proofs.StateLaws.{pages-wrong, words-in-order}
 use borrow.Author.Needs.{needs}
-use Rattle.words.proofs.StateLaws.{words-in-order}
 use Rattle.words.proofs.words_in_order.Statement.{statement}
 use Rattle.words.proofs.words_in_order.Tie as tie
 
 returns : tie.Need-returns
-returns c = search (needs, words-in-order)
+returns c = search (needs, pages-wrong)
+
+returns-2 : tie.Need-returns-2
+returns-2 c = search (needs, words-in-order)
 
 pub words-in-order-spec : {M : Type 1} → statement M
 words-in-order-spec =
     tie.close
-    (tie.spec (λ c. search needs) (λ c κs. search needs) (λ c. search needs) (λ c κs. search needs) (λ c κs. search needs)
+    (tie.spec (λ c. search needs) (λ c κs. search needs) returns (λ c. search needs) (λ c κs. search needs)
     (λ c. search needs) (λ c κs. search needs) (λ c. search needs) (λ c κs. search needs) (λ c κs. search needs)
-    (λ c κs. search needs) returns)
+    returns-2)
