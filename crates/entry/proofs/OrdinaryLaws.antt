@@ -49,12 +49,11 @@ parts-63 zero f r a b c = (omega arith, omega arith)
 parts-63 (suc zero) f r a b c = (omega arith, omega arith)
 parts-63 (suc (suc t)) f r a b c = absurd (omega arith)
 
--- What is copied fits 64 bits.
-pub copied-fits : (entry : ℕ) → entry < 2 ^ 64 → entry / 2 ^ 12 * 2 ^ 12 + entry % 8 + entry / 2 ^ 63 * 2 ^ 9 < 2 ^ 64
-copied-fits entry h = sum (entry / 2 ^ 12) (entry % 8) (entry / 2 ^ 63) (omega arith) (omega arith) (omega arith)
-  where
-    sum : (y r t : ℕ) → y < 2 ^ 52 → r < 8 → t < 2 → y * 2 ^ 12 + r + t * 2 ^ 9 < 2 ^ 64
-    sum y r t a b c = omega arith
+-- A number shifted by 12, with what stands below it, fits 64 bits.
+pub copied-fits : (y r t w : ℕ) → y < 2 ^ 52 → r < 8 → t < 2 → w < 2 ^ 11 → y * 2 ^ 12 + r + t * w < 2 ^ 64
+copied-fits y r zero w a b c d = omega arith
+copied-fits y r (suc zero) w a b c d = omega arith
+copied-fits y r (suc (suc t)) w a b c d = absurd (omega arith)
 
 -- An ordinary entry: what a valid entry has at bits 0 to 2 and from bit 12 on, and bit 63 copied to bit 9.
 pub ordinary-is : (user : Bool) (entry : ℕ) (u : Bool) (w : ℕ) → entry < 2 ^ 64 → valid entry ≡ true → u ≡ userBit entry
