@@ -119,9 +119,9 @@ enum guard_refusal {
  *   63 K    no-execute         read            1                      0
  *   63 U    no-execute         read            bit 9, or bit 2 clear  1
  *
- * The processor faults on an entry with any of bits 52 to 62 set. A kernel that uses such entries as markers, not as mappings, gets
- * shadow entry 0 for them. Only kernel entries are asked for these bits: in a shadow entry no call asks for them or changes them,
- * but that a synchronisation makes the entry anew.
+ * In PAE paging the processor faults on an entry with any of bits 52 to 62 set. A kernel that uses such entries as markers, not as
+ * mappings, gets shadow entry 0 for them. Only kernel entries are asked for these bits, never shadow entries: there guard_enter and
+ * guard_leave keep them as found, and a start or a synchronisation makes the entry anew without them.
  *
  * An accepted guard_enter or guard_leave sets or clears bit 63 of every shadow entry whose bit 0 is set, by the last two rows
  * and the entry's own bits 2, 9 and 10. It keeps every other bit. A processor that walks the shadow table sets bits 5 and 6 in

@@ -9,7 +9,7 @@
 
 #include "guard.h"
 
-/* The named bits, as document 01 has them. */
+/* The named bits, as document 01 and request K1 have them. */
 _Static_assert(GUARD_ENTRY_PRESENT == 0x1 && GUARD_ENTRY_WRITABLE == 0x2 && GUARD_ENTRY_USER == 0x4, "bits 0, 1 and 2");
 _Static_assert(GUARD_ENTRY_KERNEL_NO_EXECUTE == 0x200 && GUARD_ENTRY_APPROVED == 0x400, "bits 9 and 10");
 _Static_assert(GUARD_ENTRY_RESERVED == 0x7ff0000000000000 && GUARD_ENTRY_NO_EXECUTE == 0x8000000000000000, "bits 52 to 63");
@@ -226,7 +226,7 @@ static uint64_t kernel_entry(void)
 static int synchronised(int user)
 {
     struct guard g = started(user);
-    /* absent by bit 0; by a reserved bit, of an approved page and of another; then the other lines of the list */
+    /* absent by bit 0; the other four lines of the list; absent by a reserved bit, of an approved page and of another */
     unsigned kinds[7] = {0};
     for (int i = 0; i < ROUNDS; i++) {
         uint64_t page = below(PAGES);

@@ -232,6 +232,35 @@ static void other_calls(void)
     want.numbers[1] = 1;
     check("synchronise all", number, GUARD_ACCEPTED, &g, &want);
 
+    /* K1: with a reserved bit page 3 is absent, an alias does not join, and an approved page is absent and stays approved */
+    const struct guard plain = g;
+    const struct guard plain_want = want;
+    g.kernel[0] = 0x7ff0000000002003;
+    g.kernel[2] = 0x0010000000002007;
+    g.kernel[3] = 0x4000000000003007;
+    g.map[0] = GUARD_MAP_NONE;
+    forget(&g);
+    number = sync_all(&g);
+    want.kernel[0] = 0x7ff0000000002003;
+    want.kernel[2] = 0x0010000000002007;
+    want.kernel[3] = 0x4000000000003007;
+    want.map[0] = GUARD_MAP_NONE;
+    want.shadow[2] = 0;
+    want.shadow[3] = 0;
+    want.numbers[0] = 2;
+    want.numbers[1] = 0;
+    check("synchronise all with reserved bits", number, GUARD_ACCEPTED, &g, &want);
+
+    g.kernel[2] = 0x3007;
+    forget(&g);
+    number = sync_page(&g, 2);
+    want.kernel[2] = 0x3007;
+    want.shadow[2] = 0x2401;
+    want.numbers[0] = 1;
+    check("an approved page after a reserved bit", number, GUARD_ACCEPTED, &g, &want);
+    g = plain;
+    want = plain_want;
+
     /* C9 */
     forget(&g);
     number = device_write(&g, 16383, 1);

@@ -1,5 +1,5 @@
 // Document 01, "Entry bits": the bits of kernel and shadow entries, kernel entries taken apart, shadow entries made and switched.
-// Every function is total and gives what its definition in the model gives.
+// Every function gives what its definition in the model gives; two ask for a kernel entry that is valid.
 
 use model::Entry;
 use model::Fields;
@@ -74,14 +74,15 @@ pub fn frame_of(entry: u64) -> u64
 }
 
 // An entry shifted left once, less 2: bit 63 is gone. The present bit, which weighs 2 then, is clear where it was set, with the bits above as
-// they were, and set where it was clear.
+// they were, and set where it was clear. So one test serves for the present and the reserved bits: to mask the entry and to compare it with
+// the present bit takes an instruction more, and a frame made of the entry itself takes a mask.
 fn shifted(entry: u64) -> u64
     ensures { λ r. ⌜ (r + 2) % 2 ^ 64 ≡ entry * 2 % 2 ^ 64 ⌝ }
 {
     std::num::wrapping_sub_u64(entry << 1, 2)
 }
 
-// Present with no reserved bit, in one test.
+// Whether a kernel entry is present and has no reserved bit, in one test.
 fn valid(entry: u64) -> bool
     ensures { λ r. ⌜ r ≡ valid entry ⌝ }
 {
@@ -124,8 +125,8 @@ pub fn approved(user: bool, frame: u16) -> u64
     1 + APPROVED + frame as u64 * FRAME + weight_if(user, NO_EXECUTE)
 }
 
-// The ordinary entry of a kernel entry whose reserved bits are clear: bits 3 to 11 alone are left out, bit 63 is copied to bit 9, and it is set
-// beside where the mode is kernel or bit 2 is clear.
+// The ordinary entry of a kernel entry. It asks for a valid one, which step 5 has: then all bits but 3 to 11 are copied as they are, without a
+// mask for the reserved bits. Bit 9 is bit 63 of the kernel entry; bit 63 is that bit too, and is set in kernel mode and where bit 2 is clear.
 pub fn ordinary_of(user: bool, entry: u64) -> u64
     requires { ⌜ valid entry ≡ true ⌝ }
     ensures { λ r. ⌜ r ≡ ordinary user (fieldsOf entry) ⌝ }

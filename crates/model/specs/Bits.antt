@@ -1,4 +1,4 @@
--- Document 01, "Entry bits", with the entries that "Synchronising one page" makes of them: kernel entries taken apart, shadow entries made.
+-- Document 01, "Entry bits", as request K1 (document 02) changed them, with the entries that "Synchronising one page" makes of them: kernel entries taken apart, shadow entries made.
 use Prim.Native.Nat.{ℕ, _+_, _*_, _/_, _%_, _^_}
 use mathlib.Core.Bool.{Bool, true, not, cond}
 use lib.Dec.{eqb}
@@ -38,10 +38,11 @@ fieldsOf entry = record { writable = writable entry; user = userBit entry; «no_
 unfoldable pub reserved : ℕ → ℕ
 reserved entry = entry / 2 ^ 52 % 2 ^ 11
 
+-- What a kernel entry has to be to map a page: present, and "any of those bits set" is not the case.
 unfoldable pub valid : ℕ → Bool
 valid entry = both (present entry) (eqb (reserved entry) 0)
 
--- "A kernel entry is taken apart first: absent, or present with its fields." "Other bits are ignored."
+-- "A kernel entry is taken apart first: absent, or present with its fields." "Other bits are ignored", bits 3 to 11 since K1.
 unfoldable pub takenApart : ℕ → Entry
 takenApart entry = cond (valid entry) (Present (fieldsOf entry)) Absent
 

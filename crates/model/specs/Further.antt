@@ -1,4 +1,4 @@
--- Cases beside the twelve of document 01, each from one of its sentences: a policy with two entry pages and a repeated frame, the calls that
+-- Cases beside the twelve of document 01, each from one of its sentences or of a request's (K1, ..): a policy with two entry pages and a repeated frame, the calls that
 -- C1 to C12 do not make, and refusals with what comes before them. Rows as in Cases.
 use Prim.Native.Nat.{ℕ}
 use mathlib.Core.Bool.{true, false}
@@ -171,6 +171,18 @@ syncCases =
     (syncAll
     (0x0010000000004007 ∷ 0x0200000000005003 ∷ 0x8010000000006007 ∷ 0x4000000000006007 ∷ 0x7ff0000000005002 ∷ 0x7ff0000000007007 ∷ [])))
     (outcome (accepted 6 0) (with6 (User 1) (replicate 6 0)))
+    -- the others, each alone: 53 to 56, 58 and 59, on read-only entries, with bits 3 to 11 set, on an approved page with a frame past F
+    ∷ row
+    (answer (filled (Kernel 1))
+    (syncAll
+    (0x0020000000004001 ∷ 0x0040000000009003 ∷ 0x0080000000003ff9 ∷ 0x0100000000005001 ∷ 0x0400000000005ff9 ∷ 0x0800000000007ff9 ∷ [])))
+    (outcome (accepted 6 0) (with6 (Kernel 1) (replicate 6 0)))
+    -- 60 and 61; beside them bit 50 on an approved page and bits 3 to 11 on an ordinary one, which stay mapped
+    ∷ row
+    (answer (filled (User 1))
+    (syncAll
+    (0x1000000000004001 ∷ 0x2000000000005001 ∷ 0x0004000000003003 ∷ 0x1000000000005ff9 ∷ 0x2000000000009003 ∷ 0x7fff ∷ [])))
+    (outcome (accepted 6 0) (with6 (User 1) (0 ∷ 0 ∷ 0x8000000000003401 ∷ 0 ∷ 0 ∷ 0x7007 ∷ [])))
     -- bits 51 and 63, on either side, are none of these: both on an approved page and bit 63 on an alias, which joins, and on an ordinary page
     ∷ row
     (answer (filled (Kernel 1))

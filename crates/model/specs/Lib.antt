@@ -1,4 +1,4 @@
--- The definitions of document 01, a file for each of its sections, in its order.
+-- The definitions of document 01, a file for each of its sections, in its order, each as the requests of document 02 have changed it.
 pub mod Basics
 pub mod Edges
 pub mod Keeps

@@ -179,8 +179,8 @@ fn lendable(run: &[u64], numbers: &[u64], count: usize) -> bool
     run[STATE_MODE] <= MODE_USER
 }
 
-// The state's part of question 7, on the words of a run. The compiler then drops what the calls below ask of the fields: that the running page
-// has 16 bits too it knows where V was asked before.
+// The state's part of question 7, on the words of a run. The compiler then drops what the calls below ask of the fields. V is asked first: the
+// compiler then knows that a running page below V has 16 bits.
 fn words_in_order(run: &[u64]) -> bool
     requires { ⌜ length (now run) ≡ stateWords ⌝ }
     ensures { λ r. ⌜ r ≡ stateInOrder (stateIn (now (run .entry))) ⌝ }

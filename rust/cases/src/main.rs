@@ -1,5 +1,5 @@
 //! Executes every call of the proved library, and the drill, on made-up states and tables, and compares each answer, state and
-//! table with literals from document 01. A line for each case, and a total; the exit status is 0 where none is wrong.
+//! table with literals from documents 01 and 02. A line for each case, and a total; the exit status is 0 where none is wrong.
 
 mod calls;
 mod device_write_cases;

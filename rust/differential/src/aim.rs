@@ -89,11 +89,11 @@ impl Aim {
         }
     }
 
-    /// Often a page that the kernel maps as present, user and executable: a list is to reach user mode.
+    /// Often a page that the kernel maps, as user and executable: a list is to reach user mode.
     fn page_to_leave_to(&self, random: &mut Random, kernel: &[u64]) -> u64 {
         let is_user_code = |page: u64| {
             let entry = usize::try_from(page).ok().and_then(|page| kernel.get(page));
-            entry.is_some_and(|entry| entry & (1 << 63 | 0b101) == 0b101)
+            entry.is_some_and(|entry| entry & (0xfff << 52 | 0b101) == 0b101)
         };
         let tries = random.below(6);
         let found = (0..tries).map(|_| self.page(random)).find(|&page| is_user_code(page));

@@ -1,5 +1,5 @@
-//! The present kernel entries of accepted synchronisations: how many had a reserved bit and how many had none, by what the page was before.
-//! K1 makes those with one absent, so that both outcomes must come often for each.
+//! What accepted synchronisations made of kernel entries with bit 0 set and a frame below F, by what the page was before: mapped, or
+//! absent for a reserved bit, which is the only reason left (K1). Both outcomes must come often on each kind of page.
 
 use std::io::{self, Write};
 use std::ops::Range;
@@ -11,11 +11,11 @@ use crate::call::Lent;
 /// The least count of each.
 const MINIMUM: u64 = 1000;
 
-/// What a page was before: approved, or not and its kernel entry with a frame that is excluded, or with any other.
-const PAGES: [&str; 3] = ["approved page", "alias", "any other page"];
+/// What a page was before: approved, or not and its kernel entry with a frame that is excluded, or that is not.
+const PAGES: [&str; 3] = ["approved page", "alias", "ordinary page"];
 
-/// The two outcomes.
-const OUTCOMES: [&str; 2] = ["no reserved bit", "a reserved bit"];
+/// What its shadow entry is after.
+const OUTCOMES: [&str; 2] = ["mapped", "absent"];
 
 /// The map's number of a page that is not approved.
 const NO_FRAME: u16 = 65535;
@@ -24,24 +24,26 @@ const NO_FRAME: u16 = 65535;
 pub struct Entries([[u64; OUTCOMES.len()]; PAGES.len()]);
 
 impl Entries {
-    /// Counts the entries that an accepted call was brought, with the tables as it found them.
-    pub fn count(&mut self, call: &Call, found: &Lent) {
+    /// Counts the entries that an accepted call was brought, by the tables before and after it.
+    pub fn count(&mut self, call: &Call, frames: u64, before: &Lent, after: &Lent) {
         let (kernel, pages): (&[u64], Range<usize>) = match *call {
             Call::SynchroniseOne { kernel, page } => (kernel, page as usize..page as usize + 1),
             Call::SynchroniseAll { kernel } => (kernel, 0..kernel.len()),
             _ => return,
         };
-        for page in pages.filter(|&page| kernel[page] & 1 == 1) {
+        for page in pages {
             let frame = kernel[page] >> 12 & ((1 << 40) - 1);
-            let kind = if found.map[page] != NO_FRAME {
+            if kernel[page] & 1 == 0 || frame >= frames {
+                continue;
+            }
+            let kind = if before.map[page] != NO_FRAME {
                 0
-            } else if is_excluded(&found.exclusion, frame) {
+            } else if is_excluded(&before.exclusion, frame) {
                 1
             } else {
                 2
             };
-            let reserved = kernel[page] >> 52 & ((1 << 11) - 1);
-            self.0[kind][usize::from(reserved != 0)] += 1;
+            self.0[kind][usize::from(after.shadow[page] == 0)] += 1;
         }
     }
 
@@ -61,7 +63,7 @@ impl Entries {
     }
 
     pub fn print(&self, out: &mut impl Write) -> io::Result<()> {
-        write!(out, "{:26}", "present kernel entries")?;
+        write!(out, "{:26}", "kernel entries below F")?;
         OUTCOMES.iter().try_for_each(|outcome| write!(out, "{outcome:>16}"))?;
         writeln!(out)?;
         for (page, counts) in PAGES.iter().zip(&self.0) {

@@ -27,7 +27,7 @@ pub fn run_list(plan: &Plan, seed: u64, tally: &mut Tally) -> Result<(), String>
         let number = compare(plan.fault, &mut lent, &call)?;
         tally.count_started(call.kind(), number)?;
         if number == 0 {
-            tally.count_entries(&listed, &before);
+            tally.count_entries(&listed, &before, &lent);
         }
         compare_guard(&mut guard, &listed, number, &lent)?;
         check_claim(&mut claim, &listed, number, &before, &lent)?;

@@ -3,6 +3,7 @@
 
 use std::io::{self, Write};
 
+use guard::archive::STATE_FRAMES;
 use guard::Refusal;
 use reference::claim;
 
@@ -81,9 +82,9 @@ impl Tally {
         count(&mut self.started, kind, number)
     }
 
-    /// Counts the kernel entries of an accepted call of a list from a start, with the tables as it found them.
-    pub(crate) fn count_entries(&mut self, call: &claim::Call, found: &Lent) {
-        self.entries.count(call, found);
+    /// Counts what an accepted call of a list from a start made of its kernel entries.
+    pub(crate) fn count_entries(&mut self, call: &claim::Call, before: &Lent, after: &Lent) {
+        self.entries.count(call, after.state[STATE_FRAMES], before, after);
     }
 
     pub(crate) fn count_damaged(

@@ -47,6 +47,18 @@ fn too_few_calls_are_noticed() {
     assert!(!tally.complaints().is_empty());
 }
 
+/// Each outcome of a reserved bit that comes too seldom is named, on each kind of page.
+#[test]
+fn too_few_outcomes_of_reserved_bits_are_noticed() {
+    let complaints = Tally::default().complaints();
+    for page in ["approved page", "alias", "ordinary page"] {
+        for outcome in ["mapped", "absent"] {
+            let complaint = format!("{page}, {outcome}: 0 entries, at least 1000 are asked for");
+            assert!(complaints.contains(&complaint), "{complaint}");
+        }
+    }
+}
+
 /// A number that both sides agree on and that is no refusal is named, and not passed over.
 #[test]
 fn a_number_that_is_no_refusal_is_an_error() {

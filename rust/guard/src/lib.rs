@@ -1,5 +1,5 @@
 //! The proved page guard as a Rust type: [`Guard`] owns its state and tables, and every call is safe on every input.
-//! The calls run in the archive of `crates/exports`, where each is proved to answer what document 01 says.
+//! The calls run in the archive of `crates/exports`, where each is proved to answer what documents 01 and 02 say.
 //!
 //! ```
 //! use guard::{Frames, Guard, Mode, Refusal, Synchronised};

@@ -31,7 +31,7 @@ pub struct KernelEntry {
     pub available: u64,
     /// Bits 12 to 51.
     pub frame: u64,
-    /// Bits 52 to 62, on which the processor faults.
+    /// Bits 52 to 62, reserved: the processor faults on them, and a driver uses them as a marker.
     pub marker: u64,
     /// Bit 63.
     pub no_execute: bool,

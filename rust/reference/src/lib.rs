@@ -1,4 +1,4 @@
-//! The page guard of document 01 in plain Rust: a baseline for speed and the other side of differential tests.
+//! The page guard of document 01, with the requests of document 02, in plain Rust: a baseline for speed and the other side of differential tests.
 //! Tables are lent slices, a refused call changes nothing, and no guard call allocates.
 #![forbid(unsafe_code)]
 

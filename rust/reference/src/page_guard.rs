@@ -1,5 +1,5 @@
 //! The one-page guard of demand 3: what is true of one page, by what it is told and nothing else.
-//! It is written from document 01 apart from the table code, in numbers and named fields, so that each can check the other.
+//! It is written from documents 01 and 02 apart from the table code, in numbers and named fields, so that each can check the other.
 
 /// The approval of a page that has none.
 const NONE: u16 = 65535;

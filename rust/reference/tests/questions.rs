@@ -361,7 +361,7 @@ fn a_reserved_bit_makes_an_entry_absent() {
         assert_eq!(guard.synchronise(0, 0x3003), Ok((1, 0)));
         for (page, entry, changed) in [(0, 0x3003, 1), (2, 0x2003, 0), (1, 0x2003, 1)] {
             assert_eq!(guard.synchronise(page, 1 << bit | entry), Ok((changed, 0)), "bit {bit}");
-            assert_eq!(guard.shadow[page as usize], 0, "bit {bit}");
+            assert_eq!(guard.shadow[page], 0, "bit {bit}");
         }
         assert_eq!(guard.map, [NO_FRAME, 2, NO_FRAME, NO_FRAME]);
         assert_eq!(guard.synchronise(1, 0x3003), Ok((1, 0)));
