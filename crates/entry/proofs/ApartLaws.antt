@@ -42,15 +42,14 @@ none-of z = by (eqb (z % 2) 0) refl
         rw (ne-eqb (suc z % 2) 1 (λ p. odd (omega arith))) (ne-eqb (z / 2 ^ 52 * 2 ^ 53 + z % 2 * 2) 0 (λ p. odd (omega arith)))
 
 -- An entry shifted left once, less 2, is twice one less than the entry without its bit 63, or where that is 0 the highest even number.
+doubled : (entry : ℕ) → entry * 2 % 2 ^ 64 ≡ entry % 2 ^ 63 * 2
+doubled entry = omega arith
+
 shifted-is : (entry x z : ℕ) → x < 2 ^ 64 → (x + 2) % 2 ^ 64 ≡ entry * 2 % 2 ^ 64 → entry % 2 ^ 63 ≡ suc z → x ≡ z * 2
-shifted-is entry x z h e p =
-    let doubled : entry * 2 % 2 ^ 64 ≡ entry % 2 ^ 63 * 2 = omega arith in
-    omega arith
+shifted-is entry x z h e p = omega (arith, doubled entry)
 
 shifted-zero : (entry x : ℕ) → x < 2 ^ 64 → (x + 2) % 2 ^ 64 ≡ entry * 2 % 2 ^ 64 → entry % 2 ^ 63 ≡ 0 → x ≡ 2 ^ 64 - 2
-shifted-zero entry x h e p =
-    let doubled : entry * 2 % 2 ^ 64 ≡ entry % 2 ^ 63 * 2 = omega arith in
-    omega arith
+shifted-zero entry x h e p = omega (arith, doubled entry)
 
 -- The test of bit 0 and the reserved bits together, on the shifted entry.
 pub valid-is : (entry x : ℕ) → x < 2 ^ 64 → (x + 2) % 2 ^ 64 ≡ entry * 2 % 2 ^ 64 → eqb (bitAnd x 0xffe0000000000002) 0 ≡ valid entry

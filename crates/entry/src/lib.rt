@@ -1,4 +1,5 @@
-// Document 01, "Entry bits": the bits of kernel and shadow entries, kernel entries taken apart, shadow entries made and switched.
+// Document 01, "Entry bits", with request K1: the bits of kernel and shadow entries, kernel entries taken apart, shadow entries made and
+// switched.
 // Every function gives what its definition in the model gives; two ask for a kernel entry that is valid.
 
 use model::Entry;

@@ -38,11 +38,11 @@ fieldsOf entry = record { writable = writable entry; user = userBit entry; «no_
 unfoldable pub reserved : ℕ → ℕ
 reserved entry = entry / 2 ^ 52 % 2 ^ 11
 
--- What a kernel entry has to be to map a page: present, and "any of those bits set" is not the case.
+-- A kernel entry that is not absent: present, with none of those bits set.
 unfoldable pub valid : ℕ → Bool
 valid entry = both (present entry) (eqb (reserved entry) 0)
 
--- "A kernel entry is taken apart first: absent, or present with its fields." "Other bits are ignored", bits 3 to 11 since K1.
+-- "A kernel entry is taken apart first: absent, or present with its fields." "Other bits are ignored": since K1 these are bits 3 to 11.
 unfoldable pub takenApart : ℕ → Entry
 takenApart entry = cond (valid entry) (Present (fieldsOf entry)) Absent
 
