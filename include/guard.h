@@ -64,7 +64,7 @@ enum guard_refusal {
     GUARD_RECORD_TOO_SHORT = 1,    /* the policy record is shorter than 8 bytes */
     GUARD_SIZE_OUT_OF_RANGE = 2,   /* V or F is out of range */
     GUARD_COUNT_OUT_OF_RANGE = 3,  /* n or e is out of range */
-    GUARD_RECORD_LENGTH = 4,       /* the length of the policy record does not fit n */
+    GUARD_RECORD_LENGTH = 4,       /* the length of the policy record or of an array does not fit n */
     GUARD_LISTED_PAGE = 5,         /* a listed page is out of range or out of order */
     GUARD_LISTED_FRAME = 6,        /* a listed frame is out of range */
     GUARD_STATE_OR_TABLE = 7,      /* the state or the length of a table does not fit */
@@ -75,7 +75,8 @@ enum guard_refusal {
     GUARD_NOT_PERMITTED = 12,      /* a touched page does not permit it */
     GUARD_EXCLUDED = 13,           /* a touched frame is excluded */
     GUARD_CALL_CUT_SHORT = 14,     /* the last call is cut short */
-    GUARD_UNKNOWN_KIND = 15        /* the kind of call is unknown */
+    GUARD_UNKNOWN_KIND = 15,       /* the kind of call is unknown */
+    GUARD_BUFFER_TOO_SHORT = 16    /* the buffer is shorter than the record */
 };
 
 /*
@@ -173,6 +174,22 @@ enum guard_refusal {
 uint64_t guard_start(const uint8_t *policy, size_t policy_length, uint64_t *state, size_t state_length, uint64_t *shadow,
                      size_t shadow_length, uint16_t *map, size_t map_length, uint8_t *exclusion, size_t exclusion_length,
                      uint64_t *numbers, size_t numbers_length);
+
+/*
+ * Writes a policy record, laid out as at guard_start, into the buffer `buffer`, from V (pages), F (frames), n (count), e
+ * (entry_count) and two arrays: the n listed pages, of which the first e are the entry pages, and their n frames. Numbers: the
+ * record's length, 8 + 4 * n, and 0. Bytes past the record stay as they were.
+ *
+ * It needs no state and no table, and may be called anywhere, before any guard is started: guard_start accepts the record, given as
+ * that many bytes, with tables of its V and F. A record that guard_start accepts, read and written again, is the same bytes.
+ *
+ * Refusals 2, 3, 4 (an array has not n numbers), 5 and 6 as at guard_start; then 7 (the numbers run) and 16 (the buffer is shorter
+ * than the record). A refused call leaves the buffer as it was.
+ */
+uint64_t guard_write_record(uint64_t pages, uint64_t frames, uint64_t count, uint64_t entry_count,
+                            const uint16_t *listed_pages, size_t listed_pages_length, const uint16_t *listed_frames,
+                            size_t listed_frames_length, uint8_t *buffer, size_t buffer_length, uint64_t *numbers,
+                            size_t numbers_length);
 
 /*
  * Synchronise one page: makes its shadow entry from its kernel entry, as said at "Entries". The page may join the map, which is

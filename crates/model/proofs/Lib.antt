@@ -4,6 +4,7 @@ pub mod StateLaws
 pub mod BitLaws
 pub mod TableLaws
 pub mod PolicyLaws
+pub mod RecordLaws
 mod Computed
 mod CaseLaws
 mod LimitLaws

@@ -212,6 +212,14 @@ module _ (long more exact : Bool) (policy : Policy) (h : firstNo (policyQuestion
   unfolding policyQuestions asked both either
   exact-yes = both-first exact true (answered 4)
 
+  long-yes : long ≡ true
+  unfolding policyQuestions asked both either
+  long-yes = both-first long true (answered 1)
+
+  -- What the policy by itself is asked: 2, 3, 5 and 6.
+  pub policy-asked : firstNo (policyQuestions true true true policy) ≡ 0
+  policy-asked = rw (long-yes, more-yes, exact-yes) at h
+
   count-yes : within 1 (policy .pages) (policy .count) ≡ true
   unfolding countsInRange
   count-yes = both-first (within 1 (policy .pages) (policy .count)) (within 1 (min (policy .count) 16) (policy .entryCount)) counts-yes

@@ -135,3 +135,10 @@ settle-accepted done refusal p = rw p refl
 pub settle-refused : {A : Type 0} {n : ℕ} (k : ℕ) (done : A) (refusal : ℕ → A) → n ≡ suc k → settle n done refusal ≡ refusal (suc k)
 unfolding settle
 settle-refused k done refusal p = rw p refl
+
+-- The number of what was settled is that of the first no.
+pub settle-number : {A : Type 0} (number : A → ℕ) (n : ℕ) (done : A) (refusal : ℕ → A) → number done ≡ 0 → ((k : ℕ) → number (refusal k) ≡ k)
+    → number (settle n done refusal) ≡ n
+unfolding settle
+settle-number number zero done refusal p q = p
+settle-number number (suc n) done refusal p q = q (suc n)

@@ -8,11 +8,13 @@ pub mod Sync
 pub mod Switch
 pub mod Calls
 pub mod Questions
+pub mod Record
 pub mod OnePage
 pub mod Claim
 pub mod Drill
 pub mod Cases
 pub mod Further
 pub mod Orders
+pub mod RecordCases
 pub mod Worked
 pub mod DrillCases

@@ -9,6 +9,8 @@ ghost use Rattle.model.specs.Drill.{drillOutput};
 ghost use Rattle.model.specs.DrillCases.{drillCases, Limit};
 ghost use Rattle.model.specs.Further.{startCases, syncCases, orderCases, accessCases, switchCases, answerCases, vectorCases};
 ghost use Rattle.model.specs.Orders.{startOrder, callOrder};
+ghost use Rattle.model.specs.Record.{WrittenStarts, WrittenAgain};
+ghost use Rattle.model.specs.RecordCases.{recordCases};
 ghost use Rattle.model.specs.Worked.{workedInput, workedOutput};
 
 // Document 01, "The guard and its edges": the size of a page in bytes, and the most that V and F may be.
@@ -90,6 +92,21 @@ pub fn further_cases()
 // The order of each call's questions, by inputs that fail several of them.
 pub fn order_of_questions()
     ensures { λ _. ⌜ Hold (startOrder ++ callOrder) ⌝ }
+{}
+
+// Document 02, K2: the records that a call writes and the policies that it refuses.
+pub fn record_cases()
+    ensures { λ _. ⌜ Hold recordCases ⌝ }
+{}
+
+// Document 02, K2: "a written record starts a guard with those pages and frames".
+pub fn written_starts()
+    ensures { λ _. ⌜ WrittenStarts ⌝ }
+{}
+
+// Document 02, K2: "an accepted record read and written again is the same bytes".
+pub fn written_again()
+    ensures { λ _. ⌜ WrittenAgain ⌝ }
 {}
 
 // Document 01, the worked example: every byte of its output follows from the drill's definitions.

@@ -43,6 +43,20 @@ extern "C" {
         numbers: *mut u64,
         numbers_length: usize,
     ) -> u64;
+    fn guard_write_record(
+        pages: u64,
+        frames: u64,
+        count: u64,
+        entry_count: u64,
+        listed_pages: *const u16,
+        listed_pages_length: usize,
+        listed_frames: *const u16,
+        listed_frames_length: usize,
+        buffer: *mut u8,
+        buffer_length: usize,
+        numbers: *mut u64,
+        numbers_length: usize,
+    ) -> u64;
     fn guard_sync_page(
         state: *const u64,
         state_length: usize,
@@ -146,6 +160,38 @@ pub fn start(
             map.len(),
             exclusion.as_mut_ptr(),
             exclusion.len(),
+            numbers.as_mut_ptr(),
+            numbers.len(),
+        )
+    }
+}
+
+/// Writes a policy record into a buffer: its length, and 0.
+#[inline]
+#[allow(clippy::too_many_arguments)]
+pub fn write_record(
+    pages: u64,
+    frames: u64,
+    count: u64,
+    entry_count: u64,
+    listed_pages: &[u16],
+    listed_frames: &[u16],
+    buffer: &mut [u8],
+    numbers: &mut [u64],
+) -> u64 {
+    // SAFETY: each pair is a slice's own pointer and length; see the module's text.
+    unsafe {
+        guard_write_record(
+            pages,
+            frames,
+            count,
+            entry_count,
+            listed_pages.as_ptr(),
+            listed_pages.len(),
+            listed_frames.as_ptr(),
+            listed_frames.len(),
+            buffer.as_mut_ptr(),
+            buffer.len(),
             numbers.as_mut_ptr(),
             numbers.len(),
         )

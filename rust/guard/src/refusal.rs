@@ -32,7 +32,7 @@ refusals! {
     RecordTooShort = 1, "the policy record is shorter than 8 bytes";
     SizeOutOfRange = 2, "V or F is out of range";
     CountOutOfRange = 3, "n or e is out of range";
-    RecordLength = 4, "the length of the policy record does not fit n";
+    RecordLength = 4, "the length of the policy record or of an array does not fit n";
     ListedPage = 5, "a listed page is out of range or out of order";
     ListedFrame = 6, "a listed frame is out of range";
     StateOrTable = 7, "the state or the length of a table does not fit";
@@ -46,6 +46,7 @@ refusals! {
     CallCutShort = 14, "the last call is cut short";
     /// The drill program's: no call of the library gives it.
     UnknownKind = 15, "the kind of call is unknown";
+    BufferTooShort = 16, "the buffer is shorter than the record";
 }
 
 impl Refusal {
