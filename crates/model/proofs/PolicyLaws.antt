@@ -1,7 +1,7 @@
 -- Laws of the policy record: numbers in a row, the rising pages, the frames below a limit, the frame listed for a page, members of a list,
 -- and what an accepted start has passed.
 use Prim.Native.Nat.{ℕ, zero, suc, _+_, _-_, _*_, _≤_, _<_, min}
-use mathlib.Core.Bool.{Bool, true, false, cond, false≢true}
+use mathlib.Core.Bool.{Bool, true, false, not, cond, false≢true}
 use mathlib.Core.List.{List, [], _∷_, map}
 use mathlib.Core.Logic.{_⊎_, inl, inr}
 use mathlib.Core.Path.{_≡_, refl, sym, ap, _∙_}
@@ -9,7 +9,7 @@ use lib.Dec.{leb, ltb, eqb}
 use lib.ListN.{length, getD}
 use native.Mathlib.Nat.{le-of-suc-le-suc}
 use native.Mathlib.Omega.{arith}
-use borrow.Author.Tests.{ltb-true, lt-ltb, le-ltb, le-leb, lt-leb, eqb-true, eq-eqb}
+use borrow.Author.Tests.{ltb-true, lt-ltb, le-ltb, not-true, not-false, eqb-true, eq-eqb}
 use Rattle.model.specs.Basics.{both, either, within, member}
 use Rattle.model.specs.Edges.{pagesInRange, framesInRange}
 use Rattle.model.specs.Keeps.{vectorBytes}
@@ -42,22 +42,22 @@ getD-numbersAt bytes at (suc count) zero h = ap (numberAt bytes) (omega arith)
 getD-numbersAt bytes at (suc count) (suc i) h =
     getD-numbersAt bytes (at + 2) count i (le-of-suc-le-suc h) ∙ ap (numberAt bytes) (omega arith)
 
--- Question 5 at a page in front of others: it passes, or it refuses because the page is too low or too high.
+-- Question 5 at a page in front of others, by what the test of that page gave: it passes, and the page is below V, or it refuses.
 pub rising-none : (pages least : ℕ) {ps : List ℕ} → ps ≡ [] → rising pages least ps ≡ true
 unfolding rising
 rising-none pages least e = rw e refl
 
-pub rising-more : (pages least p : ℕ) (ps : List ℕ) → least ≤ p → p < pages → rising pages least (p ∷ ps) ≡ rising pages (p + 1) ps
-unfolding rising both
-rising-more pages least p ps h k = rw (le-leb least p h, lt-ltb p pages k) (ap (λ (n : ℕ). rising pages n ps) (omega arith))
+module _ (pages least p : ℕ) (ps : List ℕ) {r : Bool} (asks : r ≡ both (leb least p) (ltb p pages)) where
+  pub rising-more : not r ≡ false → rising pages least (p ∷ ps) ≡ rising pages (p + 1) ps
+  unfolding rising both
+  rising-more h = rw (sym asks ∙ not-false r h) (ap (λ (n : ℕ). rising pages n ps) (omega arith))
 
-pub rising-low : (pages least p : ℕ) (ps : List ℕ) → p < least → rising pages least (p ∷ ps) ≡ false
-unfolding rising both
-rising-low pages least p ps h = rw (lt-leb least p h) refl
+  pub rising-no : not r ≡ true → rising pages least (p ∷ ps) ≡ false
+  unfolding rising
+  rising-no h = both-no _ (sym asks ∙ not-true r h)
 
-pub rising-high : (pages least p : ℕ) (ps : List ℕ) → pages ≤ p → rising pages least (p ∷ ps) ≡ false
-unfolding rising
-rising-high pages least p ps h = both-no _ (both-no-after (leb least p) (le-ltb p pages h))
+  pub rising-room : not r ≡ false → p < pages
+  rising-room h = ltb-true p pages (both-second (leb least p) (ltb p pages) (sym asks ∙ not-false r h))
 
 -- Pages that rise below V are below V.
 pub rising-below : (pages least : ℕ) (ps : List ℕ) → rising pages least ps ≡ true → allBelow pages ps ≡ true
@@ -67,18 +67,19 @@ rising-below pages least (p ∷ ps) h =
     both-yes (both-second (leb least p) (ltb p pages) (both-first (both (leb least p) (ltb p pages)) (rising pages (suc p) ps) h))
     (rising-below pages (suc p) ps (both-second (both (leb least p) (ltb p pages)) (rising pages (suc p) ps) h))
 
--- Question 6 at a frame in front of others, and what a yes says of each.
+-- Question 6 at a frame in front of others, by what the test of that frame gave, and what a yes says of each.
 pub allBelow-none : (limit : ℕ) {fs : List ℕ} → fs ≡ [] → allBelow limit fs ≡ true
 unfolding allBelow
 allBelow-none limit e = rw e refl
 
-pub allBelow-more : (limit f : ℕ) (fs : List ℕ) → f < limit → allBelow limit (f ∷ fs) ≡ allBelow limit fs
-unfolding allBelow both
-allBelow-more limit f fs h = rw (lt-ltb f limit h) refl
+module _ (limit f : ℕ) (fs : List ℕ) {r : Bool} (asks : r ≡ ltb f limit) where
+  pub allBelow-more : not r ≡ false → allBelow limit (f ∷ fs) ≡ allBelow limit fs
+  unfolding allBelow both
+  allBelow-more h = rw (sym asks ∙ not-false r h) refl
 
-pub allBelow-no : (limit f : ℕ) (fs : List ℕ) → limit ≤ f → allBelow limit (f ∷ fs) ≡ false
-unfolding allBelow
-allBelow-no limit f fs h = both-no _ (le-ltb f limit h)
+  pub allBelow-no : not r ≡ true → allBelow limit (f ∷ fs) ≡ false
+  unfolding allBelow
+  allBelow-no h = both-no _ (sym asks ∙ not-true r h)
 
 pub allBelow-head : (limit f : ℕ) (fs : List ℕ) → allBelow limit (f ∷ fs) ≡ true → f < limit
 unfolding allBelow
@@ -92,7 +93,7 @@ pub allBelow-wider : (limit wider : ℕ) (fs : List ℕ) → limit ≤ wider →
 allBelow-wider limit wider [] l h = allBelow-none wider refl
 allBelow-wider limit wider (f ∷ fs) l h =
     let below : f < limit = allBelow-head limit f fs h in
-    allBelow-more wider f fs (omega arith) ∙ allBelow-wider limit wider fs l (allBelow-tail limit f fs h)
+    allBelow-more wider f fs (sym (lt-ltb f wider (omega arith))) refl ∙ allBelow-wider limit wider fs l (allBelow-tail limit f fs h)
 
 pub allBelow-getD : (limit : ℕ) (fs : List ℕ) (i : ℕ) → allBelow limit fs ≡ true → i < length fs → getD fs i 0 < limit
 allBelow-getD limit [] i h l = absurd (omega arith)

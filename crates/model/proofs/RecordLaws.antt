@@ -11,7 +11,7 @@ use native.Mathlib.Nat.{add-zero, zero-add, suc-add, le-of-suc-le-suc}
 use native.Mathlib.Numerals.{add-one}
 use native.Mathlib.Omega.{arith}
 use borrow.Author.Tests.{le-leb, leb-true, eq-eqb, eqb-true}
-use Rattle.model.specs.Basics.{both}
+use Rattle.model.specs.Basics.{both, either}
 use Rattle.model.specs.Keeps.{Tables}
 use Rattle.model.specs.Policy.{Givens, Policy, numberAt, numbersAt, policyOf, startGuard}
 use Rattle.model.specs.Questions.{firstNo, policyQuestions, givensInRange, recordQuestions, lengthsOf, lengthsFit, startQuestions}
@@ -21,11 +21,16 @@ use Rattle.model.proofs.QuestionLaws.{both-yes, both-first, both-second
 use Rattle.model.proofs.CallLaws.{none-left}
 use Rattle.model.proofs.PolicyLaws.{length-numbersAt, getD-numbersAt, exact-yes, policy-asked, record-length as read-length}
 
--- The bytes of numbers in a row: how many, and each number read back.
+-- The bytes of numbers in a row: how many, those of two rows, and each number read back.
 pub length-numbersBytes : (numbers : List ℕ) → length (numbersBytes numbers) ≡ 2 * length numbers
 unfolding numbersBytes numberBytes
 length-numbersBytes [] = refl
 length-numbersBytes (x ∷ numbers) = omega (arith, length-numbersBytes numbers)
+
+pub numbersBytes-append : (xs ys : List ℕ) → numbersBytes (xs ++ ys) ≡ numbersBytes xs ++ numbersBytes ys
+unfolding numbersBytes numberBytes
+numbersBytes-append [] ys = refl
+numbersBytes-append (x ∷ xs) ys = rw (numbersBytes-append xs ys) refl
 
 number-later : (a b : ℕ) (bytes : List ℕ) (at : ℕ) → numberAt (a ∷ b ∷ bytes) (suc (suc at)) ≡ numberAt bytes at
 unfolding numberAt
@@ -78,9 +83,14 @@ module _ (policy : Policy) (pages-fit : length (policy .listedPages) ≡ policy 
   pub record-back : policyOf (recordOf policy) ≡ policy
   unfolding policyOf numbers
   record-back =
-      rw (at 0 0 refl (omega arith), at 1 2 refl (omega arith), at 2 4 refl (omega arith), at 3 6 refl (omega arith),
-      numbers-back (recordOf policy) (policy .listedPages) 8 (policy .count) pages-fit page-back,
-      numbers-back (recordOf policy) (policy .listedFrames) (8 + 2 * policy .count) (policy .count) frames-fit frame-back)
+      rw (
+        at 0 0 refl (omega arith),
+        at 1 2 refl (omega arith),
+        at 2 4 refl (omega arith),
+        at 3 6 refl (omega arith),
+        numbers-back (recordOf policy) (policy .listedPages) 8 (policy .count) pages-fit page-back,
+        numbers-back (recordOf policy) (policy .listedFrames) (8 + 2 * policy .count) (policy .count) frames-fit frame-back,
+      )
       refl
 
 -- Numbers in a row, as two rows, and their bytes: those that they were read from.
@@ -143,6 +153,10 @@ module _ (numbersFit : Bool) (policy : Policy) (room : ℕ) (h : firstNo (writeR
   unfolding exact
   frames-exact = eqb-true _ _ (both-second (eqb (length (policy .listedPages)) (policy .count)) _ (exact-yes true true exact policy front))
 
+  pub room-there : 8 + 4 * policy .count ≤ room
+  unfolding writeRecordQuestions policyQuestions asked numbered both either
+  room-there = leb-true (8 + 4 * policy .count) room (both-first _ true (all-yes 16 (writeRecordQuestions numbersFit policy room) refl h))
+
 -- Questions 2, 3, 5 and 6 are the start's: a policy that passes them passes those of its record, where the bytes and what else is given are in order.
 record-asked : (given : Givens) (bytes : List ℕ) (policy : Policy) → firstNo (policyQuestions true true true policy) ≡ 0
     → length bytes ≡ 8 + 4 * policy .count → givensInRange given ≡ true → firstNo (recordQuestions given bytes policy) ≡ 0
@@ -165,7 +179,7 @@ write-number : (numbersFit : Bool) (policy : Policy) (buffer : List ℕ)
 unfolding writeRecordOf
 write-number numbersFit policy buffer = settle-number (λ (w : Written). w .reply .number) _ _ _ refl (λ k. refl)
 
-written-is : (numbersFit : Bool) (policy : Policy) (buffer : List ℕ) → firstNo (writeRecordQuestions numbersFit policy (length buffer)) ≡ 0
+pub written-is : (numbersFit : Bool) (policy : Policy) (buffer : List ℕ) → firstNo (writeRecordQuestions numbersFit policy (length buffer)) ≡ 0
     → writeRecordOf numbersFit policy buffer
     ≡ written (accepted (length (recordOf policy)) 0) (recordOf policy ++ drop (length (recordOf policy)) buffer)
 unfolding writeRecordOf

@@ -4,17 +4,17 @@ use Prim.Native.Nat.{ℕ, _+_, _-_, _*_, _≤_, _<_, min}
 use mathlib.Core.Bool.{Bool, true, false, not, cond}
 use mathlib.Core.List.{List, [], _∷_}
 use mathlib.Core.Path.{_≡_, refl, sym, _∙_}
-use lib.Dec.{leb, eqb}
+use lib.Dec.{leb, ltb, eqb}
 use lib.ListN.{length, getD, List·getD-eq-default}
 use native.Mathlib.Omega.{arith}
 use borrow.Author.Tests.{le-leb, lt-leb, eq-eqb, ne-eqb}
 use Rattle.model.specs.Basics.{both, within}
 use Rattle.model.specs.Edges.{pagesInRange, framesInRange}
-use Rattle.model.specs.Policy.{Givens, nothingGiven, numberAt, numbersAt, policyOf}
+use Rattle.model.specs.Policy.{Policy, Givens, nothingGiven, numberAt, numbersAt, policyOf}
 use Rattle.model.specs.Questions.{Question, question, firstNo, sizesInRange, countsInRange, rising, allBelow, policyQuestions, givensInRange, recordQuestions, Lengths, lengthsFit, startQuestions}
 use Rattle.model.proofs.QuestionLaws.{both-true, firstNo-yes, firstNo-no, firstNo-front, firstNo-back, numbered}
 use Rattle.model.proofs.CallLaws.{passed, stopped, none-left}
-use Rattle.model.proofs.PolicyLaws.{numbersAt-none, numbersAt-more, rising-none, rising-more, rising-low, rising-high, allBelow-none, allBelow-more, allBelow-no}
+use Rattle.model.proofs.PolicyLaws.{numbersAt-none, numbersAt-more, rising-none, rising-more, rising-no, allBelow-none, allBelow-more, allBelow-no}
 
 -- A number past the end, one whose second byte is, and one inside.
 pub number-none : (bytes : List ℕ) (at : ℕ) → length bytes ≤ at → 0 ≡ numberAt bytes at
@@ -39,57 +39,100 @@ module _ (bytes : List ℕ) (pages least at left : ℕ) (whole : Bool) (e : risi
   pub rising-ends : left ≤ 0 → true ≡ whole
   rising-ends h = sym (rising-none pages least (numbersAt-none bytes at (omega arith))) ∙ e
 
-  module _ (page : ℕ) (read : page ≡ numberAt bytes at) (more : 0 < left) where
+  module _ (page : ℕ) (read : page ≡ numberAt bytes at) (more : 0 < left) (r : Bool) (asks : r ≡ both (leb least page) (ltb page pages)) where
     front : rising pages least (page ∷ numbersAt bytes (at + 2) (left - 1)) ≡ whole
     front = rw read (rw (numbersAt-more bytes at left more) at e)
 
-    pub rising-refuses-low : page < least → false ≡ whole
-    rising-refuses-low h = sym (rising-low pages least page _ h) ∙ front
+    pub rising-refuses : not r ≡ true → false ≡ whole
+    rising-refuses h = sym (rising-no pages least page _ asks h) ∙ front
 
-    pub rising-refuses-high : pages ≤ page → false ≡ whole
-    rising-refuses-high h = sym (rising-high pages least page _ h) ∙ front
-
-    pub rising-goes-on : least ≤ page → page < pages → rising pages (page + 1) (numbersAt bytes (at + 2) (left - 1)) ≡ whole
-    rising-goes-on h k = sym (rising-more pages least page _ h k) ∙ front
+    pub rising-goes-on : not r ≡ false → rising pages (page + 1) (numbersAt bytes (at + 2) (left - 1)) ≡ whole
+    rising-goes-on h = sym (rising-more pages least page _ asks h) ∙ front
 
 -- Question 6, at the frame read where `left` frames are left.
 module _ (bytes : List ℕ) (limit at left : ℕ) (whole : Bool) (e : allBelow limit (numbersAt bytes at left) ≡ whole) where
   pub below-ends : left ≤ 0 → true ≡ whole
   below-ends h = sym (allBelow-none limit (numbersAt-none bytes at (omega arith))) ∙ e
 
-  module _ (frame : ℕ) (read : frame ≡ numberAt bytes at) (more : 0 < left) where
+  module _ (frame : ℕ) (read : frame ≡ numberAt bytes at) (more : 0 < left) (r : Bool) (asks : r ≡ ltb frame limit) where
     listed : allBelow limit (frame ∷ numbersAt bytes (at + 2) (left - 1)) ≡ whole
     listed = rw read (rw (numbersAt-more bytes at left more) at e)
 
-    pub below-refuses : limit ≤ frame → false ≡ whole
-    below-refuses h = sym (allBelow-no limit frame _ h) ∙ listed
+    pub below-refuses : not r ≡ true → false ≡ whole
+    below-refuses h = sym (allBelow-no limit frame _ asks h) ∙ listed
 
-    pub below-goes-on : frame < limit → allBelow limit (numbersAt bytes (at + 2) (left - 1)) ≡ whole
-    below-goes-on h = sym (allBelow-more limit frame _ h) ∙ listed
+    pub below-goes-on : not r ≡ false → allBelow limit (numbersAt bytes (at + 2) (left - 1)) ≡ whole
+    below-goes-on h = sym (allBelow-more limit frame _ asks h) ∙ listed
 
 -- Of nothing that is given, question 3 asks nothing.
 pub nothing-asked : givensInRange nothingGiven ≡ true
 unfolding givensInRange
 nothing-asked = refl
 
--- Questions 1 to 6 in order, by the tests that the code makes of the numbers that it read. What else is given is in its range.
+-- Questions 1 to 6 in order, of a policy wherever it comes from, by the tests that the code makes.
+module _ (long more exact : Bool) (policy : Policy) where
+  pub asked-1 : long ≡ false → 1 ≡ firstNo (policyQuestions long more exact policy)
+  unfolding policyQuestions
+  asked-1 h = sym (firstNo-no 1 _ h)
+
+  module _ (h1 : long ≡ true) (sizes : Bool) (e2 : sizes ≡ sizesInRange policy) where
+    past1 : (k : ℕ) (qs : List Question) → k ≡ firstNo qs → k ≡ firstNo (question 1 long ∷ qs)
+    past1 k qs rest = rest ∙ sym (firstNo-yes 1 qs h1)
+
+    pub asked-2 : not sizes ≡ true → 2 ≡ firstNo (policyQuestions long more exact policy)
+    unfolding policyQuestions
+    asked-2 h = past1 2 _ (stopped 2 sizes _ _ e2 h)
+
+    module _ (h2 : not sizes ≡ false) (counts : Bool) (e3 : counts ≡ both (countsInRange policy) more) where
+      pub asked-3 : not counts ≡ true → 3 ≡ firstNo (policyQuestions long more exact policy)
+      unfolding policyQuestions
+      asked-3 h = past1 3 _ (passed 2 3 sizes _ _ e2 h2 (stopped 3 counts _ _ e3 h))
+
+      module _ (h3 : not counts ≡ false) where
+        past3 : (k : ℕ) (qs : List Question) → k ≡ firstNo qs
+            → k ≡ firstNo (question 1 long ∷ question 2 (sizesInRange policy) ∷ question 3 (both (countsInRange policy) more) ∷ qs)
+        past3 k qs rest = past1 k _ (passed 2 k sizes _ _ e2 h2 (passed 3 k counts _ _ e3 h3 rest))
+
+        pub asked-4 : exact ≡ false → 4 ≡ firstNo (policyQuestions long more exact policy)
+        unfolding policyQuestions
+        asked-4 h = past3 4 _ (sym (firstNo-no 4 _ h))
+
+        module _ (h4 : exact ≡ true) (rises : Bool) (e5 : rises ≡ rising (policy .pages) 0 (policy .listedPages)) where
+          past4 : (k : ℕ) (qs : List Question) → k ≡ firstNo qs
+              → k ≡ firstNo (question 1 long ∷ question 2 (sizesInRange policy) ∷ question 3 (both (countsInRange policy) more) ∷ question 4 exact ∷ qs)
+          past4 k qs rest = past3 k _ (rest ∙ sym (firstNo-yes 4 qs h4))
+
+          pub asked-5 : not rises ≡ true → 5 ≡ firstNo (policyQuestions long more exact policy)
+          unfolding policyQuestions
+          asked-5 h = past4 5 _ (stopped 5 rises _ _ e5 h)
+
+          module _ (h5 : not rises ≡ false) (below : Bool) (e6 : below ≡ allBelow (policy .frames) (policy .listedFrames)) where
+            pub asked-6 : not below ≡ true → 6 ≡ firstNo (policyQuestions long more exact policy)
+            unfolding policyQuestions
+            asked-6 h = past4 6 _ (passed 5 6 rises _ _ e5 h5 (stopped 6 below _ _ e6 h))
+
+            pub asked-none : not below ≡ false → 0 ≡ firstNo (policyQuestions long more exact policy)
+            unfolding policyQuestions
+            asked-none h = past4 0 _ (passed 5 0 rises _ _ e5 h5 (passed 6 0 below _ _ e6 h none-left))
+
+-- The same of a record, by the numbers that the code read. What else is given is in its range.
 module _ (given : Givens) (in-range : givensInRange given ≡ true) (bytes : List ℕ) where
   pub record-1 : length bytes < 8 → 1 ≡ firstNo (recordQuestions given bytes (policyOf bytes))
-  unfolding recordQuestions policyQuestions
-  record-1 h = sym (firstNo-no 1 _ (lt-leb 8 (length bytes) h))
+  unfolding recordQuestions
+  record-1 h = asked-1 _ _ _ (policyOf bytes) (lt-leb 8 (length bytes) h)
 
   module _ (h1 : 8 ≤ length bytes) (pages frames : ℕ) (eV : pages ≡ numberAt bytes 0) (eF : frames ≡ numberAt bytes 2) (sizes : Bool)
       (e2 : sizes ≡ both (pagesInRange pages) (framesInRange frames)) where
-    past1 : (k : ℕ) (qs : List Question) → k ≡ firstNo qs → k ≡ firstNo (question 1 (leb 8 (length bytes)) ∷ qs)
-    past1 k qs rest = rest ∙ sym (firstNo-yes 1 qs (le-leb 8 (length bytes) h1))
+    long : leb 8 (length bytes) ≡ true
+    long = le-leb 8 (length bytes) h1
 
     is2 : sizes ≡ sizesInRange (policyOf bytes)
     unfolding sizesInRange policyOf
     is2 = rw (← eV, ← eF) e2
 
     pub record-2 : not sizes ≡ true → 2 ≡ firstNo (recordQuestions given bytes (policyOf bytes))
-    unfolding recordQuestions policyQuestions
-    record-2 h = past1 2 _ (stopped 2 sizes _ _ is2 h)
+    unfolding recordQuestions
+    record-2 h = asked-2 _ _ _ (policyOf bytes) long sizes is2 h
 
     module _ (h2 : not sizes ≡ false) (count entries : ℕ) (eN : count ≡ numberAt bytes 4) (eE : entries ≡ numberAt bytes 6) (counts : Bool)
         (e3 : counts ≡ both (within 1 pages count) (within 1 (min count 16) entries)) where
@@ -98,31 +141,26 @@ module _ (given : Givens) (in-range : givensInRange given ≡ true) (bytes : Lis
       is3 = rw (← eV, ← eN, ← eE, in-range) (e3 ∙ sym (both-true _))
 
       pub record-3 : not counts ≡ true → 3 ≡ firstNo (recordQuestions given bytes (policyOf bytes))
-      unfolding recordQuestions policyQuestions
-      record-3 h = past1 3 _ (passed 2 3 sizes _ _ is2 h2 (stopped 3 counts _ _ is3 h))
+      unfolding recordQuestions
+      record-3 h = asked-3 _ _ _ (policyOf bytes) long sizes is2 h2 counts is3 h
 
       module _ (h3 : not counts ≡ false) where
-        past3 : (k : ℕ) (qs : List Question) → k ≡ firstNo qs
-            → k ≡ firstNo (question 1 (leb 8 (length bytes)) ∷ question 2 (sizesInRange (policyOf bytes)) ∷ question 3 (both (countsInRange (policyOf bytes)) (givensInRange given)) ∷ qs)
-        past3 k qs rest = past1 k _ (passed 2 k sizes _ _ is2 h2 (passed 3 k counts _ _ is3 h3 rest))
-
         pub record-4 : (length bytes ≡ 8 + 4 * count → ⊥) → 4 ≡ firstNo (recordQuestions given bytes (policyOf bytes))
-        unfolding recordQuestions policyQuestions policyOf
-        record-4 h = past3 4 _ (sym (firstNo-no 4 _ (rw (← eN) (ne-eqb (length bytes) (8 + 4 * count) h))))
+        unfolding recordQuestions policyOf
+        record-4 h = asked-4 _ _ _ (policyOf bytes) long sizes is2 h2 counts is3 h3 (rw (← eN) (ne-eqb (length bytes) (8 + 4 * count) h))
 
         module _ (h4 : length bytes ≡ 8 + 4 * count) (rises : Bool) (e5 : rises ≡ rising pages 0 (numbersAt bytes 8 count)) where
-          past4 : (k : ℕ) (qs : List Question) → k ≡ firstNo qs → k ≡ firstNo (question 1 (leb 8 (length bytes)) ∷ question 2 (sizesInRange (policyOf bytes))
-              ∷ question 3 (both (countsInRange (policyOf bytes)) (givensInRange given)) ∷ question 4 (eqb (length bytes) (8 + 4 * policyOf bytes .count)) ∷ qs)
+          exact : eqb (length bytes) (8 + 4 * policyOf bytes .count) ≡ true
           unfolding policyOf
-          past4 k qs rest = past3 k _ (rest ∙ sym (firstNo-yes 4 qs (rw (← eN) (eq-eqb (length bytes) (8 + 4 * count) h4))))
+          exact = rw (← eN) (eq-eqb (length bytes) (8 + 4 * count) h4)
 
           is5 : rises ≡ rising (policyOf bytes .pages) 0 (policyOf bytes .listedPages)
           unfolding policyOf
           is5 = rw (← eV, ← eN) e5
 
           pub record-5 : not rises ≡ true → 5 ≡ firstNo (recordQuestions given bytes (policyOf bytes))
-          unfolding recordQuestions policyQuestions
-          record-5 h = past4 5 _ (stopped 5 rises _ _ is5 h)
+          unfolding recordQuestions
+          record-5 h = asked-5 _ _ _ (policyOf bytes) long sizes is2 h2 counts is3 h3 exact rises is5 h
 
           module _ (h5 : not rises ≡ false) (below : Bool) (e6 : below ≡ allBelow frames (numbersAt bytes (8 + 2 * count) count)) where
             is6 : below ≡ allBelow (policyOf bytes .frames) (policyOf bytes .listedFrames)
@@ -130,12 +168,12 @@ module _ (given : Givens) (in-range : givensInRange given ≡ true) (bytes : Lis
             is6 = rw (← eF, ← eN) e6
 
             pub record-6 : not below ≡ true → 6 ≡ firstNo (recordQuestions given bytes (policyOf bytes))
-            unfolding recordQuestions policyQuestions
-            record-6 h = past4 6 _ (passed 5 6 rises _ _ is5 h5 (stopped 6 below _ _ is6 h))
+            unfolding recordQuestions
+            record-6 h = asked-6 _ _ _ (policyOf bytes) long sizes is2 h2 counts is3 h3 exact rises is5 h5 below is6 h
 
             pub record-yes : not below ≡ false → 0 ≡ firstNo (recordQuestions given bytes (policyOf bytes))
-            unfolding recordQuestions policyQuestions
-            record-yes h = past4 0 _ (passed 5 0 rises _ _ is5 h5 (passed 6 0 below _ _ is6 h none-left))
+            unfolding recordQuestions
+            record-yes h = asked-none _ _ _ (policyOf bytes) long sizes is2 h2 counts is3 h3 exact rises is5 h5 below is6 h
 
 -- What the record's answer is to the start, whatever the lengths of the tables are: its number where it has one, and else question 7 decides.
 module _ (given : Givens) (bytes : List ℕ) (n : ℕ) (l : Lengths) (e : n ≡ firstNo (recordQuestions given bytes (policyOf bytes))) where

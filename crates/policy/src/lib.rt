@@ -4,6 +4,7 @@
 
 ghost use mathlib.Core.Path.{_≡_};
 ghost use Prim.Native.Nat.{_+_, _*_, _<_, _≤_, _^_, min};
+ghost use lib.Dec.{leb, ltb};
 ghost use lib.ListN.{length};
 ghost use Rattle.model.specs.Basics.{both, within};
 ghost use Rattle.model.specs.Edges.{pagesInRange, framesInRange};
@@ -80,8 +81,10 @@ pub fn padded_number(bytes: &[u8], at: usize) -> u16
     number_from(bytes, at)
 }
 
+// Questions 2 and 3, of sizes wherever they come from: 64-bit numbers, so that none is cut.
+
 // Question 2.
-fn sizes_in_range(pages: u64, frames: u64) -> bool
+pub fn sizes_in_range(pages: u64, frames: u64) -> bool
     ensures { λ r. ⌜ r ≡ both (pagesInRange pages) (framesInRange frames) ⌝ }
 {
     questions::both(
@@ -97,7 +100,7 @@ fn smaller(a: u64, b: u64) -> u64
 }
 
 // Question 3.
-fn counts_in_range(pages: u64, count: u64, entry_count: u64) -> bool
+pub fn counts_in_range(pages: u64, count: u64, entry_count: u64) -> bool
     ensures { λ r. ⌜ r ≡ both (within 1 pages count) (within 1 (min count 16) «entry_count») ⌝ }
 {
     let most = smaller(count, model::ENTRY_PAGES as u64);
@@ -105,6 +108,20 @@ fn counts_in_range(pages: u64, count: u64, entry_count: u64) -> bool
         questions::in_range(1, pages, count),
         questions::in_range(1, most, entry_count),
     )
+}
+
+// Question 5 of one page: it is at least `least`, one more than the page before, and below V.
+pub fn page_rises(pages: u16, least: u16, page: u16) -> bool
+    ensures { λ r. ⌜ r ≡ both (leb least page) (ltb page pages) ⌝ }
+{
+    questions::both(least <= page, page < pages)
+}
+
+// Question 6 of one frame.
+pub fn frame_below(frames: u16, frame: u16) -> bool
+    ensures { λ r. ⌜ r ≡ ltb frame frames ⌝ }
+{
+    frame < frames
 }
 
 // Question 5, of the count pages from byte 8 on. Question 4 has shown what is required.
@@ -117,10 +134,7 @@ fn pages_rising(bytes: &[u8], pages: u16, count: u16) -> bool
     let mut left = count;
     while 0 < left {
         let page = number_from(bytes, at);
-        if page < least {
-            return false;
-        }
-        if pages <= page {
+        if !page_rises(pages, least, page) {
             return false;
         }
         least = page + 1;
@@ -138,7 +152,7 @@ fn frames_below(bytes: &[u8], frames: u16, count: u16) -> bool
     let mut at = 8 + 2 * count as usize;
     let mut left = count;
     while 0 < left {
-        if frames <= number_from(bytes, at) {
+        if !frame_below(frames, number_from(bytes, at)) {
             return false;
         }
         at += 2;

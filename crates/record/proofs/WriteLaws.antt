@@ -1,0 +1,164 @@
+-- Laws of a record as it is written: the first no of all questions, a number, numbers in a row, the sizes, and the whole.
+use Prim.Native.Nat.{ℕ, suc, _+_, _*_, _/_, _%_, _≤_, _<_}
+use mathlib.Core.Bool.{Bool, true, false, not}
+use mathlib.Core.List.{List, [], _∷_, _++_}
+use mathlib.Core.Path.{_≡_, refl, sym, ap, _∙_}
+use lib.Dec.{leb, eqb}
+use lib.ListN.{length, getD, set, drop, drop-of-length-le}
+use lib.Seq.{drop-cons, sets, length-sets, sets-eq}
+use mir.Syntax.{w16, w64}
+use mir.Val.{Fits}
+use native.Mathlib.Numerals.{add-one}
+use native.Mathlib.Omega.{arith}
+use borrow.Author.Tests.{not-true, not-false, le-leb, lt-leb}
+use Rattle.model.specs.declared.Answer.the-variants.{Done, Refused}
+use Rattle.model.specs.Basics.{both}
+use Rattle.model.specs.Policy.{Policy}
+use Rattle.model.specs.Questions.{Question, question, firstNo, policyQuestions}
+use Rattle.model.specs.Calls.{replyOf}
+use Rattle.model.specs.Record.{policyBy, numberBytes, numbersBytes, recordOf, writeRecordQuestions, written, writeRecordOf}
+use Rattle.model.proofs.QuestionLaws.{firstNo-yes, firstNo-no, firstNo-front, firstNo-back, numbered}
+use Rattle.model.proofs.CallLaws.{passed, stopped, none-left, settle-refused-by}
+use Rattle.model.proofs.PolicyLaws.{Passed, policy-passed}
+use Rattle.model.proofs.RecordLaws.{length-numbersBytes, numbersBytes-append, record-length, write-passed, pages-exact, frames-exact, room-there, written-is}
+
+-- The first no: that of questions 2 to 6, or 7, or 16.
+module _ (policy : Policy) where
+  abbrev exact : Bool
+  exact = both (eqb (length (policy .listedPages)) (policy .count)) (eqb (length (policy .listedFrames)) (policy .count))
+
+  module _ (number : ℕ) (asks : number ≡ firstNo (policyQuestions true true exact policy)) where
+    pub write-refused : (numbersFit : Bool) (room : ℕ) → (number ≡ 0 → ⊥) → number ≡ firstNo (writeRecordQuestions numbersFit policy room)
+    unfolding writeRecordQuestions
+    write-refused numbersFit room named = asks ∙ sym (firstNo-front (policyQuestions true true exact policy) _ (λ z. named (asks ∙ z)))
+
+    module _ (six : number ≡ 0) where
+      module _ (numbersFit : Bool) (room : ℕ) where
+        past6 : (k : ℕ) → k ≡ firstNo (question 7 numbersFit ∷ question 16 (leb (8 + 4 * policy .count) room) ∷ [])
+            → k ≡ firstNo (writeRecordQuestions numbersFit policy room)
+        unfolding writeRecordQuestions policyQuestions numbered both
+        past6 k rest = rest ∙ sym (firstNo-back (policyQuestions true true exact policy) _ refl (sym asks ∙ six))
+
+        pub write-7 : not numbersFit ≡ true → 7 ≡ firstNo (writeRecordQuestions numbersFit policy room)
+        write-7 h = past6 7 (stopped 7 numbersFit _ _ refl h)
+
+        pub write-16 : not numbersFit ≡ false → room < 8 + 4 * policy .count → 16 ≡ firstNo (writeRecordQuestions numbersFit policy room)
+        write-16 h short = past6 16 (passed 7 16 numbersFit _ _ refl h (sym (firstNo-no 16 _ (lt-leb (8 + 4 * policy .count) room short))))
+
+        pub write-yes : not numbersFit ≡ false → 8 + 4 * policy .count ≤ room → 0 ≡ firstNo (writeRecordQuestions numbersFit policy room)
+        write-yes h long =
+            past6 0 (passed 7 0 numbersFit _ _ refl h (none-left ∙ sym (firstNo-yes 16 _ (le-leb (8 + 4 * policy .count) room long))))
+
+-- Past question 6 the record's length fits.
+module _ (pages frames count entries : ℕ) (ps fs : List ℕ) (number : ℕ)
+    (asks : number ≡ firstNo (policyQuestions true true (both (eqb (length ps) count) (eqb (length fs) count)) (policyBy pages frames count entries ps fs)))
+    (six : number ≡ 0) where
+  few : count ≤ 2048
+  few =
+      let p : Passed (policyBy pages frames count entries ps fs) = policy-passed true true _ (policyBy pages frames count entries ps fs) (sym asks ∙ six) in
+      omega arith
+
+  pub arrays-fit : Fits w64 (4 * count)
+  arrays-fit = record { fits = omega (arith, few) }
+
+  pub length-fits : Fits w64 (8 + 4 * count)
+  length-fits = record { fits = omega (arith, few) }
+
+-- Two stores put a number.
+pub number-put : (buffer : List ℕ) (at number : ℕ) → set (set buffer at (number % 256)) (at + 1) (number / 256) ≡ sets buffer at (numberBytes number)
+unfolding numberBytes
+number-put buffer at number = rw add-one
+
+-- What is put leaves the buffer's length.
+pub put-length : (buffer next : List ℕ) (at : ℕ) (bytes : List ℕ) → next ≡ sets buffer at bytes → length next ≡ length buffer
+put-length buffer next at bytes e = ap length e ∙ length-sets buffer at bytes
+
+-- Numbers in a row, at the number at place i. `whole` is the buffer with all of them.
+module _ (numbers buffer : List ℕ) (place i : ℕ) (whole : List ℕ) (e : sets buffer place (numbersBytes (drop i numbers)) ≡ whole) where
+  pub numbers-end : length numbers ≤ i → buffer ≡ whole
+  unfolding numbersBytes
+  numbers-end h = rw (drop-of-length-le numbers h) at e
+
+  pub numbers-more : (next : List ℕ) → i < length numbers → next ≡ sets buffer place (numberBytes (getD numbers i 0))
+      → sets next (place + 2) (numbersBytes (drop (i + 1) numbers)) ≡ whole
+  unfolding numbersBytes numberBytes
+  numbers-more next more put =
+      let after : place + 2 ≡ suc (suc place) = omega arith in
+      rw (put, after, add-one) (rw (drop-cons numbers i 0 more) at e)
+
+-- The four sizes, one after the other.
+pub sizes-put : (buffer b1 b2 b3 b4 : List ℕ) (pages frames count entries : ℕ) → b1 ≡ sets buffer 0 (numberBytes pages) → b2 ≡ sets b1 2 (numberBytes frames)
+    → b3 ≡ sets b2 4 (numberBytes count) → b4 ≡ sets b3 6 (numberBytes entries) → b4 ≡ sets buffer 0 (numbersBytes (pages ∷ frames ∷ count ∷ entries ∷ []))
+unfolding numberBytes numbersBytes
+sizes-put buffer b1 b2 b3 b4 pages frames count entries e1 e2 e3 e4 = rw (e4, e3, e2, e1) refl
+
+-- Bytes put behind others.
+sets-append : (l : List ℕ) (i : ℕ) (xs ys : List ℕ) (at : ℕ) → at ≡ i + length xs → sets (sets l i xs) at ys ≡ sets l i (xs ++ ys)
+sets-append l i [] ys at e = ap (λ (k : ℕ). sets l k ys) (omega arith)
+sets-append l i (x ∷ xs) ys at e = sets-append (set l i x) (suc i) xs ys at (omega arith)
+
+-- Numbers put behind others, and so the sizes, the pages and the frames: the record.
+row-put : (buffer b1 b2 xs ys : List ℕ) (at : ℕ) → at ≡ 2 * length xs → b1 ≡ sets buffer 0 (numbersBytes xs) → b2 ≡ sets b1 at (numbersBytes ys)
+    → b2 ≡ sets buffer 0 (numbersBytes (xs ++ ys))
+row-put buffer b1 b2 xs ys at e e1 e2 =
+    rw (e2, e1)
+    (sets-append buffer 0 (numbersBytes xs) (numbersBytes ys) at (omega (arith, length-numbersBytes xs)) ∙ ap (sets buffer 0) (sym (numbersBytes-append xs ys)))
+
+pub record-put : (buffer b1 b2 b3 : List ℕ) (pages frames count entries : ℕ) (ps fs : List ℕ)
+    → b1 ≡ sets buffer 0 (numbersBytes (pages ∷ frames ∷ count ∷ entries ∷ [])) → b2 ≡ sets b1 8 (numbersBytes ps)
+    → b3 ≡ sets b2 (8 + 2 * length ps) (numbersBytes fs) → b3 ≡ sets buffer 0 (recordOf (policyBy pages frames count entries ps fs))
+unfolding recordOf
+record-put buffer b1 b2 b3 pages frames count entries ps fs e1 e2 e3 =
+    row-put buffer b2 b3 (pages ∷ frames ∷ count ∷ entries ∷ ps) fs (8 + 2 * length ps) (omega arith)
+    (row-put buffer b1 b2 (pages ∷ frames ∷ count ∷ entries ∷ []) ps 8 refl e1 e2) e3
+
+-- The call, by the first no of its questions: refused, or accepted. An accepted one has shown what writing requires.
+module _ (numbersFit : Bool) (pages frames count entries : ℕ) (ps fs buffer : List ℕ) (number : ℕ)
+    (asks : number ≡ firstNo (writeRecordQuestions numbersFit (policyBy pages frames count entries ps fs) (length buffer))) where
+  abbrev policy : Policy
+  policy = policyBy pages frames count entries ps fs
+
+  pub write-refuses : (number ≡ 0 → ⊥) → written (replyOf (Refused number)) buffer ≡ writeRecordOf numbersFit policy buffer
+  unfolding writeRecordOf replyOf
+  write-refuses named = sym (settle-refused-by number _ _ named (sym asks))
+
+  module _ (none : number ≡ 0) where
+    yes : firstNo (writeRecordQuestions numbersFit policy (length buffer)) ≡ 0
+    yes = sym asks ∙ none
+
+    passes : Passed policy
+    passes = policy-passed true true true policy (write-passed numbersFit policy (length buffer) yes)
+
+    pub pages-cast : Fits w16 pages
+    pages-cast = let p = passes in record { fits = omega arith }
+
+    pub frames-cast : Fits w16 frames
+    frames-cast = let p = passes in record { fits = omega arith }
+
+    pub count-cast : Fits w16 count
+    count-cast = let p = passes in record { fits = omega arith }
+
+    pub entries-cast : Fits w16 entries
+    entries-cast = let p = passes in record { fits = omega arith }
+
+    pub count-wide : Fits w64 (4 * count)
+    count-wide = let p = passes in record { fits = omega arith }
+
+    pub length-wide : Fits w64 (8 + 4 * count)
+    length-wide = let p = passes in record { fits = omega arith }
+
+    pub record-room : 8 + 2 * length ps + 2 * length fs ≤ length buffer
+    record-room =
+        omega
+        (arith, pages-exact numbersFit policy (length buffer) yes, frames-exact numbersFit policy (length buffer) yes, room-there numbersFit policy (length buffer) yes)
+
+    pub write-accepts : (after : List ℕ) → after ≡ sets buffer 0 (recordOf policy)
+        → written (replyOf (Done (8 + 4 * count) 0)) after ≡ writeRecordOf numbersFit policy buffer
+    unfolding replyOf
+    write-accepts after put =
+        let long : length (recordOf policy) ≡ 8 + 4 * count =
+            record-length policy (pages-exact numbersFit policy (length buffer) yes) (frames-exact numbersFit policy (length buffer) yes) in
+        let front : sets buffer 0 (recordOf policy) ≡ recordOf policy ++ drop (0 + length (recordOf policy)) buffer =
+            sets-eq (recordOf policy) buffer 0 (omega (arith, room-there numbersFit policy (length buffer) yes)) in
+        let past : 0 + length (recordOf policy) ≡ length (recordOf policy) = omega arith in
+        rw (put, front, past, ← long) (sym (written-is numbersFit policy buffer yes))
