@@ -1,3 +1,4 @@
 -- Laws that the proofs of this crate cite.
 mod BoundaryLaws
 mod StartLaws
+mod RecordLaws

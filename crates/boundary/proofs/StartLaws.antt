@@ -11,23 +11,17 @@ use Rattle.model.specs.Keeps.{Tables}
 use Rattle.model.specs.Policy.{Givens, policyOf}
 use Rattle.model.specs.Questions.{firstNo, recordQuestions, Lengths, lengthsOf, lengthsFit, startQuestions}
 use Rattle.model.specs.Calls.{replyOf, settle, Outcome, outcomeBy, startOf}
-use Rattle.model.proofs.QuestionLaws.{settle-accepted}
+use Rattle.model.proofs.QuestionLaws.{settle-accepted, settle-number}
 use Rattle.policy.proofs.RecordLaws.{start-refused, start-asked}
 use Rattle.words.specs.Words.{answerNumbers, runsFit, runStarted}
 use Rattle.boundary.specs.Boundary.{returned, replied, startAt}
 use Rattle.boundary.proofs.BoundaryLaws.{Says}
 
 -- The number of a start is that of its first no.
-settled-reply : (n : ℕ) (done : Outcome) (refusal : ℕ → Outcome) → done .reply .number ≡ 0 → ((k : ℕ) → refusal k .reply .number ≡ k)
-    → settle n done refusal .reply .number ≡ n
-unfolding settle
-settled-reply zero done refusal p q = p
-settled-reply (suc n) done refusal p q = q (suc n)
-
 start-number : (given : Givens) (bytes : List ℕ) (t : Tables)
     → startOf given bytes t .reply .number ≡ firstNo (startQuestions given bytes (policyOf bytes) (lengthsOf t))
 unfolding startOf
-start-number given bytes t = settled-reply _ _ _ refl (λ k. refl)
+start-number given bytes t = settle-number (λ (o : Outcome). o .reply .number) _ _ _ refl (λ k. refl)
 
 -- Questions 1 to 6, and else 7: the same of the record alone as of the whole start.
 seven : (n : ℕ) (b : Bool) → n ≡ cond b 0 7 → settle n 7 (λ k. k) ≡ 7

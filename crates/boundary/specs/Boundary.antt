@@ -3,9 +3,12 @@ use Prim.Native.Nat.{ℕ}
 use mathlib.Core.Bool.{true, cond}
 use mathlib.Core.List.{List}
 use mathlib.Core.Path.{_≡_}
+use lib.ListN.{length}
+use lib.Dec.{eqb}
 use Rattle.model.specs.Keeps.{Tables, guardOf}
-use Rattle.model.specs.Policy.{Givens}
+use Rattle.model.specs.Policy.{Givens, Policy}
 use Rattle.model.specs.Calls.{Reply, refused, settle, Outcome, startOf, Call, answer}
+use Rattle.model.specs.Record.{Written, writeRecordOf}
 use Rattle.words.specs.Words.{stateIn, answerNumbers, numbersBy, changedBy, withNumbers, runsFit, lendable, runAfter, runStarted}
 
 -- What a call returns, both runs at its exit, and the guard's tables then.
@@ -39,6 +42,21 @@ startAt given bytes run numbers t =
     cond (runsFit answerNumbers run numbers)
     (replied answerNumbers (o .reply) (runStarted run (o .reply) (o .guard .state)) numbers (o .guard .tables))
     (replied answerNumbers (refused (settle (o .reply .number) 7 (λ n. n))) run numbers t)
+
+-- What the call that writes a record returns, and the buffer and its numbers run at its exit. It is lent no state.
+pub record Recorded : Type 0 where
+  pub number : ℕ
+  pub buffer : List ℕ
+  pub numbers : List ℕ
+
+abbrev pub recorded : ℕ → List ℕ → List ℕ → Recorded
+recorded number buffer numbers = record { number = number; buffer = buffer; numbers = numbers }
+
+-- A numbers run of another length gives 7 in its place, and is not written.
+unfoldable pub recordAt : Policy → List ℕ → List ℕ → Recorded
+recordAt policy buffer numbers =
+    let w : Written = writeRecordOf (eqb (length numbers) answerNumbers) policy buffer in
+    recorded (w .reply .number) (w .buffer) (withNumbers answerNumbers numbers (w .reply))
 
 -- Where both runs can be lent, the state run holds after every call the state that the call's definition answers. An accepted start's words
 -- decode to its state by `words::put_state`.

@@ -7,7 +7,8 @@ ghost use Rattle.model.specs.Policy.{nothingGiven, policyOf};
 ghost use Rattle.model.specs.Questions.{firstNo, recordQuestions};
 ghost use Rattle.model.specs.Calls;
 ghost use Rattle.model.specs.Calls.{settle, syncPage, syncAll, deviceWrite};
-ghost use Rattle.boundary.specs.Boundary.{returned, startAt, callAt, StateHeld};
+ghost use Rattle.model.specs.Record.{policyBy};
+ghost use Rattle.boundary.specs.Boundary.{returned, startAt, callAt, recorded, recordAt, StateHeld};
 use model::Answer;
 
 // The refusal of a start whose runs do not fit: the record's questions come first.
@@ -35,6 +36,34 @@ pub fn start(
     }
     let called = start::start(policy, shadow, map, exclusion);
     words::put_started(state, numbers, called)
+}
+
+// Writes a policy record.
+pub fn write_record(
+    pages: u64,
+    frames: u64,
+    count: u64,
+    entry_count: u64,
+    listed_pages: &[u16],
+    listed_frames: &[u16],
+    buffer: &mut [u8],
+    numbers: &mut [u64],
+) -> u64
+    ensures { λ r. ⌜ recorded r (now (buffer .exit)) (now (numbers .exit))
+        ≡ recordAt (policyBy pages frames count «entry_count» (now («listed_pages» .entry)) (now («listed_frames» .entry))) (now (buffer .entry)) (now (numbers .entry)) ⌝ }
+{
+    let fits = numbers.len() == words::NUMBERS;
+    let answer = record::write_record(
+        pages,
+        frames,
+        count,
+        entry_count,
+        listed_pages,
+        listed_frames,
+        buffer,
+        fits,
+    );
+    words::reply(numbers, answer)
 }
 
 // Synchronise one page.

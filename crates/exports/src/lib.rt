@@ -5,7 +5,8 @@ ghost use mathlib.Core.Path.{_≡_};
 ghost use Rattle.model.specs.Keeps.{Tables, tables, withShadow, withExclusion, withThree};
 ghost use Rattle.model.specs.Policy.{nothingGiven};
 ghost use Rattle.model.specs.Calls.{syncPage, syncAll, fetch, write, enter, leave, deviceWrite};
-ghost use Rattle.boundary.specs.Boundary.{returned, startAt, callAt};
+ghost use Rattle.model.specs.Record.{policyBy};
+ghost use Rattle.boundary.specs.Boundary.{returned, startAt, callAt, recorded, recordAt};
 
 #[no_mangle]
 pub extern "C" fn guard_start(
@@ -20,6 +21,33 @@ pub extern "C" fn guard_start(
         ≡ startAt nothingGiven (now (policy .entry)) (now (state .entry)) (now (numbers .entry)) (tables (now (shadow .entry)) (now (map .entry)) (now (exclusion .entry))) ⌝ }
 {
     boundary::start(policy, state, shadow, map, exclusion, numbers)
+}
+
+// Writes a policy record.
+#[no_mangle]
+pub extern "C" fn guard_write_record(
+    pages: u64,
+    frames: u64,
+    count: u64,
+    entry_count: u64,
+    listed_pages: &[u16],
+    listed_frames: &[u16],
+    buffer: &mut [u8],
+    numbers: &mut [u64],
+) -> u64
+    ensures { λ r. ⌜ recorded r (now (buffer .exit)) (now (numbers .exit))
+        ≡ recordAt (policyBy pages frames count «entry_count» (now («listed_pages» .entry)) (now («listed_frames» .entry))) (now (buffer .entry)) (now (numbers .entry)) ⌝ }
+{
+    boundary::write_record(
+        pages,
+        frames,
+        count,
+        entry_count,
+        listed_pages,
+        listed_frames,
+        buffer,
+        numbers,
+    )
 }
 
 // Synchronise one page.

@@ -157,8 +157,8 @@ module _ (numbersFit : Bool) (pages frames count entries : ℕ) (ps fs buffer : 
     unfolding replyOf
     write-accepts after put =
         let long : length (recordOf policy) ≡ 8 + 4 * count =
-            record-length policy (pages-exact numbersFit policy (length buffer) yes) (frames-exact numbersFit policy (length buffer) yes) in
+        record-length policy (pages-exact numbersFit policy (length buffer) yes) (frames-exact numbersFit policy (length buffer) yes) in
         let front : sets buffer 0 (recordOf policy) ≡ recordOf policy ++ drop (0 + length (recordOf policy)) buffer =
-            sets-eq (recordOf policy) buffer 0 (omega (arith, room-there numbersFit policy (length buffer) yes)) in
+        sets-eq (recordOf policy) buffer 0 (omega (arith, room-there numbersFit policy (length buffer) yes)) in
         let past : 0 + length (recordOf policy) ≡ length (recordOf policy) = omega arith in
         rw (put, front, past, ← long) (sym (written-is numbersFit policy buffer yes))
