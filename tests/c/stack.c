@@ -84,6 +84,8 @@ static uint64_t shadow[PAGES];
 static uint16_t map[PAGES];
 static uint8_t exclusion[VECTOR];
 static uint8_t policy[RECORD];
+static uint16_t listed_pages[PAGES];
+static uint16_t listed_frames[PAGES];
 static _Alignas(16) uint8_t stack[STACK];
 
 static uint64_t deepest;
@@ -157,6 +159,13 @@ static struct call start(uint64_t length, uint64_t words)
 {
     return CALL(guard_start, AT(policy), length, AT(state), words, AT(shadow), PAGES, AT(map), PAGES, AT(exclusion), VECTOR,
                 AT(numbers), GUARD_NUMBERS);
+}
+
+/* Writes the record of the first n pages to the policy's run. */
+static struct call write_record(uint64_t n, uint64_t e, uint64_t frames_length, uint64_t room, uint64_t words)
+{
+    return CALL(guard_write_record, PAGES, FRAMES, n, e, AT(listed_pages), n, AT(listed_frames), frames_length, AT(policy), room,
+                AT(numbers), words);
 }
 
 static struct call sync_page(uint64_t page, uint64_t words)
@@ -273,6 +282,23 @@ int main(void)
     record(1, 1);
     measure(start(12, whole));
     report("guard_start");
+
+    for (unsigned i = 0; i < PAGES; i++) {
+        listed_pages[i] = i;
+        listed_frames[i] = PAGES + i;
+    }
+    for (uint64_t n = 1; n <= 64; n++)
+        measure(write_record(n, 1, n, RECORD, GUARD_NUMBERS));
+    measure(write_record(PAGES, ENTRIES, PAGES, RECORD, GUARD_NUMBERS));
+    measure(write_record(PAGES, ENTRIES, PAGES, RECORD - 1, GUARD_NUMBERS));
+    measure(write_record(PAGES, ENTRIES, PAGES, RECORD, GUARD_NUMBERS - 1));
+    measure(write_record(PAGES, ENTRIES, PAGES - 1, RECORD, GUARD_NUMBERS));
+    measure(write_record(PAGES, ENTRIES + 1, PAGES, RECORD, GUARD_NUMBERS));
+    listed_frames[PAGES - 1] = FRAMES;
+    measure(write_record(PAGES, ENTRIES, PAGES, RECORD, GUARD_NUMBERS));
+    listed_pages[PAGES - 1] = PAGES;
+    measure(write_record(PAGES, ENTRIES, PAGES, RECORD, GUARD_NUMBERS));
+    report("guard_write_record");
 
     for (int user = 0; user < 2; user++) {
         prepare(user);

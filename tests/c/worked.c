@@ -1,13 +1,14 @@
 /*
- * The worked example of document 01 through the C boundary, then refusals that only a caller of the library can provoke.
- * After each call the returned number, both numbers, every state word and every table entry are compared with literals.
+ * The worked example of document 01 through the C boundary, then refusals that only a caller of the library can provoke, then policy
+ * records that the library writes. After each call the returned number, both numbers and every run that it is lent for writing are
+ * compared with literals.
  */
 #include <stdio.h>
 #include <string.h>
 
 #include "guard.h"
 
-enum { PAGES = 4, VECTOR = 1 };
+enum { PAGES = 4, VECTOR = 1, ROOM = 24 };
 
 /* Every run that the caller of a guard holds. */
 struct guard {
@@ -22,6 +23,15 @@ struct guard {
 static int passed;
 static int failed;
 
+static void tell(const char *name, int right)
+{
+    printf("%s %s\n", right ? "ok" : "WRONG", name);
+    if (right)
+        passed++;
+    else
+        failed++;
+}
+
 /* A call is right where it returned what it should and left every run as it should. */
 static void check(const char *name, uint64_t number, uint64_t want_number, const struct guard *g, const struct guard *want)
 {
@@ -30,11 +40,7 @@ static void check(const char *name, uint64_t number, uint64_t want_number, const
                 memcmp(g->kernel, want->kernel, sizeof g->kernel) == 0 &&
                 memcmp(g->shadow, want->shadow, sizeof g->shadow) == 0 && memcmp(g->map, want->map, sizeof g->map) == 0 &&
                 memcmp(g->exclusion, want->exclusion, sizeof g->exclusion) == 0;
-    printf("%s %s\n", right ? "ok" : "WRONG", name);
-    if (right)
-        passed++;
-    else
-        failed++;
+    tell(name, right);
 }
 
 /* Numbers that no call leaves, so that a call that does not write them is seen. */
@@ -435,6 +441,99 @@ static void refused_starts(void)
           GUARD_STATE_OR_TABLE, &g, &before);
 }
 
+/* What a record is written from, and the lengths of the runs. */
+struct writing {
+    uint64_t sizes[4]; /* V, F, n and e */
+    uint16_t pages[3];
+    size_t pages_length;
+    uint16_t frames[3];
+    size_t frames_length;
+    size_t buffer_length;
+    size_t numbers_length;
+};
+
+/* The worked example's, with the record's own length. */
+static const struct writing worked = {{4, 4, 1, 1}, {1}, 1, {2}, 1, 12, GUARD_NUMBERS};
+
+static uint64_t write_record(const struct writing *w, uint8_t *buffer, uint64_t *numbers)
+{
+    return guard_write_record(w->sizes[0], w->sizes[1], w->sizes[2], w->sizes[3], w->pages, w->pages_length, w->frames,
+                              w->frames_length, buffer, w->buffer_length, numbers, w->numbers_length);
+}
+
+/* A call is right where as many bytes as it is to write stand at the buffer's front, and all others as they were. Its numbers are that
+ * length and 0; a numbers run of another length stays as it was too. */
+static void written(const char *name, const struct writing *w, uint64_t want_number, const uint8_t *want, size_t length)
+{
+    uint8_t buffer[ROOM];
+    uint8_t want_buffer[ROOM];
+    memset(buffer, 0xee, sizeof buffer);
+    memset(want_buffer, 0xee, sizeof want_buffer);
+    memcpy(want_buffer, want, length);
+    uint64_t numbers[GUARD_NUMBERS + 1] = {77, 88, 99};
+    uint64_t want_numbers[GUARD_NUMBERS + 1] = {77, 88, 99};
+    if (w->numbers_length == GUARD_NUMBERS) {
+        want_numbers[0] = length;
+        want_numbers[1] = 0;
+    }
+    uint64_t number = write_record(w, buffer, numbers);
+    tell(name, number == want_number && memcmp(buffer, want_buffer, sizeof buffer) == 0 &&
+                   memcmp(numbers, want_numbers, sizeof numbers) == 0);
+}
+
+/* K2: records that are written, and started with. */
+static void written_records(void)
+{
+    written("write record: the worked example", &worked, GUARD_ACCEPTED, policy, sizeof policy);
+    struct writing w = worked;
+    w.buffer_length = ROOM;
+    written("write record: bytes past the record stay", &w, GUARD_ACCEPTED, policy, sizeof policy);
+    const struct writing three = {{0x302, 0x504, 3, 2}, {0, 7, 0x201}, 3, {0x403, 8, 8}, 3, 20, GUARD_NUMBERS};
+    const uint8_t of_three[20] = {0x02, 3, 0x04, 5, 3, 0, 2, 0, 0, 0, 7, 0, 0x01, 2, 0x03, 4, 8, 0, 8, 0};
+    written("write record: three pages", &three, GUARD_ACCEPTED, of_three, sizeof of_three);
+
+    uint8_t record[12];
+    struct guard g = unset;
+    write_record(&worked, record, g.numbers);
+    check("start by the written record", start(&g, record, sizeof record), GUARD_ACCEPTED, &g, &started);
+}
+
+static void refused_records(void)
+{
+    static const struct {
+        const char *name;
+        struct writing writing;
+        uint64_t number;
+    } refusals[] = {
+        {"V 0 gives 2", {{0, 4, 1, 1}, {1}, 1, {2}, 1, 12, 2}, GUARD_SIZE_OUT_OF_RANGE},
+        {"V 65540 gives 2", {{65540, 4, 1, 1}, {1}, 1, {2}, 1, 12, 2}, GUARD_SIZE_OUT_OF_RANGE},
+        {"F 4097 gives 2", {{4, 4097, 1, 1}, {1}, 1, {2}, 1, 12, 2}, GUARD_SIZE_OUT_OF_RANGE},
+        {"F 2^32 + 4 gives 2", {{4, 4294967300, 1, 1}, {1}, 1, {2}, 1, 12, 2}, GUARD_SIZE_OUT_OF_RANGE},
+        {"n 0 gives 3", {{4, 4, 0, 1}, {1}, 0, {2}, 0, 12, 2}, GUARD_COUNT_OUT_OF_RANGE},
+        {"n 65537 gives 3", {{4, 4, 65537, 1}, {1}, 1, {2}, 1, 12, 2}, GUARD_COUNT_OUT_OF_RANGE},
+        {"e 0 gives 3", {{4, 4, 1, 0}, {1}, 1, {2}, 1, 12, 2}, GUARD_COUNT_OUT_OF_RANGE},
+        {"e 65537 gives 3", {{4, 4, 1, 65537}, {1}, 1, {2}, 1, 12, 2}, GUARD_COUNT_OUT_OF_RANGE},
+        {"no page for n 1 gives 4", {{4, 4, 1, 1}, {1}, 0, {2}, 1, 12, 2}, GUARD_RECORD_LENGTH},
+        {"2 pages for n 1 give 4", {{4, 4, 1, 1}, {1, 2}, 2, {2}, 1, 12, 2}, GUARD_RECORD_LENGTH},
+        {"no frame for n 1 gives 4", {{4, 4, 1, 1}, {1}, 1, {2}, 0, 12, 2}, GUARD_RECORD_LENGTH},
+        {"2 frames for n 1 give 4", {{4, 4, 1, 1}, {1}, 1, {2, 2}, 2, 12, 2}, GUARD_RECORD_LENGTH},
+        {"page 4 of 4 gives 5", {{4, 4, 1, 1}, {4}, 1, {2}, 1, 12, 2}, GUARD_LISTED_PAGE},
+        {"page 1 twice gives 5", {{4, 4, 2, 1}, {1, 1}, 2, {2, 2}, 2, 16, 2}, GUARD_LISTED_PAGE},
+        {"frame 4 of 4 gives 6", {{4, 4, 1, 1}, {1}, 1, {4}, 1, 12, 2}, GUARD_LISTED_FRAME},
+        {"numbers run of 1 word gives 7", {{4, 4, 1, 1}, {1}, 1, {2}, 1, 12, 1}, GUARD_STATE_OR_TABLE},
+        {"numbers run of 3 words gives 7", {{4, 4, 1, 1}, {1}, 1, {2}, 1, 12, 3}, GUARD_STATE_OR_TABLE},
+        {"buffer of 11 bytes gives 16", {{4, 4, 1, 1}, {1}, 1, {2}, 1, 11, 2}, GUARD_BUFFER_TOO_SHORT},
+        {"buffer of 0 bytes gives 16", {{4, 4, 1, 1}, {1}, 1, {2}, 1, 0, 2}, GUARD_BUFFER_TOO_SHORT},
+        {"6 is asked before 7", {{4, 4, 1, 1}, {1}, 1, {4}, 1, 12, 1}, GUARD_LISTED_FRAME},
+        {"7 is asked before 16", {{4, 4, 1, 1}, {1}, 1, {2}, 1, 11, 1}, GUARD_STATE_OR_TABLE},
+    };
+    for (size_t i = 0; i < sizeof refusals / sizeof refusals[0]; i++) {
+        char full[80];
+        snprintf(full, sizeof full, "write record: %s", refusals[i].name);
+        written(full, &refusals[i].writing, refusals[i].number, policy, 0);
+    }
+}
+
 int main(void)
 {
     worked_example();
@@ -444,6 +543,8 @@ int main(void)
     refused_states();
     refused_lengths();
     refused_starts();
+    written_records();
+    refused_records();
     printf("%d passed, %d failed\n", passed, failed);
     return failed == 0 ? 0 : 1;
 }

@@ -1,6 +1,6 @@
 -- Laws of questions 2 to 6 asked of sizes and arrays: questions 5 and 6 on the numbers that are left, and the first no, by the tests that the code
 -- makes.
-use Prim.Native.Nat.{ℕ, _+_, _≤_, _<_, min}
+use Prim.Native.Nat.{ℕ, _+_, _≤_, _<_, min, max}
 use mathlib.Core.Bool.{Bool, true, false, not}
 use mathlib.Core.List.{List, [], _∷_}
 use mathlib.Core.Path.{_≡_, refl, sym, ap, _∙_}
@@ -11,14 +11,15 @@ use mir.Syntax.{w16}
 use mir.Val.{Fits}
 use native.Mathlib.Numerals.{add-one}
 use native.Mathlib.Omega.{arith}
-use borrow.Author.Tests.{not-true, not-false}
+use borrow.Author.Tests.{not-true, not-false, ltb-true, ltb-false, lt-ltb, le-ltb}
 use Rattle.model.specs.Basics.{both, within}
 use Rattle.model.specs.Edges.{pagesInRange, framesInRange}
 use Rattle.model.specs.Policy.{Policy}
 use Rattle.model.specs.Questions.{firstNo, sizesInRange, countsInRange, rising, allBelow, policyQuestions}
 use Rattle.model.specs.Record.{policyBy}
-use Rattle.model.proofs.QuestionLaws.{both-true, both-first, both-second, within-high}
+use Rattle.model.proofs.QuestionLaws.{both-true, both-first, both-second, within-low, within-high}
 use Rattle.model.proofs.PolicyLaws.{rising-none, rising-more, rising-no, allBelow-none}
+use Rattle.record.specs.Arrays.{highestOf}
 use Rattle.policy.proofs.RecordLaws.{asked-2, asked-3, asked-4, asked-5, asked-6, asked-none}
 
 -- Question 5, at place i of the array. `whole` is the answer on all of it.
@@ -36,28 +37,40 @@ module _ (listed : List ℕ) (pages least i : ℕ) (whole : Bool) (e : rising pa
     pub rising-goes-on : not r ≡ false → rising pages (getD listed i 0 + 1) (drop (i + 1) listed) ≡ whole
     rising-goes-on h = sym (rising-more pages least (getD listed i 0) _ asks h) ∙ front
 
--- Question 6, at place i of the array: `so-far` is the answer on the frames before it.
-both-assoc : (a b c : Bool) → both (both a b) c ≡ both a (both b c)
+-- The highest number, at place i of the array: `so-far` is the highest before it.
+pub highest-starts : (numbers : List ℕ) → max 0 (highestOf (drop 0 numbers)) ≡ highestOf numbers
+highest-starts numbers = omega arith
+
+module _ (numbers : List ℕ) (i so-far whole : ℕ) (e : max so-far (highestOf (drop i numbers)) ≡ whole) where
+  pub highest-ends : length numbers ≤ i → so-far ≡ whole
+  unfolding highestOf
+  highest-ends h = let none : drop i numbers ≡ [] = drop-of-length-le numbers h in omega (arith, rw none at e)
+
+  pub highest-goes-on : (next : ℕ) → i < length numbers → next ≡ max so-far (getD numbers i 0) → max next (highestOf (drop (i + 1) numbers)) ≡ whole
+  unfolding highestOf
+  highest-goes-on next more is =
+      let there : drop i numbers ≡ getD numbers i 0 ∷ drop (i + 1) numbers = rw add-one (drop-cons numbers i 0 more) in
+      omega (arith, rw there at e)
+
+-- Question 6 by the highest frame.
+max-below : (a b limit : ℕ) → ltb (max a b) limit ≡ both (ltb a limit) (ltb b limit)
 unfolding both
-both-assoc true b c = refl
-both-assoc false b c = refl
+max-below a b limit = at (ltb a limit) (ltb b limit) refl refl
+  where
+    at : (p q : Bool) → ltb a limit ≡ p → ltb b limit ≡ q → ltb (max a b) limit ≡ both p q
+    at true true e f = let h : a < limit = ltb-true a limit e in let k : b < limit = ltb-true b limit f in lt-ltb (max a b) limit (omega arith)
+    at true false e f = let k : limit ≤ b = ltb-false b limit f in le-ltb (max a b) limit (omega arith)
+    at false q e f = let h : limit ≤ a = ltb-false a limit e in le-ltb (max a b) limit (omega arith)
 
-pub below-starts : (listed : List ℕ) (limit : ℕ) → both true (allBelow limit (drop 0 listed)) ≡ allBelow limit listed
-unfolding both
-below-starts listed limit = refl
+highest-is : (limit : ℕ) (frames : List ℕ) → 1 ≤ limit → ltb (highestOf frames) limit ≡ allBelow limit frames
+unfolding highestOf allBelow
+highest-is limit [] low = lt-ltb 0 limit low
+highest-is limit (f ∷ frames) low = max-below f (highestOf frames) limit ∙ ap (both (ltb f limit)) (highest-is limit frames low)
 
-module _ (listed : List ℕ) (limit i : ℕ) (so-far whole : Bool) (e : both so-far (allBelow limit (drop i listed)) ≡ whole) where
-  pub below-ends : length listed ≤ i → so-far ≡ whole
-  below-ends h = sym (both-true so-far) ∙ (ap (both so-far) (sym (allBelow-none limit (drop-of-length-le listed h))) ∙ e)
+pub highest-below : (limit : ℕ) (frames : List ℕ) (r : Bool) (top : ℕ) → 1 ≤ limit → top ≡ highestOf frames → r ≡ ltb top limit → r ≡ allBelow limit frames
+highest-below limit frames r top low e asks = rw e at asks ∙ highest-is limit frames low
 
-  pub below-goes-on : (more : i < length listed) (r next : Bool) → r ≡ ltb (getD listed i 0) limit → next ≡ both so-far r
-      → both next (allBelow limit (drop (i + 1) listed)) ≡ whole
-  unfolding allBelow
-  below-goes-on more r next asks is =
-      let there : drop i listed ≡ getD listed i 0 ∷ drop (i + 1) listed = rw add-one (drop-cons listed i 0 more) in
-      rw (is, asks, both-assoc) (rw there at e)
-
--- Past question 2, V and F have 16 bits.
+-- Past question 2, V and F have 16 bits, and F is above 0.
 module _ (pages frames : ℕ) (sizes : Bool) (e2 : sizes ≡ both (pagesInRange pages) (framesInRange frames)) (h2 : not sizes ≡ false) where
   pub pages-narrow : Fits w16 pages
   unfolding pagesInRange
@@ -66,6 +79,10 @@ module _ (pages frames : ℕ) (sizes : Bool) (e2 : sizes ≡ both (pagesInRange 
   pub frames-narrow : Fits w16 frames
   unfolding framesInRange
   frames-narrow = record { fits = omega (arith, within-high 1 4096 frames (both-second (pagesInRange pages) _ (sym e2 ∙ not-false sizes h2))) }
+
+  pub frames-some : 1 ≤ frames
+  unfolding framesInRange
+  frames-some = within-low 1 4096 frames (both-second (pagesInRange pages) _ (sym e2 ∙ not-false sizes h2))
 
 -- Questions 2 to 6 in order.
 module _ (pages frames count entries : ℕ) (ps fs : List ℕ) where

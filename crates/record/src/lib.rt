@@ -4,7 +4,7 @@
 ghost use mathlib.Core.Path.{_≡_};
 ghost use mathlib.Core.Bool.{true};
 ghost use mathlib.Core.List.{[], _∷_};
-ghost use Prim.Native.Nat.{_+_, _*_, _<_, _≤_};
+ghost use Prim.Native.Nat.{_+_, _*_, _<_, _≤_, max};
 ghost use lib.Dec.{eqb};
 ghost use lib.ListN.{length};
 ghost use lib.Seq.{sets};
@@ -12,6 +12,7 @@ ghost use Rattle.model.specs.Basics.{both};
 ghost use Rattle.model.specs.Questions.{firstNo, rising, allBelow, policyQuestions};
 ghost use Rattle.model.specs.Calls.{replyOf};
 ghost use Rattle.model.specs.Record.{policyBy, numberBytes, numbersBytes, recordOf, writeRecordQuestions, written, writeRecordOf};
+ghost use Rattle.record.specs.Arrays.{highestOf};
 use model::Answer;
 
 // The bytes of the four sizes, which come first.
@@ -41,17 +42,31 @@ fn pages_rising(listed: &[u16], pages: u16) -> bool
     true
 }
 
-// Question 6. Every frame is looked at, also past one that is not below: with no way out of the loop the compiler takes eight at once.
-fn frames_below(listed: &[u16], frames: u16) -> bool
-    ensures { λ r. ⌜ r ≡ allBelow frames (now (listed .entry)) ⌝ }
+fn larger(a: u16, b: u16) -> u16
+    ensures { λ r. ⌜ r ≡ max a b ⌝ }
 {
-    let mut below = true;
+    if a < b { b } else { a }
+}
+
+// The highest number of an array. With no way out of its loop the compiler takes eight numbers at once.
+fn highest(numbers: &[u16]) -> u16
+    ensures { λ r. ⌜ r ≡ highestOf (now (numbers .entry)) ⌝ }
+{
+    let mut so_far: u16 = 0;
     let mut i = 0;
-    while i < listed.len() {
-        below = questions::both(below, policy::frame_below(frames, listed[i]));
+    while i < numbers.len() {
+        so_far = larger(so_far, numbers[i]);
         i += 1;
     }
-    below
+    so_far
+}
+
+// Question 6: every frame is below F where the highest is. F is above 0, as question 2 has shown.
+fn frames_below(listed: &[u16], frames: u16) -> bool
+    requires { ⌜ 1 ≤ frames ⌝ }
+    ensures { λ r. ⌜ r ≡ allBelow frames (now (listed .entry)) ⌝ }
+{
+    policy::frame_below(frames, highest(listed))
 }
 
 // The first no among questions 2 to 6, or 0. Past question 2, V and F have 16 bits.

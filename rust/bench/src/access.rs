@@ -66,8 +66,8 @@ impl Work for Fetch {
         true
     }
 
-    fn sides(&self) -> &Sides {
-        &self.sides
+    fn agree(&self) -> bool {
+        self.sides.agree()
     }
 }
 
@@ -125,8 +125,8 @@ impl Work for Write {
         true
     }
 
-    fn sides(&self) -> &Sides {
-        &self.sides
+    fn agree(&self) -> bool {
+        self.sides.agree()
     }
 }
 
@@ -183,7 +183,7 @@ impl Work for DeviceWrite {
         true
     }
 
-    fn sides(&self) -> &Sides {
-        &self.sides
+    fn agree(&self) -> bool {
+        self.sides.agree()
     }
 }

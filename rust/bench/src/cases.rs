@@ -1,7 +1,8 @@
 //! The measured cases by name.
-//! Preparing a case starts all its sides; only the repetitions are measured.
+//! Preparing a case makes all its sides ready; only the repetitions are measured.
 
 use crate::access::{DeviceWrite, Fetch, Write};
+use crate::record::WriteRecord;
 use crate::switch::{LeaveAndEnter, Start};
 use crate::synchronise::{SynchroniseAll, SynchroniseOne};
 use crate::tables::{Contents, Tables};
@@ -21,6 +22,7 @@ pub fn cases() -> Vec<Case> {
     let mut cases = synchronisations();
     cases.extend(accesses());
     cases.extend(switches());
+    cases.extend(records());
     cases
 }
 
@@ -73,4 +75,9 @@ fn switches() -> Vec<Case> {
         cases.push(case(format!("start, V {v}, most pages listed"), start));
     }
     cases
+}
+
+fn records() -> Vec<Case> {
+    let most_listed = |v| move || WriteRecord::new(&Tables::new(Contents::Approved, v));
+    SIZES.map(|v| case(format!("write record, V {v}"), most_listed(v))).into()
 }

@@ -6,6 +6,7 @@ mod access;
 mod cases;
 mod measure;
 mod plain;
+mod record;
 mod sides;
 mod switch;
 mod synchronise;
@@ -78,7 +79,7 @@ mod tests {
             for side in [Side::Archive, Side::Reference, Side::OnRuns] {
                 assert!(work.repeat(side, COUNT), "{}", case.name);
             }
-            assert!(work.sides().agree(), "{}", case.name);
+            assert!(work.agree(), "{}", case.name);
             let synchronises = case.name.starts_with("synchronise");
             assert_eq!(work.repeat(Side::WithoutApproval, 1), synchronises, "{}", case.name);
         }

@@ -62,7 +62,7 @@ pub fn print_table(cases: &[Case]) {
     for case in cases {
         let mut work = (case.prepare)();
         let times = times(&mut *work);
-        assert!(work.sides().agree(), "{}: archive and reference differ", case.name);
+        assert!(work.agree(), "{}: archive and reference differ", case.name);
         println!("{}", line(&case.name, &times));
     }
 }

@@ -10,12 +10,13 @@ use reference::{Answer, State};
 pub fn keep_general() {
     black_box((start as *const (), sync_page as *const (), sync_all as *const ()));
     black_box((fetch as *const (), write as *const (), device_write as *const ()));
-    black_box((enter as *const (), leave as *const ()));
+    black_box((enter as *const (), leave as *const (), write_record as *const ()));
     black_box((without_approval::sync_page as *const (), without_approval::sync_all as *const ()));
     black_box((on_runs::start as *const (), on_runs::sync_page as *const ()));
     black_box((on_runs::sync_all as *const (), on_runs::fetch as *const ()));
     black_box((on_runs::write as *const (), on_runs::device_write as *const ()));
     black_box((on_runs::enter as *const (), on_runs::leave as *const ()));
+    black_box(on_runs::write_record as *const ());
 }
 
 #[inline(never)]
@@ -74,6 +75,19 @@ pub fn leave(state: &mut State, shadow: &mut [u64], page: u64) -> Answer {
 #[inline(never)]
 pub fn device_write(state: &State, exclusion: &[u8], address: u64, length: u64) -> Answer {
     reference::device_write(state, exclusion, address, length)
+}
+
+#[inline(never)]
+pub fn write_record(
+    v: u64,
+    f: u64,
+    n: u64,
+    e: u64,
+    pages: &[u16],
+    frames: &[u16],
+    buffer: &mut [u8],
+) -> Answer {
+    reference::write_record(v, f, n, e, pages, frames, buffer)
 }
 
 /// Synchronising with the kernel's frame always taken, which guards nothing: the price of steps 2 and 4.
@@ -189,5 +203,20 @@ pub mod on_runs {
         boundary::ask(run, numbers, |state| {
             reference::device_write(state, exclusion, address, length)
         })
+    }
+
+    #[inline(never)]
+    #[allow(clippy::too_many_arguments)]
+    pub fn write_record(
+        v: u64,
+        f: u64,
+        n: u64,
+        e: u64,
+        pages: &[u16],
+        frames: &[u16],
+        buffer: &mut [u8],
+        numbers: &mut [u64],
+    ) -> u64 {
+        boundary::write_record(v, f, n, e, pages, frames, buffer, numbers)
     }
 }

@@ -59,8 +59,8 @@ impl Work for LeaveAndEnter {
         true
     }
 
-    fn sides(&self) -> &Sides {
-        &self.sides
+    fn agree(&self) -> bool {
+        self.sides.agree()
     }
 }
 
@@ -114,7 +114,7 @@ impl Work for Start {
         true
     }
 
-    fn sides(&self) -> &Sides {
-        &self.sides
+    fn agree(&self) -> bool {
+        self.sides.agree()
     }
 }

@@ -87,8 +87,8 @@ impl Work for SynchroniseOne {
         true
     }
 
-    fn sides(&self) -> &Sides {
-        &self.with.sides
+    fn agree(&self) -> bool {
+        self.with.sides.agree()
     }
 }
 
@@ -138,7 +138,7 @@ impl Work for SynchroniseAll {
         true
     }
 
-    fn sides(&self) -> &Sides {
-        &self.0.sides
+    fn agree(&self) -> bool {
+        self.0.sides.agree()
     }
 }

@@ -36,8 +36,8 @@ pub trait Work {
     /// Repeats the call on one side; false where the case has no such side.
     fn repeat(&mut self, side: Side, count: u64) -> bool;
 
-    /// What the archive and the reference hold.
-    fn sides(&self) -> &Sides;
+    /// Whether the archive and the reference stand alike after the same repetitions.
+    fn agree(&self) -> bool;
 }
 
 /// What the archive and the reference hold.

@@ -150,3 +150,11 @@ pub fn device_write(s: State, exclusion: &[u8], address: u64, length: u64) -> An
     let number = archive::device_write(&words(s), exclusion, address, length, &mut numbers);
     answer(number, numbers)
 }
+
+/// The sizes are V, F, n and e.
+pub fn write_record(sizes: [u64; 4], pages: &[u16], frames: &[u16], buffer: &mut [u8]) -> Answer {
+    let [v, f, n, e] = sizes;
+    let mut numbers = UNWRITTEN;
+    let number = archive::write_record(v, f, n, e, pages, frames, buffer, &mut numbers);
+    answer(number, numbers)
+}

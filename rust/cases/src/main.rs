@@ -14,6 +14,7 @@ mod sync_all_cases;
 mod sync_page_cases;
 mod tally;
 mod write_cases;
+mod write_record_cases;
 
 use std::process::ExitCode;
 use tally::Tally;
@@ -28,6 +29,7 @@ fn main() -> ExitCode {
     let t = enter_cases::all(t);
     let t = leave_cases::all(t);
     let t = device_write_cases::all(t);
+    let t = write_record_cases::all(t);
     let t = question_7_cases::all(t);
     let t = drill_cases::all(t);
     if t.total() {

@@ -2,11 +2,11 @@
 //! Both sides take the same call on equal copies of what is lent.
 
 use guard::archive::{NUMBERS, STATE_WORDS};
-use inputs::Random;
+use inputs::{Parts, Random};
 use reference::{claim, vector_len};
 
-/// The calls, in document 01's order.
-pub const KINDS: [&str; 8] = [
+/// The calls, in document 01's order, then those of the requests.
+pub const KINDS: [&str; 9] = [
     "start",
     "synchronise one",
     "synchronise all",
@@ -15,13 +15,18 @@ pub const KINDS: [&str; 8] = [
     "enter",
     "leave",
     "device write",
+    "write record",
 ];
 
-/// A start, or a call that a list of demand 3 may have.
+/// The place of writing a record in [`KINDS`].
+pub const WRITE_RECORD: usize = 8;
+
+/// A start, a call that a list of demand 3 may have, or the writing of a record, which has no state.
 #[derive(Clone, Copy, Debug)]
 pub enum Call<'a> {
     Start { policy: &'a [u8] },
     Listed(claim::Call<'a>),
+    WriteRecord(&'a Parts),
 }
 
 impl Call<'_> {
@@ -36,11 +41,12 @@ impl Call<'_> {
             Call::Listed(claim::Call::Enter { .. }) => 5,
             Call::Listed(claim::Call::Leave { .. }) => 6,
             Call::Listed(claim::Call::DeviceWrite { .. }) => 7,
+            Call::WriteRecord(_) => WRITE_RECORD,
         }
     }
 }
 
-/// The runs and guard tables that a call is lent; each call uses a part of them.
+/// The runs, guard tables and buffer that a call is lent; each call uses a part of them.
 #[derive(Clone, Debug, PartialEq, Eq)]
 pub struct Lent {
     pub state: Vec<u64>,
@@ -48,6 +54,8 @@ pub struct Lent {
     pub shadow: Vec<u64>,
     pub map: Vec<u16>,
     pub exclusion: Vec<u8>,
+    /// What a record is written into.
+    pub buffer: Vec<u8>,
 }
 
 impl Lent {
@@ -60,6 +68,19 @@ impl Lent {
             shadow: vec![random.word(); v],
             map: vec![random.word() as u16; v],
             exclusion: vec![random.word() as u8; vector_len(f)],
+            buffer: Vec::new(),
+        }
+    }
+
+    /// A numbers run, and a buffer of a record's length with any contents.
+    pub fn for_record(random: &mut Random, length: usize) -> Lent {
+        Lent {
+            state: Vec::new(),
+            numbers: vec![random.word(); NUMBERS],
+            shadow: Vec::new(),
+            map: Vec::new(),
+            exclusion: Vec::new(),
+            buffer: (0..length).map(|_| random.word() as u8).collect(),
         }
     }
 }

@@ -1,4 +1,4 @@
-//! Damage to what a call is lent: the runs, the fields of the state, the lengths of the tables, and the contents of all.
+//! Damage to what a call is lent: the runs, the fields of the state, the lengths of tables and buffer, and the contents of all.
 //! Contents stay damaged through a list; the other kinds concern one call.
 
 use guard::archive::{
@@ -27,10 +27,12 @@ pub enum Damage {
     Field,
     /// A shadow table, map or exclusion vector of another length.
     Table,
+    /// A buffer shorter than the record.
+    Buffer,
 }
 
 impl Damage {
-    pub const ALL: [Damage; 7] = [
+    pub const ALL: [Damage; 8] = [
         Damage::Contents,
         Damage::StateRun,
         Damage::NumbersRun,
@@ -38,7 +40,21 @@ impl Damage {
         Damage::WideWord,
         Damage::Field,
         Damage::Table,
+        Damage::Buffer,
     ];
+
+    /// What a call on a state and tables may find beside damaged contents.
+    pub const OF_TABLES: [Damage; 6] = [
+        Damage::StateRun,
+        Damage::NumbersRun,
+        Damage::ModeWord,
+        Damage::WideWord,
+        Damage::Field,
+        Damage::Table,
+    ];
+
+    /// What the writing of a record may find, which is lent no state and no table.
+    pub const OF_BUFFERS: [Damage; 2] = [Damage::NumbersRun, Damage::Buffer];
 
     pub fn words(self) -> &'static str {
         match self {
@@ -49,15 +65,16 @@ impl Damage {
             Damage::WideWord => "word too wide",
             Damage::Field => "field of the state",
             Damage::Table => "length of a table",
+            Damage::Buffer => "length of the buffer",
         }
     }
 
-    /// Half of the calls find damaged contents alone.
-    pub fn random(random: &mut Random) -> Damage {
+    /// Half of the calls find damaged contents alone, the others one of these kinds.
+    pub fn random(random: &mut Random, others: &[Damage]) -> Damage {
         if random.one_in(2) {
             Damage::Contents
         } else {
-            random.pick(&Damage::ALL[1..])
+            random.pick(others)
         }
     }
 
@@ -83,12 +100,17 @@ impl Damage {
                 1 => resize(random, &mut lent.map),
                 _ => resize(random, &mut lent.exclusion),
             },
+            Damage::Buffer => {
+                let length = lent.buffer.len();
+                let any = random.below(length as u64) as usize;
+                lent.buffer.truncate(random.pick(&[0, length - 1, any]));
+            }
         }
     }
 }
 
 /// Another length: mostly one more or less, or none.
-fn resize<T: Copy + Default>(random: &mut Random, run: &mut Vec<T>) {
+pub fn resize<T: Copy + Default>(random: &mut Random, run: &mut Vec<T>) {
     let length = run.len();
     let other = match random.below(6) {
         0 => 0,

@@ -1,5 +1,5 @@
 //! A list on damaged runs and tables: damaged contents pass from call to call, other damage concerns one call.
-//! Among the calls are starts, on sound and on damaged records.
+//! Among the calls are starts, on sound and on damaged records, and after them records are written.
 
 use inputs::Random;
 use reference::Fault;
@@ -11,6 +11,10 @@ use crate::list::List;
 use crate::run::{compare, Plan};
 use crate::sides::by_reference;
 use crate::tally::Tally;
+use crate::written::{check_written_again, write_call};
+
+/// The records that are written after a list.
+const RECORDS: u64 = 6;
 
 pub fn run_list(plan: &Plan, seed: u64, tally: &mut Tally) -> Result<(), String> {
     let mut list = List::new(seed);
@@ -26,7 +30,7 @@ pub fn run_list(plan: &Plan, seed: u64, tally: &mut Tally) -> Result<(), String>
             damage_contents(&mut list.random, &mut lent);
         }
         let mut damaged = lent.clone();
-        let damage = Damage::random(&mut list.random);
+        let damage = Damage::random(&mut list.random, &Damage::OF_TABLES);
         damage.apply(&mut list.random, &mut damaged);
         let call = Call::Listed(list.next_call());
         let number = compare(plan.fault, &mut damaged, &call)?;
@@ -34,6 +38,9 @@ pub fn run_list(plan: &Plan, seed: u64, tally: &mut Tally) -> Result<(), String>
         if damage == Damage::Contents {
             lent = damaged;
         }
+    }
+    for _ in 0..RECORDS {
+        write_call(plan.fault, &mut list.random, tally)?;
     }
     Ok(())
 }
@@ -46,10 +53,13 @@ fn start_call(fault: Fault, random: &mut Random, tally: &mut Tally) -> Result<()
         damage_record(random, &mut policy);
     }
     let mut lent = Lent::garbage(random, v, f);
-    let damage = Damage::random(random);
+    let damage = Damage::random(random, &Damage::OF_TABLES);
     damage.apply(random, &mut lent);
     let call = Call::Start { policy: &policy };
     let number = compare(fault, &mut lent, &call)?;
+    if number == 0 {
+        check_written_again(&policy)?;
+    }
     tally.count_damaged(call.kind(), number, damage)
 }
 

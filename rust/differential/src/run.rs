@@ -16,7 +16,7 @@ pub struct Plan {
     pub seed: u64,
     /// The number of lists; every second begins with an accepted start.
     pub lists: u64,
-    /// The calls of a list, the start not counted.
+    /// The calls of a list, the start and the records written after it not counted.
     pub calls: u64,
     /// A mistake that the reference makes.
     pub fault: Fault,
@@ -71,6 +71,7 @@ pub(crate) fn compare(fault: Fault, lent: &mut Lent, call: &Call) -> Result<u64,
         ("shadow", lent.shadow != expected.shadow),
         ("map", lent.map != expected.map),
         ("exclusion", lent.exclusion != expected.exclusion),
+        ("buffer", lent.buffer != expected.buffer),
     ];
     let differ: Vec<_> =
         what.iter().filter(|(_, differs)| *differs).map(|(name, _)| *name).collect();

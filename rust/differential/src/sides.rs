@@ -3,6 +3,7 @@
 
 use guard::archive::{self, NUMBERS};
 use guard::Guard;
+use inputs::Parts;
 use reference::claim::Call as Listed;
 use reference::{boundary, fault, Fault};
 
@@ -10,10 +11,13 @@ use crate::call::{Call, Lent};
 
 /// The archive's number for a call.
 pub fn by_archive(lent: &mut Lent, call: &Call) -> u64 {
-    let Lent { state, numbers, shadow, map, exclusion } = lent;
+    let Lent { state, numbers, shadow, map, exclusion, buffer } = lent;
     let call = match *call {
         Call::Start { policy } => {
             return archive::start(policy, state, shadow, map, exclusion, numbers)
+        }
+        Call::WriteRecord(Parts { sizes: [v, f, n, e], pages, frames }) => {
+            return archive::write_record(*v, *f, *n, *e, pages, frames, buffer, numbers)
         }
         Call::Listed(call) => call,
     };
@@ -38,10 +42,13 @@ pub fn by_archive(lent: &mut Lent, call: &Call) -> u64 {
 
 /// The reference's number for a call.
 pub fn by_reference(fault: Fault, lent: &mut Lent, call: &Call) -> u64 {
-    let Lent { state: run, numbers, shadow, map, exclusion } = lent;
+    let Lent { state: run, numbers, shadow, map, exclusion, buffer } = lent;
     let call = match *call {
         Call::Start { policy } => {
             return boundary::start(policy, run, shadow, map, exclusion, numbers)
+        }
+        Call::WriteRecord(Parts { sizes, pages, frames }) => {
+            return fault::write_record(fault, *sizes, pages, frames, buffer, numbers)
         }
         Call::Listed(call) => call,
     };

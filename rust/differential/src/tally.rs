@@ -7,7 +7,7 @@ use guard::archive::STATE_FRAMES;
 use guard::Refusal;
 use reference::claim;
 
-use crate::call::{Lent, KINDS};
+use crate::call::{Lent, KINDS, WRITE_RECORD};
 use crate::damage::Damage;
 use crate::entries::Entries;
 
@@ -20,9 +20,9 @@ const NUMBERS: usize = Refusal::ALL.len() + 1;
 /// The refusals of the drill, which no call gives.
 const OF_THE_DRILL: [usize; 2] = [14, 15];
 
-/// The numbers of each call, 0 for accepted: all that document 01's questions let concern it. On damaged runs and tables each of them comes.
+/// The numbers of each call, 0 for accepted: all that the questions let concern it. On damaged runs and tables each of them comes.
 /// Only the start reads a record (1 to 6); 8 is for calls with a length, 9 for those that name something, 10 for mode
-/// switches, 11 and 12 for calls that touch a shadow entry, 13 for writes.
+/// switches, 11 and 12 for calls that touch a shadow entry, 13 for writes. Writing a record asks 2 to 7, and it alone asks 16.
 const OF_THE_CALL: [&[usize]; KINDS.len()] = [
     &[0, 1, 2, 3, 4, 5, 6, 7],
     &[0, 7, 9],
@@ -32,15 +32,25 @@ const OF_THE_CALL: [&[usize]; KINDS.len()] = [
     &[0, 7, 9, 10, 11, 12],
     &[0, 7, 9, 10, 11, 12],
     &[0, 7, 8, 9, 13],
+    &[0, 2, 3, 4, 5, 6, 7, 16],
 ];
 
 /// Of these, the numbers that do not come in a list from an accepted start.
 /// Its start is accepted. The state and the guard tables pass question 7 at every call of such a list, so 7 is only about the kernel
 /// table that a synchronisation is brought. A write never gives 13: an entry with the frame of the policy is an approved one and has
 /// no bit 1, and an ordinary one has a frame below F. An enter never gives 12: an entry page is listed, so its entry is approved
-/// where it is present.
-const NOT_STARTED: [&[usize]; KINDS.len()] =
-    [&[1, 2, 3, 4, 5, 6, 7], &[], &[], &[7], &[7, 13], &[7, 12], &[7], &[7]];
+/// where it is present. No record is written there.
+const NOT_STARTED: [&[usize]; KINDS.len()] = [
+    &[1, 2, 3, 4, 5, 6, 7],
+    &[],
+    &[],
+    &[7],
+    &[7, 13],
+    &[7, 12],
+    &[7],
+    &[7],
+    OF_THE_CALL[WRITE_RECORD],
+];
 
 type Numbers = [[u64; NUMBERS]; KINDS.len()];
 
@@ -63,6 +73,13 @@ impl Half {
         OF_THE_CALL[kind].contains(&number)
             && (self == Half::Damaged || !NOT_STARTED[kind].contains(&number))
     }
+}
+
+/// Whether a call is lent what the damage is about.
+fn may_find(kind: usize, damage: Damage) -> bool {
+    let others: &[Damage] =
+        if kind == WRITE_RECORD { &Damage::OF_BUFFERS } else { &Damage::OF_TABLES };
+    damage == Damage::Contents || others.contains(&damage)
 }
 
 /// The counts of a run.
@@ -115,7 +132,7 @@ impl Tally {
         }
         for damage in Damage::ALL {
             for (kind, &count) in self.damage[damage as usize].iter().enumerate() {
-                if count < CELL_MINIMUM {
+                if may_find(kind, damage) && count < CELL_MINIMUM {
                     complaints.push(format!("{}, {}: {count} calls", damage.words(), KINDS[kind]));
                 }
             }
@@ -180,7 +197,13 @@ impl Tally {
         writeln!(out)?;
         for damage in Damage::ALL {
             write!(out, "{:26}", damage.words())?;
-            self.damage[damage as usize].iter().try_for_each(|count| write!(out, "{count:>16}"))?;
+            for (kind, &count) in self.damage[damage as usize].iter().enumerate() {
+                if may_find(kind, damage) {
+                    write!(out, "{count:>16}")?;
+                } else {
+                    write!(out, "{:>16}", "-")?;
+                }
+            }
             writeln!(out)?;
         }
         Ok(())

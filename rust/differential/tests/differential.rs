@@ -23,7 +23,7 @@ fn a_million_calls_agree() {
 
 #[test]
 fn every_planted_mistake_is_found() {
-    for fault in Fault::PLANTED {
+    for fault in Fault::PLANTED.into_iter().chain(Fault::OF_WRITING_RECORDS) {
         let plan = Plan { seed: SEED, lists: 200, calls: Plan::CALLS, fault };
         let difference = run(&plan).expect_err(&format!("{fault:?} is not found"));
         println!("{fault:?}: {difference}");
@@ -80,6 +80,36 @@ fn a_number_that_cannot_be_is_a_complaint() {
     tally.count_started(1, 14).unwrap();
     let complaint = "from a start, synchronise one, 14: 1 calls, which cannot be".to_string();
     assert!(tally.complaints().contains(&complaint));
+}
+
+/// Each number of a written record that comes too seldom is named, and each kind of damage that it may find.
+#[test]
+fn too_few_written_records_are_noticed() {
+    let complaints = Tally::default().complaints();
+    for number in [0, 2, 3, 4, 5, 6, 7, 16] {
+        let wrong = "0 calls, at least 1000 are asked for";
+        let complaint = format!("damaged, write record, {number}: {wrong}");
+        assert!(complaints.contains(&complaint), "{complaint}");
+    }
+    for damage in ["contents alone", "length of the numbers run", "length of the buffer"] {
+        let complaint = format!("{damage}, write record: 0 calls");
+        assert!(complaints.contains(&complaint), "{complaint}");
+    }
+}
+
+/// 16 is a number of writing a record alone, and no list has that call.
+#[test]
+fn a_list_that_writes_a_record_is_a_complaint() {
+    let mut tally = Tally::default();
+    for kind in 0..9 {
+        tally.count_started(kind, 16).unwrap();
+    }
+    tally.count_started(8, 0).unwrap();
+    let complaints = tally.complaints();
+    let of_16 = complaints.iter().filter(|text| text.ends_with(", 16: 1 calls, which cannot be"));
+    assert_eq!(of_16.count(), 9);
+    let complaint = "from a start, write record, 0: 1 calls, which cannot be".to_string();
+    assert!(complaints.contains(&complaint));
 }
 
 #[test]

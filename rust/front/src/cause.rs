@@ -1,15 +1,41 @@
-//! Why a start was refused, and by which line of the script.
-//! The drill gives the number alone; the question behind it is asked once more here, of the same record.
+//! Why a start, or the writing of a record, was refused, and by which line of the script or policy.
+//! The drill and the library give the number alone; the question behind it is asked once more here, of the same numbers.
 
-use crate::input::{DrillInput, Number, MOST_ENTRIES, MOST_FRAMES, MOST_PAGES, SIZES_BYTES};
+use crate::explain::counted;
+use crate::input::SIZES_BYTES;
+use crate::policy::{MOST_ENTRIES, MOST_FRAMES, MOST_PAGES};
 use crate::refusals::refusal;
-use crate::LineError;
+use crate::{DrillInput, LineError, Number, Policy};
 
 impl DrillInput {
     /// What made the start answer this number.
     pub(crate) fn cause(&self, number: u64) -> Option<LineError> {
         match refusal(number)?.constant {
             "GUARD_RECORD_TOO_SHORT" => self.too_short(),
+            "GUARD_RECORD_LENGTH" => self.cut_short(),
+            _ => self.policy()?.cause(number),
+        }
+    }
+
+    fn too_short(&self) -> Option<LineError> {
+        let there = self.bytes.len();
+        let message = format!("{there} of the first {SIZES_BYTES} bytes are there");
+        (there < SIZES_BYTES).then(|| LineError::new(self.first_line, message))
+    }
+
+    /// Bytes past the record are calls, so that only too few of them are a fault.
+    fn cut_short(&self) -> Option<LineError> {
+        let Number { value: n, line } = self.listed()?;
+        let (there, needed) = (self.bytes.len(), SIZES_BYTES + 4 * usize::from(n));
+        let message = format!("the list of {n} needs {needed} bytes, and {there} are there");
+        (there < needed).then(|| LineError::new(line, message))
+    }
+}
+
+impl Policy {
+    /// What makes the library refuse the record with this number, and the line of it.
+    pub fn cause(&self, number: u64) -> Option<LineError> {
+        match refusal(number)?.constant {
             "GUARD_SIZE_OUT_OF_RANGE" => self.size(),
             "GUARD_COUNT_OUT_OF_RANGE" => self.count(),
             "GUARD_RECORD_LENGTH" => self.length(),
@@ -19,27 +45,15 @@ impl DrillInput {
         }
     }
 
-    /// V, F, n and e.
-    fn sizes(&self) -> Option<[Number; 4]> {
-        Some([self.number(0)?, self.number(2)?, self.number(4)?, self.number(6)?])
-    }
-
-    fn too_short(&self) -> Option<LineError> {
-        let there = self.bytes.len();
-        let message = format!("{there} of the first {SIZES_BYTES} bytes are there");
-        (there < SIZES_BYTES).then(|| LineError::new(self.first_line, message))
-    }
-
     fn size(&self) -> Option<LineError> {
-        let [pages, frames, _, _] = self.sizes()?;
-        let limits = [("pages", pages, MOST_PAGES), ("frames", frames, MOST_FRAMES)];
+        let limits = [("pages", self.pages, MOST_PAGES), ("frames", self.frames, MOST_FRAMES)];
         let (name, Number { value, line }, most) =
             limits.into_iter().find(|(_, size, most)| !(1..=*most).contains(&size.value))?;
         Some(LineError::new(line, format!("the number of {name} is {value}, not 1 to {most}")))
     }
 
     fn count(&self) -> Option<LineError> {
-        let [pages, _, listed, entries] = self.sizes()?;
+        let Policy { pages, listed, entries, .. } = self;
         let (v, n, e) = (pages.value, listed.value, entries.value);
         let (line, message) = if n == 0 {
             (listed.line, "no page is listed".into())
@@ -58,16 +72,16 @@ impl DrillInput {
         Some(LineError::new(line, message))
     }
 
+    /// Both arrays are as long as there are approvals; n is another number only where it is given.
     fn length(&self) -> Option<LineError> {
-        let Number { value: n, line } = self.number(4)?;
-        let (there, needed) = (self.bytes.len(), SIZES_BYTES + 4 * usize::from(n));
-        let message = format!("the list of {n} needs {needed} bytes, and {there} are there");
-        (there < needed).then(|| LineError::new(line, message))
+        let (Number { value: n, line }, there) = (self.listed, self.listed_pages.len());
+        let approved = counted(there as u64, "page is approved", "pages are approved");
+        let message = format!("'listed {n}' is given, and {approved}");
+        (there != usize::from(n)).then(|| LineError::new(line, message))
     }
 
     fn listed_page(&self) -> Option<LineError> {
-        let [v, _, n, e] = self.sizes()?.map(|size| size.value);
-        let pages: Vec<_> = self.numbers(SIZES_BYTES, n).collect();
+        let (v, e, pages) = (self.pages.value, self.entries.value, &self.listed_pages);
         let at = (0..pages.len()).find(|&at| {
             let page = pages[at].value;
             page >= v || at > 0 && page <= pages[at - 1].value
@@ -95,14 +109,9 @@ impl DrillInput {
     }
 
     fn listed_frame(&self) -> Option<LineError> {
-        let [_, f, n, _] = self.sizes()?.map(|size| size.value);
-        let frames = SIZES_BYTES + 2 * usize::from(n);
-        let Number { value, line } = self.numbers(frames, n).find(|frame| frame.value >= f)?;
+        let f = self.frames.value;
+        let Number { value, line } = *self.listed_frames.iter().find(|frame| frame.value >= f)?;
         let message = format!("frame {value} is not below {f}, the number of frames");
         Some(LineError::new(line, message))
-    }
-
-    fn numbers(&self, offset: usize, count: u16) -> impl Iterator<Item = Number> + '_ {
-        (0..usize::from(count)).map_while(move |at| self.number(offset + 2 * at))
     }
 }

@@ -134,7 +134,7 @@ fn changed(count: u64) -> String {
     counted(count, "shadow entry changed", "shadow entries changed")
 }
 
-fn counted(count: u64, one: &str, many: &str) -> String {
+pub(crate) fn counted(count: u64, one: &str, many: &str) -> String {
     format!("{count} {}", if count == 1 { one } else { many })
 }
 

@@ -1,14 +1,12 @@
 //! The drill's input with the script's line of every byte, so that an answer can be traced to its line.
 //! Record and calls are told apart as the drill does it.
 
-use crate::LineError;
+use crate::policy::MOST_PAGES;
+use crate::{LineError, Number, Policy};
 
 pub(crate) const SIZES_BYTES: usize = 8;
 const CALL_BYTES: usize = 16;
 const MOST_CALLS: usize = 1024;
-pub(crate) const MOST_PAGES: u16 = 2048;
-pub(crate) const MOST_FRAMES: u16 = 4096;
-pub(crate) const MOST_ENTRIES: u16 = 16;
 
 /// What the drill reads, made from a script.
 #[derive(Clone, Debug, PartialEq, Eq)]
@@ -18,13 +16,6 @@ pub struct DrillInput {
     lines: Vec<usize>,
     /// The line of the first item, which begins the record.
     pub(crate) first_line: usize,
-}
-
-/// A number of the record.
-#[derive(Clone, Copy)]
-pub(crate) struct Number {
-    pub value: u16,
-    pub line: usize,
 }
 
 impl DrillInput {
@@ -38,15 +29,39 @@ impl DrillInput {
     }
 
     /// The number of two bytes at an offset.
-    pub(crate) fn number(&self, offset: usize) -> Option<Number> {
+    fn number(&self, offset: usize) -> Option<Number> {
         let bytes = self.bytes.get(offset..offset + 2)?;
         let value = u16::from_le_bytes(bytes.try_into().ok()?);
         Some(Number { value, line: self.lines[offset] })
     }
 
+    /// As many numbers from an offset on, or those that are there.
+    fn numbers(&self, offset: usize, count: usize) -> Vec<Number> {
+        (0..count).map_while(|at| self.number(offset + 2 * at)).collect()
+    }
+
+    /// n, the number of listed pages.
+    pub(crate) fn listed(&self) -> Option<Number> {
+        self.number(4)
+    }
+
+    /// The policy as the drill reads it, where the sizes are there.
+    pub(crate) fn policy(&self) -> Option<Policy> {
+        let listed = self.listed()?;
+        let count = listed.value.into();
+        Some(Policy {
+            pages: self.number(0)?,
+            frames: self.number(2)?,
+            listed,
+            entries: self.number(6)?,
+            listed_pages: self.numbers(SIZES_BYTES, count),
+            listed_frames: self.numbers(SIZES_BYTES + 2 * count, count),
+        })
+    }
+
     /// Where the calls begin. Without a whole record of 1 to 2,048 pages the drill makes none.
     fn calls_begin(&self) -> Option<usize> {
-        let listed = self.number(4)?.value;
+        let listed = self.listed()?.value;
         let end = SIZES_BYTES + 4 * usize::from(listed);
         ((1..=MOST_PAGES).contains(&listed) && end <= self.bytes.len()).then_some(end)
     }

@@ -1,25 +1,29 @@
-//! The readable front of the page guard: scripts become drill input, drill output becomes words.
+//! The readable front of the page guard: scripts become drill input, policies sizes and arrays, drill output words.
 //! The words of the refusal numbers come from docs/refusals.txt alone.
 #![forbid(unsafe_code)]
 
 mod cause;
+pub mod console;
 mod explain;
 mod input;
+mod policy;
 mod refusals;
 mod run;
 mod script;
 mod text;
+mod words;
 
 use std::fmt;
 
 pub use explain::explain;
 pub use input::DrillInput;
+pub use policy::{Number, Policy};
 pub use refusals::{refusals, refusals_page, RefusalWords};
 pub use run::{run, Explained, RunError};
 pub use script::encode;
 pub use text::text;
 
-/// What is wrong with a line of a script or of drill output. Lines are counted from 1.
+/// What is wrong with a line of a script, a policy or drill output. Lines are counted from 1.
 #[derive(Clone, Debug, PartialEq, Eq)]
 pub struct LineError {
     pub line: usize,

@@ -4,9 +4,9 @@
 use std::error::Error;
 use std::ffi::{OsStr, OsString};
 use std::fs;
-use std::io::{self, Read, Write};
 use std::process::{Command, ExitCode};
 
+use front::console::{done, input, misused, print};
 use front::{encode, explain, refusals_page, run, text, DrillInput};
 
 const USAGE: &str = "\
@@ -35,25 +35,15 @@ fn main() -> ExitCode {
         Some((command, rest)) => (command.to_str(), rest),
         None => (None, &[][..]),
     };
-    let done = match (command, rest) {
+    done(match (command, rest) {
         (Some("encode"), []) => encode_input(),
         (Some("explain"), []) => explain_input(None),
         (Some("explain"), [script]) => explain_input(Some(script)),
         (Some("run"), [drill, arguments @ ..]) => run_and_print(drill, arguments),
         (Some("refusals"), []) => print(refusals_page().as_bytes()),
         (Some("help" | "--help" | "-h"), []) => print(USAGE.as_bytes()),
-        _ => {
-            complain(USAGE);
-            return ExitCode::from(2);
-        }
-    };
-    match done {
-        Ok(()) => ExitCode::SUCCESS,
-        Err(message) => {
-            complain(&(message + "\n"));
-            ExitCode::FAILURE
-        }
-    }
+        _ => return misused(USAGE),
+    })
 }
 
 fn encode_input() -> Result<(), String> {
@@ -88,24 +78,4 @@ fn read_script(path: &OsStr) -> Result<DrillInput, String> {
     let bytes = fs::read(path).map_err(|error| format!("{name} cannot be read: {error}"))?;
     let script = text(bytes).and_then(|script| encode(&script));
     script.map_err(|error| format!("{name}, {error}"))
-}
-
-/// The whole of standard input.
-fn input() -> Result<String, String> {
-    let mut bytes = Vec::new();
-    let read = io::stdin().read_to_end(&mut bytes);
-    read.map_err(|error| format!("standard input cannot be read: {error}"))?;
-    text(bytes).map_err(in_words)
-}
-
-fn print(bytes: &[u8]) -> Result<(), String> {
-    let mut out = io::stdout().lock();
-    out.write_all(bytes)
-        .and_then(|()| out.flush())
-        .map_err(|error| format!("standard output cannot be written: {error}"))
-}
-
-/// Where standard error is closed too, the exit status says it alone.
-fn complain(message: &str) {
-    let _ = io::stderr().write_all(message.as_bytes());
 }

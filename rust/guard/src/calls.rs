@@ -175,7 +175,7 @@ fn sizes(policy: &[u8]) -> (usize, usize) {
 }
 
 /// The two numbers of an accepted call.
-fn answer(call: impl FnOnce(&mut [u64]) -> u64) -> Result<[u64; NUMBERS], Refusal> {
+pub(crate) fn answer(call: impl FnOnce(&mut [u64]) -> u64) -> Result<[u64; NUMBERS], Refusal> {
     let mut numbers = [0; NUMBERS];
     match call(&mut numbers) {
         0 => Ok(numbers),

@@ -1,5 +1,6 @@
 //! The proved page guard as a Rust type: [`Guard`] owns its state and tables, and every call is safe on every input.
 //! The calls run in the archive of `crates/exports`, where each is proved to answer what documents 01 and 02 say.
+//! [`Policy`] builds the policy record that a guard starts with.
 //!
 //! ```
 //! use guard::{Frames, Guard, Mode, Refusal, Synchronised};
@@ -21,7 +22,9 @@
 #[allow(unsafe_code)]
 pub mod archive;
 mod calls;
+mod policy;
 mod refusal;
 
 pub use calls::{Frames, Guard, Mode, Synchronised, ENTRY_PAGES, NO_FRAME};
+pub use policy::{write_record, Policy};
 pub use refusal::Refusal;

@@ -8,4 +8,4 @@ mod record;
 
 pub use entry::KernelEntry;
 pub use random::Random;
-pub use record::{random_record, record};
+pub use record::{random_record, record, Parts};

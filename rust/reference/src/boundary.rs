@@ -1,6 +1,8 @@
 //! The reference behind the boundary of include/guard.h: the state in a run of 21 words, the two numbers in a run of two.
-//! Both runs are part of question 7; a refused call changes neither the state run nor a table, and a numbers run of two gets zeros.
+//! Both runs are part of question 7; a refused call changes no state run, table or buffer, and a numbers run of two gets zeros.
 
+use crate::fault;
+use crate::record::write_where;
 use crate::start::start_where;
 use crate::state::{Answer, Mode, Refusal, State};
 
@@ -54,6 +56,35 @@ pub fn start(
     if answer.is_ok() {
         put_state(run, &state);
     }
+    reply(numbers, answer)
+}
+
+/// The writing of a record, which has no state. The numbers run is asked for after question 6 and before 16.
+#[inline(always)]
+#[allow(clippy::too_many_arguments)]
+pub fn write_record(
+    v: u64,
+    f: u64,
+    n: u64,
+    e: u64,
+    pages: &[u16],
+    frames: &[u16],
+    buffer: &mut [u8],
+    numbers: &mut [u64],
+) -> u64 {
+    write_variant::<{ fault::NONE }>([v, f, n, e], pages, frames, buffer, numbers)
+}
+
+#[inline(always)]
+pub(crate) fn write_variant<const VARIANT: u8>(
+    sizes: [u64; 4],
+    pages: &[u16],
+    frames: &[u16],
+    buffer: &mut [u8],
+    numbers: &mut [u64],
+) -> u64 {
+    let run_fits = numbers.len() == NUMBERS;
+    let answer = write_where::<VARIANT>(run_fits, sizes, pages, frames, buffer);
     reply(numbers, answer)
 }
 

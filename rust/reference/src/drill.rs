@@ -4,13 +4,13 @@
 use std::io::{self, BufWriter, ErrorKind, Read, Write};
 
 use crate::fault::{self, Fault};
+use crate::record::{record_len, SIZES_BYTES};
 use crate::state::{vector_len, Answer, Mode, Refusal, State, MAX_FRAMES, MAX_PAGES, MAX_VECTOR};
 use crate::{device_write, enter, fetch, leave, start};
 
 const MAX_CALLS: usize = 1024;
-const SIZES_BYTES: usize = 8;
 const CALL_BYTES: usize = 16;
-const MAX_RECORD: usize = SIZES_BYTES + 4 * MAX_PAGES as usize;
+const MAX_RECORD: usize = record_len(MAX_PAGES);
 
 /// Runs the drill.
 pub fn drill(input: impl Read, out: impl Write) -> io::Result<()> {
@@ -40,7 +40,7 @@ fn read_record(input: &mut impl Read, record: &mut [u8; MAX_RECORD]) -> io::Resu
     if taken < SIZES_BYTES || !(1..=MAX_PAGES).contains(&n) {
         return Ok(taken);
     }
-    let rest = &mut record[SIZES_BYTES..SIZES_BYTES + 4 * usize::from(n)];
+    let rest = &mut record[SIZES_BYTES..record_len(n)];
     Ok(taken + fill(input, rest)?)
 }
 

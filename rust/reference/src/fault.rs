@@ -3,6 +3,7 @@
 //! The calls here take the mistake as an argument; the plain calls are compiled apart and do not pay for it.
 
 use crate::access::write_checking;
+use crate::boundary;
 use crate::state::{Answer, State};
 use crate::sync;
 
@@ -23,6 +24,12 @@ pub enum Fault {
     IgnoreReserved = 5,
     /// K1: asking for them on pages that are not approved alone.
     ReservedIfNotApproved = 6,
+    /// K2: cutting the sizes to 16 bits before asking about them.
+    CutSizes = 7,
+    /// K2: asking for the buffer before the numbers run.
+    BufferBeforeRun = 8,
+    /// K2: writing a byte past the record.
+    BytePastRecord = 9,
 }
 
 pub(crate) const NONE: u8 = Fault::None as u8;
@@ -31,11 +38,14 @@ pub(crate) const WRITABLE_ALIAS: u8 = Fault::WritableAlias as u8;
 pub(crate) const FORGET_APPROVAL: u8 = Fault::ForgetApproval as u8;
 pub(crate) const IGNORE_RESERVED: u8 = Fault::IgnoreReserved as u8;
 pub(crate) const RESERVED_IF_NOT_APPROVED: u8 = Fault::ReservedIfNotApproved as u8;
+pub(crate) const CUT_SIZES: u8 = Fault::CutSizes as u8;
+pub(crate) const BUFFER_BEFORE_RUN: u8 = Fault::BufferBeforeRun as u8;
+pub(crate) const BYTE_PAST_RECORD: u8 = Fault::BytePastRecord as u8;
 /// No mistake of the list: the variant without steps 2 and 4.
 pub(crate) const NO_APPROVAL: u8 = 255;
 
 impl Fault {
-    /// The four mistakes in document 01's order, then those of the requests.
+    /// The mistakes of calls that a list may have: the four in document 01's order, then those of the requests.
     pub const PLANTED: [Fault; 6] = [
         Fault::TrustKernelFrame,
         Fault::WritableAlias,
@@ -44,6 +54,10 @@ impl Fault {
         Fault::IgnoreReserved,
         Fault::ReservedIfNotApproved,
     ];
+
+    /// The mistakes of writing a record, which no list and no drill does.
+    pub const OF_WRITING_RECORDS: [Fault; 3] =
+        [Fault::CutSizes, Fault::BufferBeforeRun, Fault::BytePastRecord];
 }
 
 /// [`crate::synchronise_one`] with a mistake.
@@ -57,12 +71,12 @@ pub fn synchronise_one(
     page: u64,
 ) -> Answer {
     let run = match fault {
-        Fault::None | Fault::FirstPageOnly => sync::one::<NONE>,
         Fault::TrustKernelFrame => sync::one::<TRUST_KERNEL_FRAME>,
         Fault::WritableAlias => sync::one::<WRITABLE_ALIAS>,
         Fault::ForgetApproval => sync::one::<FORGET_APPROVAL>,
         Fault::IgnoreReserved => sync::one::<IGNORE_RESERVED>,
         Fault::ReservedIfNotApproved => sync::one::<RESERVED_IF_NOT_APPROVED>,
+        _ => sync::one::<NONE>,
     };
     run(state, kernel, shadow, map, exclusion, page)
 }
@@ -77,12 +91,12 @@ pub fn synchronise_all(
     exclusion: &[u8],
 ) -> Answer {
     let run = match fault {
-        Fault::None | Fault::FirstPageOnly => sync::all::<NONE>,
         Fault::TrustKernelFrame => sync::all::<TRUST_KERNEL_FRAME>,
         Fault::WritableAlias => sync::all::<WRITABLE_ALIAS>,
         Fault::ForgetApproval => sync::all::<FORGET_APPROVAL>,
         Fault::IgnoreReserved => sync::all::<IGNORE_RESERVED>,
         Fault::ReservedIfNotApproved => sync::all::<RESERVED_IF_NOT_APPROVED>,
+        _ => sync::all::<NONE>,
     };
     run(state, kernel, shadow, map, exclusion)
 }
@@ -101,4 +115,22 @@ pub fn write(
     } else {
         write_checking::<true>(state, shadow, exclusion, address, length)
     }
+}
+
+/// [`boundary::write_record`] with a mistake; the sizes are V, F, n and e.
+pub fn write_record(
+    fault: Fault,
+    sizes: [u64; 4],
+    pages: &[u16],
+    frames: &[u16],
+    buffer: &mut [u8],
+    numbers: &mut [u64],
+) -> u64 {
+    let run = match fault {
+        Fault::CutSizes => boundary::write_variant::<CUT_SIZES>,
+        Fault::BufferBeforeRun => boundary::write_variant::<BUFFER_BEFORE_RUN>,
+        Fault::BytePastRecord => boundary::write_variant::<BYTE_PAST_RECORD>,
+        _ => boundary::write_variant::<NONE>,
+    };
+    run(sizes, pages, frames, buffer, numbers)
 }

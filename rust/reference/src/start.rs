@@ -2,9 +2,8 @@
 //! All questions come before the first store, so a refused start leaves the tables as they were.
 
 use crate::entry::{approved, framed, NO_FRAME};
-use crate::state::{
-    vector_len, Answer, Mode, Refusal, State, ENTRY_PAGES, MAX_FRAMES, MAX_PAGES, MAX_VECTOR,
-};
+use crate::record::{are_below, are_rising_below, ask_sizes};
+use crate::state::{vector_len, Answer, Mode, Refusal, State, ENTRY_PAGES, MAX_VECTOR};
 
 /// Two bytes of a record: a little-endian 16-bit number.
 type Word = [u8; 2];
@@ -47,21 +46,16 @@ impl<'a> Policy<'a> {
         let mut reader = Reader::new(record);
         let sizes = reader.words(4).ok_or(Refusal::RecordTooShort)?;
         let [v, f, n, e] = [0, 1, 2, 3].map(|i| u16::from_le_bytes(sizes[i]));
-        if !(1..=MAX_PAGES).contains(&v) || !(1..=MAX_FRAMES).contains(&f) {
-            return Err(Refusal::SizeOutOfRange);
-        }
-        if !(1..=v).contains(&n) || !(1..=n.min(ENTRY_PAGES as u16)).contains(&e) {
-            return Err(Refusal::CountOutOfRange);
-        }
+        ask_sizes([v, f, n, e])?;
         let pages = reader.words(n.into()).ok_or(Refusal::RecordLength)?;
         let frames = reader.words(n.into()).ok_or(Refusal::RecordLength)?;
         if !reader.is_at_end() {
             return Err(Refusal::RecordLength);
         }
-        if !are_rising_below(pages, v) {
+        if !are_rising_below(numbers(pages), v) {
             return Err(Refusal::ListedPage);
         }
-        if frames.iter().any(|&frame| u16::from_le_bytes(frame) >= f) {
+        if !are_below(numbers(frames), f) {
             return Err(Refusal::ListedFrame);
         }
         Ok(Policy { v, f, e, pages, frames })
@@ -69,8 +63,7 @@ impl<'a> Policy<'a> {
 
     /// The listed pages with their frames.
     fn listed(&self) -> impl Iterator<Item = (u16, u16)> + 'a {
-        let pages = self.pages.iter().map(|&page| u16::from_le_bytes(page));
-        pages.zip(self.frames.iter().map(|&frame| u16::from_le_bytes(frame)))
+        numbers(self.pages).zip(numbers(self.frames))
     }
 
     /// Kernel mode on the first entry page.
@@ -84,14 +77,9 @@ impl<'a> Policy<'a> {
     }
 }
 
-fn are_rising_below(pages: &[Word], v: u16) -> bool {
-    let mut least = 0;
-    pages.iter().all(|&page| {
-        let page = u16::from_le_bytes(page);
-        let fits = least <= page && page < v;
-        least = page.saturating_add(1);
-        fits
-    })
+/// Words as numbers.
+fn numbers(words: &[Word]) -> impl Iterator<Item = u16> + '_ {
+    words.iter().map(|&word| u16::from_le_bytes(word))
 }
 
 /// Starts the guard: the state, and n and e or the refusal.

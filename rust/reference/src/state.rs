@@ -112,10 +112,11 @@ pub enum Refusal {
     Excluded = 13,
     CallCutShort = 14,
     UnknownKind = 15,
+    BufferTooShort = 16,
 }
 
 impl Refusal {
-    pub const ALL: [Refusal; 15] = [
+    pub const ALL: [Refusal; 16] = [
         Refusal::RecordTooShort,
         Refusal::SizeOutOfRange,
         Refusal::CountOutOfRange,
@@ -131,6 +132,7 @@ impl Refusal {
         Refusal::Excluded,
         Refusal::CallCutShort,
         Refusal::UnknownKind,
+        Refusal::BufferTooShort,
     ];
 
     #[inline]

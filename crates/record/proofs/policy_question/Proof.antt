@@ -1,5 +1,5 @@
 use borrow.Author.Needs.{needs}
-use Rattle.record.proofs.ArrayLaws.{pages-narrow, frames-narrow, policy-2, policy-3, policy-4, policy-5, policy-6, policy-yes}
+use Rattle.record.proofs.ArrayLaws.{pages-narrow, frames-narrow, frames-some, policy-2, policy-3, policy-4, policy-5, policy-6, policy-yes}
 use Rattle.record.proofs.policy_question.Statement.{statement}
 use Rattle.record.proofs.policy_question.Tie as tie
 
@@ -21,6 +21,9 @@ returns-4 c = search (needs, policy-5)
 cast-frames-below : tie.Need-cast-frames-below
 cast-frames-below c = search (needs, frames-narrow)
 
+frames-below-requires : tie.Need-frames-below-requires
+frames-below-requires c κs = search (needs, frames-some)
+
 returns-5 : tie.Need-returns-5
 returns-5 c = search (needs, policy-6)
 
@@ -31,4 +34,4 @@ pub policy-question-spec : {M : Type 1} → statement M
 policy-question-spec =
     tie.close
     (tie.spec (λ c κs. search needs) returns (λ c κs. search needs) returns-2 (λ c κs. search needs) returns-3
-    cast-pages-rising (λ c κs. search needs) returns-4 cast-frames-below (λ c κs. search needs) returns-5 returns-6)
+    cast-pages-rising (λ c κs. search needs) returns-4 cast-frames-below frames-below-requires returns-5 returns-6)

@@ -1,0 +1,2 @@
+-- What the loops of this crate find.
+pub mod Arrays

@@ -1,0 +1,228 @@
+//! The program `guard-record` as a person runs it: records, refusals with their lines, messages and exit status.
+//! Expected bytes are written out; beside them, the front's own encoder makes the same of each policy.
+
+use std::ffi::OsStr;
+use std::fs;
+use std::io::Write;
+use std::os::unix::ffi::OsStrExt;
+use std::path::Path;
+use std::process::{Child, Command, Output, Stdio};
+
+use front::encode;
+
+const POLICY: &str = "policy pages 4 frames 4\napprove page 1 frame 2 entry\n";
+
+/// The program, started, with pipes for its input, output and messages.
+fn started(arguments: &[&OsStr]) -> Child {
+    let mut command = Command::new(env!("CARGO_BIN_EXE_guard-record"));
+    let piped = command.stdin(Stdio::piped()).stdout(Stdio::piped()).stderr(Stdio::piped());
+    piped.args(arguments).spawn().unwrap()
+}
+
+/// Gives the program its input, and waits for its end.
+fn finished(mut child: Child, input: &[u8]) -> Output {
+    // A program that ends before it reads closes the pipe.
+    let _ = child.stdin.take().unwrap().write_all(input);
+    child.wait_with_output().unwrap()
+}
+
+/// The record of a policy, where nothing is told.
+fn record(policy: impl AsRef<[u8]>) -> Vec<u8> {
+    let output = finished(started(&[]), policy.as_ref());
+    assert_eq!((output.status.code(), &*output.stderr), (Some(0), &b""[..]));
+    output.stdout
+}
+
+/// The message on standard error, where the status is 1 and nothing is printed.
+fn message(policy: impl AsRef<[u8]>) -> String {
+    let output = finished(started(&[]), policy.as_ref());
+    assert_eq!((output.status.code(), &*output.stdout), (Some(1), &b""[..]));
+    String::from_utf8(output.stderr).unwrap()
+}
+
+fn example(name: &str) -> String {
+    let path = Path::new(env!("CARGO_MANIFEST_DIR")).join("../../examples").join(name);
+    fs::read_to_string(&path).unwrap_or_else(|error| panic!("{}: {error}", path.display()))
+}
+
+/// A policy line of these sizes after a comment, and an approval for each part of a list: lines 2, 3 and so on.
+fn policy(sizes: &str, list: &str) -> String {
+    let approvals = list.split('|').map(|item| format!("approve {item}\n"));
+    format!("# a policy\npolicy {sizes}\n{}", approvals.collect::<String>())
+}
+
+fn assert_written(policy: &str, numbers: &[u16]) {
+    let bytes: Vec<_> = numbers.iter().flat_map(|number| number.to_le_bytes()).collect();
+    assert_eq!(record(policy), bytes, "{policy}");
+    assert_eq!(encode(policy).unwrap().bytes, bytes, "{policy}");
+}
+
+#[test]
+fn accepted_policies() {
+    assert_eq!(record(POLICY), [4, 0, 4, 0, 1, 0, 1, 0, 1, 0, 2, 0]);
+    assert_eq!(record(format!("\u{feff}{POLICY}")), record(POLICY), "with a byte order mark");
+    assert_written(POLICY, &[4, 4, 1, 1, 1, 2]);
+    assert_written(&example("hotel.policy"), &[12, 16, 3, 2, 0, 1, 4, 1, 2, 3]);
+    // Entry pages come first; both bytes of a number are in use.
+    let list =
+        "page 0x201 frame 9|page 0 frame 0x403 entry|page 0x202 frame 9|page 7 frame 8 entry";
+    let numbers = [0x302, 0x504, 4, 2, 0, 7, 0x201, 0x202, 0x403, 8, 9, 9];
+    assert_written(&policy("pages 0x302 frames 0x504", list), &numbers);
+    // Counts that are given, and fit.
+    let one = policy("pages 4 frames 4 listed 1 entries 1", "page 1 frame 2");
+    assert_written(&one, &[4, 4, 1, 1, 1, 2]);
+    let two = policy("pages 4 frames 4 entries 2", "page 1 frame 2|page 3 frame 2");
+    assert_written(&two, &[4, 4, 2, 2, 1, 3, 2, 2]);
+}
+
+#[test]
+fn the_largest_policy() {
+    let approvals: String =
+        (0..2048).map(|page| format!("approve page {page} frame {}\n", 4095 - page)).collect();
+    let policy = format!("policy pages 2048 frames 4096 entries 16\n{approvals}");
+    let record = record(&policy);
+    assert_eq!(record.len(), 8200);
+    assert_eq!(record, encode(&policy).unwrap().bytes);
+}
+
+/// A refused policy: line, number and cause, without the words of the number.
+fn assert_refused(policy: &str, expected: &str) {
+    let told = message(policy);
+    let (line, refused) = told.split_once(": record refused: ").expect("a line is named");
+    let (number, refused) = refused.split_once(", ").unwrap();
+    let cause = refused.split_once(" (").expect("a cause is given").1;
+    let cause = cause.strip_suffix(")\n").unwrap();
+    assert_eq!(format!("{line}: {number}, {cause}"), expected, "{policy}");
+}
+
+#[test]
+fn sizes_and_counts_that_are_refused() {
+    let policies = [
+        ("pages 0 frames 4", "line 2: 2, the number of pages is 0, not 1 to 2048"),
+        ("pages 4 frames 4097", "line 2: 2, the number of frames is 4097, not 1 to 4096"),
+        ("pages 4 frames 4 listed 0", "line 2: 3, no page is listed"),
+        ("pages 4 frames 4 listed 5", "line 2: 3, 5 pages are listed, and the policy has 4"),
+        ("pages 4 frames 4 entries 2", "line 2: 3, there are 2 entry pages, and 1 listed in all"),
+        ("pages 4 frames 4 entries 17", "line 2: 3, there are 17 entry pages, more than 16"),
+    ];
+    for (sizes, expected) in policies {
+        assert_refused(&policy(sizes, "page 1 frame 2 entry"), expected);
+    }
+    let no_entry = "line 3: 3, there is no entry page: mark the lowest listed pages 'entry'";
+    assert_refused(&policy("pages 4 frames 4", "page 1 frame 2"), no_entry);
+    let three = policy("pages 2 frames 4", "page 0 frame 2 entry|page 1 frame 2|page 2 frame 2");
+    assert_refused(&three, "line 5: 3, 3 pages are listed, and the policy has 2");
+}
+
+/// An array may be shorter or longer than n; 4 comes before 5 and 6.
+#[test]
+fn arrays_that_are_refused() {
+    let shorter = policy("pages 4 frames 4 listed 2", "page 9 frame 9 entry");
+    assert_refused(&shorter, "line 2: 4, 'listed 2' is given, and 1 page is approved");
+    let longer = policy("pages 4 frames 4 listed 1", "page 1 frame 2 entry|page 9 frame 9");
+    assert_refused(&longer, "line 2: 4, 'listed 1' is given, and 2 pages are approved");
+}
+
+#[test]
+fn pages_and_frames_that_are_refused() {
+    let lists = [
+        ("page 4 frame 9 entry", "line 3: 5, page 4 is not below 4, the number of pages"),
+        ("page 1 frame 2|page 1 frame 2 entry", "line 4: 5, page 1 is listed on line 3 too"),
+        (
+            "page 2 frame 2|page 3 frame 2 entry",
+            "line 4: 5, entry page 3 is not among the lowest: page 2 on line 3 is no entry page",
+        ),
+        (
+            "page 1 frame 2 entry|page 3 frame 2|page 2 frame 2",
+            "line 5: 5, page 2 comes after page 3 on line 4",
+        ),
+        (
+            "page 1 frame 2 entry|page 2 frame 4",
+            "line 4: 6, frame 4 is not below 4, the number of frames",
+        ),
+    ];
+    for (list, expected) in lists {
+        assert_refused(&policy("pages 4 frames 4", list), expected);
+    }
+}
+
+#[test]
+fn the_whole_message() {
+    let page = message("policy pages 4 frames 4\n\napprove page 4 frame 2 entry");
+    let expected = "line 3: record refused: 5, a listed page is out of range or out of order \
+                    (page 4 is not below 4, the number of pages)\n";
+    assert_eq!(page, expected);
+    let array = message("policy pages 4 frames 4 listed 2\napprove page 1 frame 2 entry");
+    let expected =
+        "line 1: record refused: 4, the length of the policy record or of an array does not fit n \
+                    ('listed 2' is given, and 1 page is approved)\n";
+    assert_eq!(array, expected);
+}
+
+/// The longest list that can be written does not fit a pipe; the library refuses it, and nothing is cut.
+#[test]
+fn the_longest_list() {
+    let list = "approve page 0 frame 0 entry\n".repeat(65535);
+    let expected = "line 3: record refused: 3, n or e is out of range \
+                    (65535 pages are listed, and the policy has 1)\n";
+    assert_eq!(message(format!("policy pages 1 frames 1\n{list}")), expected);
+    let one_more = format!("policy pages 1 frames 1\n{list}approve page 0 frame 0 entry\n");
+    assert_eq!(message(one_more), "line 65537: a policy lists at most 65535 pages\n");
+}
+
+#[test]
+fn bad_input_gives_a_line_and_nothing_else() {
+    let none = "is no item of a policy; an item is policy or approve";
+    let inputs = [
+        (format!("{POLICY}fetch page 1\n"), format!("line 3: 'fetch' {none}\n")),
+        (format!("{POLICY}\nbytes 1\n"), format!("line 4: 'bytes' {none}\n")),
+        (example("hotel.script"), format!("line 10: 'edit' {none}\n")),
+        (
+            format!("{POLICY}{POLICY}"),
+            "line 3: there is one 'policy' line, at the beginning\n".into(),
+        ),
+        (
+            "approve page 1 frame 2".into(),
+            "line 1: 'approve' comes after the 'policy' line\n".into(),
+        ),
+        (String::new(), "line 1: there is no 'policy' line\n".into()),
+        (
+            "policy pages 4 frames 65536".into(),
+            "line 1: the number of frames 65536 does not fit its field, at most 65535\n".into(),
+        ),
+    ];
+    for (input, expected) in inputs {
+        assert_eq!(message(input), expected);
+    }
+    assert_eq!(message(b"\xff\xfep\0"), "line 1: the text is UTF-16: save it as UTF-8\n");
+    assert_eq!(message(b"# 1\n# \xff\n"), "line 2: the text is not UTF-8\n");
+}
+
+#[test]
+fn wrong_use_gives_the_usage() {
+    let odd = OsStr::from_bytes(b"\xff\x1b");
+    for arguments in [&["file".as_ref()][..], &["help".as_ref(), "help".as_ref()], &[odd]] {
+        let output = finished(started(arguments), POLICY.as_bytes());
+        assert_eq!(output.status.code(), Some(2), "{arguments:?}");
+        assert!(output.stdout.is_empty() && output.stderr.starts_with(b"usage: guard-record < "));
+    }
+    for help in ["help", "--help", "-h"] {
+        let output = finished(started(&[help.as_ref()]), b"");
+        assert_eq!(output.status.code(), Some(0), "{help}");
+        assert!(output.stderr.is_empty() && output.stdout.starts_with(b"usage: guard-record < "));
+    }
+}
+
+/// No panic, which would end with 101, where nobody reads what the program writes.
+#[test]
+fn closed_pipes() {
+    let mut child = started(&[]);
+    drop(child.stdout.take());
+    let output = finished(child, POLICY.as_bytes());
+    assert_eq!(output.status.code(), Some(1));
+    let told = String::from_utf8(output.stderr).unwrap();
+    assert!(told.starts_with("standard output cannot be written: "), "{told}");
+    let mut child = started(&[]);
+    drop(child.stderr.take());
+    assert_eq!(finished(child, b"no policy").status.code(), Some(1));
+}
