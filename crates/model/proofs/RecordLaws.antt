@@ -16,7 +16,7 @@ use Rattle.model.specs.Keeps.{Tables}
 use Rattle.model.specs.Policy.{Givens, Policy, numberAt, numbersAt, policyOf, startGuard}
 use Rattle.model.specs.Questions.{firstNo, policyQuestions, givensInRange, recordQuestions, lengthsOf, lengthsFit, startQuestions}
 use Rattle.model.specs.Calls.{accepted, settle, outcome, startOf}
-use Rattle.model.specs.Record.{policyBy, numberBytes, numbersBytes, recordOf, writeRecordQuestions, Written, written, writeRecordOf, WrittenStarts, WrittenAgain}
+use Rattle.model.specs.Record.{policyBy, numberBytes, numbersBytes, recordOf, arraysExact, writeRecordQuestions, Written, written, writeRecordOf, WrittenStarts, WrittenAgain}
 use Rattle.model.proofs.QuestionLaws.{both-yes, both-first, both-second, asked, numbered, all-yes, firstNo-yes, firstNo-back, firstNo-both, settle-accepted, settle-number}
 use Rattle.model.proofs.CallLaws.{none-left}
 use Rattle.model.proofs.PolicyLaws.{length-numbersAt, getD-numbersAt, exact-yes, policy-asked, record-length as read-length}
@@ -135,23 +135,23 @@ record-same bytes small long =
 
 -- A call that writes a record and is accepted: its policy has passed questions 2 to 6, and both arrays have n numbers.
 module _ (numbersFit : Bool) (policy : Policy) (room : ℕ) (h : firstNo (writeRecordQuestions numbersFit policy room) ≡ 0) where
-  exact : Bool
-  exact = both (eqb (length (policy .listedPages)) (policy .count)) (eqb (length (policy .listedFrames)) (policy .count))
-
-  front : firstNo (policyQuestions true true exact policy) ≡ 0
-  unfolding writeRecordQuestions exact
-  front = firstNo-both (policyQuestions true true exact policy) _ h
+  front : firstNo (policyQuestions true true (arraysExact policy) policy) ≡ 0
+  unfolding writeRecordQuestions
+  front = firstNo-both (policyQuestions true true (arraysExact policy) policy) _ h
 
   pub write-passed : firstNo (policyQuestions true true true policy) ≡ 0
-  write-passed = policy-asked true true exact policy front
+  write-passed = policy-asked true true (arraysExact policy) policy front
+
+  exact : arraysExact policy ≡ true
+  exact = exact-yes true true (arraysExact policy) policy front
 
   pub pages-exact : length (policy .listedPages) ≡ policy .count
-  unfolding exact
-  pages-exact = eqb-true _ _ (both-first _ _ (exact-yes true true exact policy front))
+  unfolding arraysExact
+  pages-exact = eqb-true _ _ (both-first _ _ exact)
 
   pub frames-exact : length (policy .listedFrames) ≡ policy .count
-  unfolding exact
-  frames-exact = eqb-true _ _ (both-second (eqb (length (policy .listedPages)) (policy .count)) _ (exact-yes true true exact policy front))
+  unfolding arraysExact
+  frames-exact = eqb-true _ _ (both-second (eqb (length (policy .listedPages)) (policy .count)) _ exact)
 
   pub room-there : 8 + 4 * policy .count ≤ room
   unfolding writeRecordQuestions policyQuestions asked numbered both either
@@ -168,7 +168,7 @@ record-asked given bytes policy h long more =
 write-asked : (policy : Policy) (room : ℕ) → firstNo (policyQuestions true true true policy) ≡ 0
     → length (policy .listedPages) ≡ policy .count → length (policy .listedFrames) ≡ policy .count → 8 + 4 * policy .count ≤ room
     → firstNo (writeRecordQuestions true policy room) ≡ 0
-unfolding writeRecordQuestions policyQuestions numbered both
+unfolding writeRecordQuestions arraysExact policyQuestions numbered both
 write-asked policy room h pages-fit frames-fit fits =
     rw (eq-eqb _ _ pages-fit, eq-eqb _ _ frames-fit)
     (firstNo-back (policyQuestions true true true policy) _ refl h ∙ (firstNo-yes 7 _ refl ∙ (firstNo-yes 16 [] (le-leb (8 + 4 * policy .count) room fits) ∙ sym none-left)))

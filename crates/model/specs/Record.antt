@@ -30,13 +30,16 @@ unfoldable pub recordOf : Policy → List ℕ
 recordOf policy =
     numbersBytes (policy .pages ∷ policy .frames ∷ policy .count ∷ policy .entryCount ∷ (policy .listedPages ++ policy .listedFrames))
 
--- "The input passes questions 2, 3, 5 and 6, where each array must also have exactly n numbers, else 4." Question 1 is about bytes, and nothing
--- is given beside the policy: both are answered yes. "It refuses with 16, as the last question, an output buffer shorter than the record."
--- numbersFit: the run for the call's numbers, where it is lent one, has its length; room: the buffer's length.
+-- "each array must also have exactly n numbers, else 4"
+unfoldable pub arraysExact : Policy → Bool
+arraysExact policy = both (eqb (length (policy .listedPages)) (policy .count)) (eqb (length (policy .listedFrames)) (policy .count))
+
+-- "The input passes questions 2, 3, 5 and 6": the start's. Question 1 is about a record's bytes, and nothing else is given of which 3 asks, so that
+-- both are answered yes. "It refuses with 16, as the last question, an output buffer shorter than the record." numbersFit: the run for the call's
+-- numbers, where it is lent one, has its length. room: the buffer's.
 unfoldable pub writeRecordQuestions : Bool → Policy → ℕ → List Question
 writeRecordQuestions numbersFit policy room =
-    policyQuestions true true (both (eqb (length (policy .listedPages)) (policy .count)) (eqb (length (policy .listedFrames)) (policy .count))) policy
-    ++ (question 7 numbersFit ∷ question 16 (leb (8 + 4 * policy .count) room) ∷ [])
+    policyQuestions true true (arraysExact policy) policy ++ (question 7 numbersFit ∷ question 16 (leb (8 + 4 * policy .count) room) ∷ [])
 
 -- What the call gave: its reply, and the buffer after it.
 pub record Written : Type 0 where

@@ -16,7 +16,7 @@ use Rattle.model.specs.Basics.{both, within}
 use Rattle.model.specs.Edges.{pagesInRange, framesInRange}
 use Rattle.model.specs.Policy.{Policy}
 use Rattle.model.specs.Questions.{firstNo, sizesInRange, countsInRange, rising, allBelow, policyQuestions}
-use Rattle.model.specs.Record.{policyBy}
+use Rattle.model.specs.Record.{policyBy, arraysExact}
 use Rattle.model.proofs.QuestionLaws.{both-true, both-first, both-second, within-low, within-high}
 use Rattle.model.proofs.PolicyLaws.{rising-none, rising-more, rising-no, allBelow-none}
 use Rattle.record.specs.Arrays.{highestOf}
@@ -89,16 +89,13 @@ module _ (pages frames count entries : ℕ) (ps fs : List ℕ) where
   abbrev policy : Policy
   policy = policyBy pages frames count entries ps fs
 
-  abbrev exact : Bool
-  exact = both (eqb (length ps) count) (eqb (length fs) count)
-
   module _ (sizes : Bool) (e2 : sizes ≡ both (pagesInRange pages) (framesInRange frames)) where
     is2 : sizes ≡ sizesInRange policy
     unfolding sizesInRange
     is2 = e2
 
-    pub policy-2 : not sizes ≡ true → 2 ≡ firstNo (policyQuestions true true exact policy)
-    policy-2 h = asked-2 true true exact policy refl sizes is2 h
+    pub policy-2 : not sizes ≡ true → 2 ≡ firstNo (policyQuestions true true (arraysExact policy) policy)
+    policy-2 h = asked-2 true true (arraysExact policy) policy refl sizes is2 h
 
     module _ (h2 : not sizes ≡ false) where
       module _ (counts : Bool) (e3 : counts ≡ both (within 1 pages count) (within 1 (min count 16) entries)) where
@@ -106,23 +103,27 @@ module _ (pages frames count entries : ℕ) (ps fs : List ℕ) where
         unfolding countsInRange
         is3 = e3 ∙ sym (both-true _)
 
-        pub policy-3 : not counts ≡ true → 3 ≡ firstNo (policyQuestions true true exact policy)
-        policy-3 h = asked-3 true true exact policy refl sizes is2 h2 counts is3 h
+        pub policy-3 : not counts ≡ true → 3 ≡ firstNo (policyQuestions true true (arraysExact policy) policy)
+        policy-3 h = asked-3 true true (arraysExact policy) policy refl sizes is2 h2 counts is3 h
 
-        module _ (h3 : not counts ≡ false) (exactly : Bool) (e4 : exactly ≡ exact) where
-          pub policy-4 : not exactly ≡ true → 4 ≡ firstNo (policyQuestions true true exact policy)
-          policy-4 h = asked-4 true true exact policy refl sizes is2 h2 counts is3 h3 (sym e4 ∙ not-true exactly h)
+        module _ (h3 : not counts ≡ false) (exact : Bool) (e4 : exact ≡ both (eqb (length ps) count) (eqb (length fs) count)) where
+          is4 : exact ≡ arraysExact policy
+          unfolding arraysExact
+          is4 = e4
 
-          module _ (h4 : not exactly ≡ false) (rises : Bool) (e5 : rises ≡ rising pages 0 ps) where
-            is4 : exact ≡ true
-            is4 = sym e4 ∙ not-false exactly h4
+          pub policy-4 : not exact ≡ true → 4 ≡ firstNo (policyQuestions true true (arraysExact policy) policy)
+          policy-4 h = asked-4 true true (arraysExact policy) policy refl sizes is2 h2 counts is3 h3 (sym is4 ∙ not-true exact h)
 
-            pub policy-5 : not rises ≡ true → 5 ≡ firstNo (policyQuestions true true exact policy)
-            policy-5 h = asked-5 true true exact policy refl sizes is2 h2 counts is3 h3 is4 rises e5 h
+          module _ (h4 : not exact ≡ false) (rises : Bool) (e5 : rises ≡ rising pages 0 ps) where
+            yes4 : arraysExact policy ≡ true
+            yes4 = sym is4 ∙ not-false exact h4
+
+            pub policy-5 : not rises ≡ true → 5 ≡ firstNo (policyQuestions true true (arraysExact policy) policy)
+            policy-5 h = asked-5 true true (arraysExact policy) policy refl sizes is2 h2 counts is3 h3 yes4 rises e5 h
 
             module _ (h5 : not rises ≡ false) (below : Bool) (e6 : below ≡ allBelow frames fs) where
-              pub policy-6 : not below ≡ true → 6 ≡ firstNo (policyQuestions true true exact policy)
-              policy-6 h = asked-6 true true exact policy refl sizes is2 h2 counts is3 h3 is4 rises e5 h5 below e6 h
+              pub policy-6 : not below ≡ true → 6 ≡ firstNo (policyQuestions true true (arraysExact policy) policy)
+              policy-6 h = asked-6 true true (arraysExact policy) policy refl sizes is2 h2 counts is3 h3 yes4 rises e5 h5 below e6 h
 
-              pub policy-yes : not below ≡ false → 0 ≡ firstNo (policyQuestions true true exact policy)
-              policy-yes h = asked-none true true exact policy refl sizes is2 h2 counts is3 h3 is4 rises e5 h5 below e6 h
+              pub policy-yes : not below ≡ false → 0 ≡ firstNo (policyQuestions true true (arraysExact policy) policy)
+              policy-yes h = asked-none true true (arraysExact policy) policy refl sizes is2 h2 counts is3 h3 yes4 rises e5 h5 below e6 h

@@ -3,10 +3,10 @@ use Prim.Native.Nat.{ℕ, suc, _+_, _*_, _/_, _%_, _≤_, _<_}
 use mathlib.Core.Bool.{Bool, true, false, not}
 use mathlib.Core.List.{List, [], _∷_, _++_}
 use mathlib.Core.Path.{_≡_, refl, sym, ap, _∙_}
-use lib.Dec.{leb, eqb}
+use lib.Dec.{leb}
 use lib.ListN.{length, getD, set, drop, drop-of-length-le}
 use lib.Seq.{drop-cons, sets, length-sets, sets-eq}
-use mir.Syntax.{w16, w64}
+use mir.Syntax.{w16}
 use mir.Val.{Fits}
 use native.Mathlib.Numerals.{add-one}
 use native.Mathlib.Omega.{arith}
@@ -16,53 +16,40 @@ use Rattle.model.specs.Basics.{both}
 use Rattle.model.specs.Policy.{Policy}
 use Rattle.model.specs.Questions.{Question, question, firstNo, policyQuestions}
 use Rattle.model.specs.Calls.{replyOf}
-use Rattle.model.specs.Record.{policyBy, numberBytes, numbersBytes, recordOf, writeRecordQuestions, written, writeRecordOf}
+use Rattle.model.specs.Record.{policyBy, numberBytes, numbersBytes, recordOf, arraysExact, writeRecordQuestions, written, writeRecordOf}
 use Rattle.model.proofs.QuestionLaws.{firstNo-yes, firstNo-no, firstNo-front, firstNo-back, numbered}
 use Rattle.model.proofs.CallLaws.{passed, stopped, none-left, settle-refused-by}
 use Rattle.model.proofs.PolicyLaws.{Passed, policy-passed}
 use Rattle.model.proofs.RecordLaws.{length-numbersBytes, numbersBytes-append, record-length, write-passed, pages-exact, frames-exact, room-there, written-is}
 
--- The first no: that of questions 2 to 6, or 7, or 16.
-module _ (policy : Policy) where
-  abbrev exact : Bool
-  exact = both (eqb (length (policy .listedPages)) (policy .count)) (eqb (length (policy .listedFrames)) (policy .count))
+-- The first no: that of questions 2 to 6, or 7, or 16. Past question 6, n is at most 2,048.
+module _ (pages frames count entries : ℕ) (ps fs : List ℕ) where
+  abbrev policy : Policy
+  policy = policyBy pages frames count entries ps fs
 
-  module _ (number : ℕ) (asks : number ≡ firstNo (policyQuestions true true exact policy)) where
+  module _ (number : ℕ) (asks : number ≡ firstNo (policyQuestions true true (arraysExact policy) policy)) where
     pub write-refused : (numbersFit : Bool) (room : ℕ) → (number ≡ 0 → ⊥) → number ≡ firstNo (writeRecordQuestions numbersFit policy room)
     unfolding writeRecordQuestions
-    write-refused numbersFit room named = asks ∙ sym (firstNo-front (policyQuestions true true exact policy) _ (λ z. named (asks ∙ z)))
+    write-refused numbersFit room named = asks ∙ sym (firstNo-front (policyQuestions true true (arraysExact policy) policy) _ (λ z. named (asks ∙ z)))
 
     module _ (six : number ≡ 0) where
+      pub count-few : count ≤ 2048
+      count-few = let p : Passed policy = policy-passed true true (arraysExact policy) policy (sym asks ∙ six) in omega arith
+
       module _ (numbersFit : Bool) (room : ℕ) where
-        past6 : (k : ℕ) → k ≡ firstNo (question 7 numbersFit ∷ question 16 (leb (8 + 4 * policy .count) room) ∷ [])
+        past6 : (k : ℕ) → k ≡ firstNo (question 7 numbersFit ∷ question 16 (leb (8 + 4 * count) room) ∷ [])
             → k ≡ firstNo (writeRecordQuestions numbersFit policy room)
         unfolding writeRecordQuestions policyQuestions numbered both
-        past6 k rest = rest ∙ sym (firstNo-back (policyQuestions true true exact policy) _ refl (sym asks ∙ six))
+        past6 k rest = rest ∙ sym (firstNo-back (policyQuestions true true (arraysExact policy) policy) _ refl (sym asks ∙ six))
 
         pub write-7 : not numbersFit ≡ true → 7 ≡ firstNo (writeRecordQuestions numbersFit policy room)
         write-7 h = past6 7 (stopped 7 numbersFit _ _ refl h)
 
-        pub write-16 : not numbersFit ≡ false → room < 8 + 4 * policy .count → 16 ≡ firstNo (writeRecordQuestions numbersFit policy room)
-        write-16 h short = past6 16 (passed 7 16 numbersFit _ _ refl h (sym (firstNo-no 16 _ (lt-leb (8 + 4 * policy .count) room short))))
+        pub write-16 : not numbersFit ≡ false → room < 8 + 4 * count → 16 ≡ firstNo (writeRecordQuestions numbersFit policy room)
+        write-16 h short = past6 16 (passed 7 16 numbersFit _ _ refl h (sym (firstNo-no 16 _ (lt-leb (8 + 4 * count) room short))))
 
-        pub write-yes : not numbersFit ≡ false → 8 + 4 * policy .count ≤ room → 0 ≡ firstNo (writeRecordQuestions numbersFit policy room)
-        write-yes h long =
-            past6 0 (passed 7 0 numbersFit _ _ refl h (none-left ∙ sym (firstNo-yes 16 _ (le-leb (8 + 4 * policy .count) room long))))
-
--- Past question 6 the record's length fits.
-module _ (pages frames count entries : ℕ) (ps fs : List ℕ) (number : ℕ)
-    (asks : number ≡ firstNo (policyQuestions true true (both (eqb (length ps) count) (eqb (length fs) count)) (policyBy pages frames count entries ps fs)))
-    (six : number ≡ 0) where
-  few : count ≤ 2048
-  few =
-      let p : Passed (policyBy pages frames count entries ps fs) = policy-passed true true _ (policyBy pages frames count entries ps fs) (sym asks ∙ six) in
-      omega arith
-
-  pub arrays-fit : Fits w64 (4 * count)
-  arrays-fit = record { fits = omega (arith, few) }
-
-  pub length-fits : Fits w64 (8 + 4 * count)
-  length-fits = record { fits = omega (arith, few) }
+        pub write-yes : not numbersFit ≡ false → 8 + 4 * count ≤ room → 0 ≡ firstNo (writeRecordQuestions numbersFit policy room)
+        write-yes h long = past6 0 (passed 7 0 numbersFit _ _ refl h (none-left ∙ sym (firstNo-yes 16 _ (le-leb (8 + 4 * count) room long))))
 
 -- Two stores put a number.
 pub number-put : (buffer : List ℕ) (at number : ℕ) → set (set buffer at (number % 256)) (at + 1) (number / 256) ≡ sets buffer at (numberBytes number)
@@ -115,19 +102,19 @@ record-put buffer b1 b2 b3 pages frames count entries ps fs e1 e2 e3 =
 -- The call, by the first no of its questions: refused, or accepted. An accepted one has shown what writing requires.
 module _ (numbersFit : Bool) (pages frames count entries : ℕ) (ps fs buffer : List ℕ) (number : ℕ)
     (asks : number ≡ firstNo (writeRecordQuestions numbersFit (policyBy pages frames count entries ps fs) (length buffer))) where
-  abbrev policy : Policy
-  policy = policyBy pages frames count entries ps fs
+  abbrev given : Policy
+  given = policyBy pages frames count entries ps fs
 
-  pub write-refuses : (number ≡ 0 → ⊥) → written (replyOf (Refused number)) buffer ≡ writeRecordOf numbersFit policy buffer
+  pub write-refuses : (number ≡ 0 → ⊥) → written (replyOf (Refused number)) buffer ≡ writeRecordOf numbersFit given buffer
   unfolding writeRecordOf replyOf
   write-refuses named = sym (settle-refused-by number _ _ named (sym asks))
 
   module _ (none : number ≡ 0) where
-    yes : firstNo (writeRecordQuestions numbersFit policy (length buffer)) ≡ 0
+    yes : firstNo (writeRecordQuestions numbersFit given (length buffer)) ≡ 0
     yes = sym asks ∙ none
 
-    passes : Passed policy
-    passes = policy-passed true true true policy (write-passed numbersFit policy (length buffer) yes)
+    passes : Passed given
+    passes = policy-passed true true true given (write-passed numbersFit given (length buffer) yes)
 
     pub pages-cast : Fits w16 pages
     pages-cast = let p = passes in record { fits = omega arith }
@@ -141,24 +128,21 @@ module _ (numbersFit : Bool) (pages frames count entries : ℕ) (ps fs buffer : 
     pub entries-cast : Fits w16 entries
     entries-cast = let p = passes in record { fits = omega arith }
 
-    pub count-wide : Fits w64 (4 * count)
-    count-wide = let p = passes in record { fits = omega arith }
+    pages-there : length ps ≡ count
+    pages-there = pages-exact numbersFit given (length buffer) yes
 
-    pub length-wide : Fits w64 (8 + 4 * count)
-    length-wide = let p = passes in record { fits = omega arith }
+    frames-there : length fs ≡ count
+    frames-there = frames-exact numbersFit given (length buffer) yes
 
     pub record-room : 8 + 2 * length ps + 2 * length fs ≤ length buffer
-    record-room =
-        omega
-        (arith, pages-exact numbersFit policy (length buffer) yes, frames-exact numbersFit policy (length buffer) yes, room-there numbersFit policy (length buffer) yes)
+    record-room = omega (arith, pages-there, frames-there, room-there numbersFit given (length buffer) yes)
 
-    pub write-accepts : (after : List ℕ) → after ≡ sets buffer 0 (recordOf policy)
-        → written (replyOf (Done (8 + 4 * count) 0)) after ≡ writeRecordOf numbersFit policy buffer
+    pub write-accepts : (after : List ℕ) → after ≡ sets buffer 0 (recordOf given)
+        → written (replyOf (Done (8 + 4 * count) 0)) after ≡ writeRecordOf numbersFit given buffer
     unfolding replyOf
     write-accepts after put =
-        let long : length (recordOf policy) ≡ 8 + 4 * count =
-        record-length policy (pages-exact numbersFit policy (length buffer) yes) (frames-exact numbersFit policy (length buffer) yes) in
-        let front : sets buffer 0 (recordOf policy) ≡ recordOf policy ++ drop (0 + length (recordOf policy)) buffer =
-        sets-eq (recordOf policy) buffer 0 (omega (arith, room-there numbersFit policy (length buffer) yes)) in
-        let past : 0 + length (recordOf policy) ≡ length (recordOf policy) = omega arith in
-        rw (put, front, past, ← long) (sym (written-is numbersFit policy buffer yes))
+        let long : length (recordOf given) ≡ 8 + 4 * count = record-length given pages-there frames-there in
+        let front : sets buffer 0 (recordOf given) ≡ recordOf given ++ drop (0 + length (recordOf given)) buffer =
+        sets-eq (recordOf given) buffer 0 (omega (arith, room-there numbersFit given (length buffer) yes)) in
+        let past : 0 + length (recordOf given) ≡ length (recordOf given) = omega arith in
+        rw (put, front, past, ← long) (sym (written-is numbersFit given buffer yes))

@@ -11,7 +11,7 @@ ghost use lib.Seq.{sets};
 ghost use Rattle.model.specs.Basics.{both};
 ghost use Rattle.model.specs.Questions.{firstNo, rising, allBelow, policyQuestions};
 ghost use Rattle.model.specs.Calls.{replyOf};
-ghost use Rattle.model.specs.Record.{policyBy, numberBytes, numbersBytes, recordOf, writeRecordQuestions, written, writeRecordOf};
+ghost use Rattle.model.specs.Record.{policyBy, numberBytes, numbersBytes, recordOf, arraysExact, writeRecordQuestions, written, writeRecordOf};
 ghost use Rattle.record.specs.Arrays.{highestOf};
 use model::Answer;
 
@@ -78,7 +78,8 @@ fn policy_question(
     listed_pages: &[u16],
     listed_frames: &[u16],
 ) -> u64
-    ensures { λ r. ⌜ r ≡ firstNo (policyQuestions true true (both (eqb (length (now («listed_pages» .entry))) count) (eqb (length (now («listed_frames» .entry))) count))
+    ensures { λ r. ⌜ r ≡ firstNo (policyQuestions true true
+        (arraysExact (policyBy pages frames count «entry_count» (now («listed_pages» .entry)) (now («listed_frames» .entry))))
         (policyBy pages frames count «entry_count» (now («listed_pages» .entry)) (now («listed_frames» .entry)))) ⌝ }
 {
     if !policy::sizes_in_range(pages, frames) {

@@ -1,5 +1,7 @@
+use Prim.Native.Nat.{_≤_}
+use native.Mathlib.Omega.{arith}
 use borrow.Author.Needs.{needs}
-use Rattle.record.proofs.WriteLaws.{write-refused, arrays-fit, length-fits, write-7, write-16, write-yes}
+use Rattle.record.proofs.WriteLaws.{write-refused, count-few, write-7, write-16, write-yes}
 use Rattle.record.proofs.write_question.Statement.{statement}
 use Rattle.record.proofs.write_question.Tie as tie
 
@@ -10,10 +12,10 @@ returns-2 : tie.Need-returns-2
 returns-2 c = search (needs, write-7)
 
 mul-if3 : tie.Need-mul-if3
-mul-if3 c = search (needs, arrays-fit)
+mul-if3 c = let few : c .before .before .before .before .before .args .count ≤ 2048 = search (needs, count-few) in omega arith
 
 add-if3 : tie.Need-add-if3
-add-if3 c = search (needs, length-fits)
+add-if3 c = let few : c .before .before .before .before .before .args .count ≤ 2048 = search (needs, count-few) in omega arith
 
 returns-3 : tie.Need-returns-3
 returns-3 c = search (needs, write-16)

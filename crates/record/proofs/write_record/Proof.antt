@@ -1,5 +1,8 @@
+use mir.Syntax.{w16}
+use mir.Val.{Fits}
+use native.Mathlib.Omega.{arith}
 use borrow.Author.Needs.{needs}
-use Rattle.record.proofs.WriteLaws.{write-refuses, pages-cast, frames-cast, count-cast, entries-cast, record-room, count-wide, length-wide, write-accepts}
+use Rattle.record.proofs.WriteLaws.{write-refuses, pages-cast, frames-cast, count-cast, entries-cast, record-room, write-accepts}
 use Rattle.record.proofs.write_record.Statement.{statement}
 use Rattle.record.proofs.write_record.Tie as tie
 
@@ -22,10 +25,10 @@ put-record-requires : tie.Need-put-record-requires
 put-record-requires c κs = search (needs, record-room)
 
 mul-t20 : tie.Need-mul-t20
-mul-t20 c = search (needs, count-wide)
+mul-t20 c = let few : Fits w16 (c .before .before .before .before .before .before .before .before .before .args .count) = search (needs, count-cast) in omega arith
 
 add-t21 : tie.Need-add-t21
-add-t21 c = search (needs, length-wide)
+add-t21 c = let few : Fits w16 (c .before .before .before .before .before .before .before .before .before .args .count) = search (needs, count-cast) in omega arith
 
 returns-2 : tie.Need-returns-2
 returns-2 c = search (needs, write-accepts)
