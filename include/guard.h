@@ -1,11 +1,11 @@
 /*
- * The page guard, for C. The calls are those of document 01; every one of them is proved, in Rattle, to answer what the
+ * The page guard, for C. The calls are those of documents 01 and 02; every one of them is proved, in Rattle, to answer what the
  * definitions in crates/model say, on all inputs (crates/boundary, specs/Boundary.antt).
  *
  * Build the library with `rt staticlib exports`, and link target/staticlib/libexports.a. docs/INTEGRATION.md has what it needs
  * beside that (memcpy, memset, SSE, stack), how the processor is set up, and what to do around each call.
  *
- * Runs. A table, a policy record, the state and the two numbers of a call each cross as a pointer and the number of its
+ * Runs. A table, a policy record, an array, the state and the two numbers of a call each cross as a pointer and the number of its
  * elements. The guard keeps nothing between calls: the caller holds every run and lends it.
  *   - A pointer is valid for as many elements as its length says, is aligned to its element (8 bytes for 64 bits, 2 for 16), and
  *     is not NULL, even where the length is 0.
@@ -14,12 +14,12 @@
  * These three are the caller's part, and the only part that the guard does not test. State, shadow, map and exclusion go from
  * one call to the next as the last one left them: that is what the guarantee about all calls rests on.
  *
- * Numbers. Pages, entry indices, addresses and lengths are 64 bits wide and are never cut: page 65537 is refused with 9, and
- * is not taken for page 1. Sums of address and length are exact.
+ * Numbers. Sizes, counts, pages, entry indices, addresses and lengths are 64 bits wide and are never cut: page 65537 is refused
+ * with 9, and is not taken for page 1. Sums of address and length are exact.
  *
  * Answers. A call returns 0 where it is accepted, and else the number of the first question that was answered no (enum
  * guard_refusal). Its two numbers go to the numbers run, a run of GUARD_NUMBERS words: 0 and 0 where it is refused.
- * A refused call changes nothing else: the state run and every table stay as they were.
+ * A refused call changes nothing else: the state run, every table and a buffer stay as they were.
  *
  * The runs of a call are part of question 7. A state run that has not GUARD_STATE_WORDS words, a V, F, e or running page
  * that is wider than 16 bits, a mode word that is neither GUARD_MODE_KERNEL nor GUARD_MODE_USER, or a numbers run that has
@@ -176,15 +176,16 @@ uint64_t guard_start(const uint8_t *policy, size_t policy_length, uint64_t *stat
                      uint64_t *numbers, size_t numbers_length);
 
 /*
- * Writes a policy record, laid out as at guard_start, into the buffer `buffer`, from V (pages), F (frames), n (count), e
- * (entry_count) and two arrays: the n listed pages, of which the first e are the entry pages, and their n frames. Numbers: the
- * record's length, 8 + 4 * n, and 0. Bytes past the record stay as they were.
+ * Writes a policy record, laid out as at guard_start, to the front of a buffer. It is given V (pages), F (frames), n (count), e
+ * (entry_count) and two arrays: the n listed pages, of which the first e are the entry pages, and the n frames of these pages.
+ * Numbers: the record's length, 8 + 4 * n, and 0. Bytes of the buffer past the record stay as they were.
  *
- * It needs no state and no table, and may be called anywhere, before any guard is started: guard_start accepts the record, given as
- * that many bytes, with tables of its V and F. A record that guard_start accepts, read and written again, is the same bytes.
+ * It is lent no state and no table, so that it can be called before any guard is started, on any machine. With tables of its V
+ * and F, guard_start accepts the record, cut to its length, and stands as said there for these pages and frames. A record that
+ * guard_start accepts, read and written again, is the same bytes.
  *
- * Refusals 2, 3, 4 (an array has not n numbers), 5 and 6 as at guard_start; then 7 (the numbers run) and 16 (the buffer is shorter
- * than the record). A refused call leaves the buffer as it was.
+ * Refusals 2, 3, 5 and 6 are those of guard_start; 4 is for an array that has not n numbers. Then come 7, for the numbers run, and
+ * last 16, for a buffer that is shorter than the record.
  */
 uint64_t guard_write_record(uint64_t pages, uint64_t frames, uint64_t count, uint64_t entry_count,
                             const uint16_t *listed_pages, size_t listed_pages_length, const uint16_t *listed_frames,
