@@ -5,8 +5,8 @@
  * Build the library with `rt staticlib exports`, and link target/staticlib/libexports.a. docs/INTEGRATION.md has what it needs
  * beside that (memcpy, memset, SSE, stack), how the processor is set up, and what to do around each call.
  *
- * Runs. A table, a policy record, an array, the state and the two numbers of a call each cross as a pointer and the number of its
- * elements. The guard keeps nothing between calls: the caller holds every run and lends it.
+ * Runs. A table, a policy record, an array, a buffer, the state and the two numbers of a call each cross as a pointer and the
+ * number of its elements. The guard keeps nothing between calls: the caller holds every run and lends it.
  *   - A pointer is valid for as many elements as its length says, is aligned to its element (8 bytes for 64 bits, 2 for 16), and
  *     is not NULL, even where the length is 0.
  *   - A run that is lent for writing overlaps no other run of the same call.
@@ -21,7 +21,7 @@
  * guard_refusal). Its two numbers go to the numbers run, a run of GUARD_NUMBERS words: 0 and 0 where it is refused.
  * A refused call changes nothing else: the state run, every table and a buffer stay as they were.
  *
- * The runs of a call are part of question 7. A state run that has not GUARD_STATE_WORDS words, a V, F, e or running page
+ * The runs of a call are part of question 7. A state run that has not GUARD_STATE_WORDS words, a V, F, e or running page in it
  * that is wider than 16 bits, a mode word that is neither GUARD_MODE_KERNEL nor GUARD_MODE_USER, or a numbers run that has
  * not GUARD_NUMBERS words gives 7. A numbers run of another length is not written.
  */
@@ -180,9 +180,10 @@ uint64_t guard_start(const uint8_t *policy, size_t policy_length, uint64_t *stat
  * (entry_count) and two arrays: the n listed pages, of which the first e are the entry pages, and the n frames of these pages.
  * Numbers: the record's length, 8 + 4 * n, and 0. Bytes of the buffer past the record stay as they were.
  *
- * It is lent no state and no table, so that it can be called before any guard is started, on any machine. With tables of its V
- * and F, guard_start accepts the record, cut to its length, and stands as said there for these pages and frames. A record that
- * guard_start accepts, read and written again, is the same bytes.
+ * It is lent no state and no table, so that it can be called before any guard is started, also on another machine than the
+ * guarded one. guard_start accepts the record, cut to its length, with tables of the lengths that its V and F ask for and state
+ * and numbers runs of theirs, and stands as said there for these pages and frames. A record that guard_start accepts, read and
+ * written again, is the same bytes. A buffer of 8200 bytes is long enough for every record.
  *
  * Refusals 2, 3, 5 and 6 are those of guard_start; 4 is for an array that has not n numbers. Then come 7, for the numbers run, and
  * last 16, for a buffer that is shorter than the record.

@@ -1,4 +1,5 @@
--- What each exported call returns and leaves, on every input: the model's answer on the decoded state, behind the boundary's part of question 7.
+-- What each exported call returns and leaves, on every input: the model's answer, on the decoded state where it is lent one, with the boundary's part of
+-- question 7.
 use Prim.Native.Nat.{ℕ}
 use mathlib.Core.Bool.{true, cond}
 use mathlib.Core.List.{List}
@@ -25,7 +26,7 @@ returned number state numbers t = record { number = number; state = state; numbe
 unfoldable pub replied : ℕ → Reply → List ℕ → List ℕ → Tables → Returned
 replied count reply run numbers t = returned (reply .number) run (withNumbers count numbers reply) t
 
--- Every call but the start. Question 7 comes first: where a run cannot be lent, it refuses, and changes neither the state run nor a table.
+-- Every call on a state, which is every one but the start and the call that writes a record. Question 7 comes first: where a run cannot be lent, it refuses, and changes neither the state run nor a table.
 -- A call puts into the state run what it can change, and no other word.
 unfoldable pub callAt : List ℕ → List ℕ → Tables → Call → Returned
 callAt run numbers t call =

@@ -1,2 +1,3 @@
--- What the exported calls promise.
+-- What the exported calls promise, and cases of it.
 pub mod Boundary
+pub mod RecordedCases

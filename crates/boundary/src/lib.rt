@@ -1,5 +1,5 @@
 // The guard's calls on numbers and lent runs: a number out. The crate `exports` hands them to C, and include/guard.h documents them.
-// Each promises what the model answers on the decoded state, by one equation on all inputs.
+// Each promises what the model answers, on the decoded state where it is lent one, by one equation on all inputs.
 
 ghost use mathlib.Core.Path.{_≡_};
 ghost use Rattle.model.specs.Keeps.{Tables, tables, withShadow, withExclusion, withThree};
@@ -8,7 +8,9 @@ ghost use Rattle.model.specs.Questions.{firstNo, recordQuestions};
 ghost use Rattle.model.specs.Calls;
 ghost use Rattle.model.specs.Calls.{settle, syncPage, syncAll, deviceWrite};
 ghost use Rattle.model.specs.Record.{policyBy};
+ghost use Rattle.model.specs.Cases.{Hold};
 ghost use Rattle.boundary.specs.Boundary.{returned, startAt, callAt, recorded, recordAt, StateHeld};
+ghost use Rattle.boundary.specs.RecordedCases.{recordedCases};
 use model::Answer;
 
 // The refusal of a start whose runs do not fit: the record's questions come first.
@@ -172,6 +174,11 @@ pub fn device_write(
     let answer = access::device_write(words::state_in(state), exclusion, address, length);
     words::reply(numbers, answer)
 }
+
+// What writing a record returns and leaves, by its numbers run.
+pub fn recorded_cases()
+    ensures { λ _. ⌜ Hold recordedCases ⌝ }
+{}
 
 // The state goes from call to call in its run as the definitions hand it on.
 pub fn state_held()

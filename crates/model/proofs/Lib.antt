@@ -5,8 +5,8 @@ pub mod BitLaws
 pub mod TableLaws
 pub mod PolicyLaws
 pub mod RecordLaws
-mod Computed
-mod CaseLaws
+pub mod Computed
+pub mod CaseLaws
 mod LimitLaws
 pub mod VectorLaws
 pub mod CallLaws

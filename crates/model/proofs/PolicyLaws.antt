@@ -9,13 +9,13 @@ use lib.Dec.{leb, ltb, eqb}
 use lib.ListN.{length, getD}
 use native.Mathlib.Nat.{le-of-suc-le-suc}
 use native.Mathlib.Omega.{arith}
-use borrow.Author.Tests.{ltb-true, lt-ltb, le-ltb, not-true, not-false, eqb-true, eq-eqb}
+use borrow.Author.Tests.{ltb-true, lt-ltb, not-true, not-false, eqb-true, eq-eqb}
 use Rattle.model.specs.Basics.{both, either, within, member}
 use Rattle.model.specs.Edges.{pagesInRange, framesInRange}
 use Rattle.model.specs.Keeps.{vectorBytes}
 use Rattle.model.specs.Policy.{Givens, Policy, numberAt, numbersAt, frameFor}
 use Rattle.model.specs.Questions.{firstNo, sizesInRange, countsInRange, rising, allBelow, policyQuestions, recordQuestions, Lengths, lengthsFit, startQuestions}
-use Rattle.model.proofs.QuestionLaws.{either-second, both-yes, both-no, both-no-after, both-first, both-second, within-low, within-high, asked, numbered, all-yes, firstNo-both}
+use Rattle.model.proofs.QuestionLaws.{either-second, both-yes, both-no, both-first, both-second, within-low, within-high, asked, numbered, all-yes, firstNo-both}
 use Rattle.model.proofs.StateLaws.{in-order}
 
 -- Numbers in a row: none, one more at the front, how many, and each of them.
@@ -42,22 +42,28 @@ getD-numbersAt bytes at (suc count) zero h = ap (numberAt bytes) (omega arith)
 getD-numbersAt bytes at (suc count) (suc i) h =
     getD-numbersAt bytes (at + 2) count i (le-of-suc-le-suc h) ∙ ap (numberAt bytes) (omega arith)
 
--- Question 5 at a page in front of others, by what the test of that page gave: it passes, and the page is below V, or it refuses.
-pub rising-none : (pages least : ℕ) {ps : List ℕ} → ps ≡ [] → rising pages least ps ≡ true
-unfolding rising
-rising-none pages least e = rw e refl
-
-module _ (pages least p : ℕ) (ps : List ℕ) {r : Bool} (asks : r ≡ both (leb least p) (ltb p pages)) where
-  pub rising-more : not r ≡ false → rising pages least (p ∷ ps) ≡ rising pages (p + 1) ps
-  unfolding rising both
-  rising-more h = rw (sym asks ∙ not-false r h) (ap (λ (n : ℕ). rising pages n ps) (omega arith))
-
-  pub rising-no : not r ≡ true → rising pages least (p ∷ ps) ≡ false
+-- Question 5 on the pages that are left, `whole` being the answer on all of them: where none is left, and at the first of them, by what the test of
+-- that page gave.
+module _ (pages least : ℕ) (ps : List ℕ) (whole : Bool) (e : rising pages least ps ≡ whole) where
+  pub rising-ends : ps ≡ [] → true ≡ whole
   unfolding rising
-  rising-no h = both-no _ (sym asks ∙ not-true r h)
+  rising-ends none = rw none at e
 
-  pub rising-room : not r ≡ false → p < pages
-  rising-room h = ltb-true p pages (both-second (leb least p) (ltb p pages) (sym asks ∙ not-false r h))
+  module _ (p : ℕ) (r : Bool) (asks : r ≡ both (leb least p) (ltb p pages)) (rest : List ℕ) (there : ps ≡ p ∷ rest) where
+    front : both r (rising pages (suc p) rest) ≡ whole
+    unfolding rising
+    front = rw asks (rw there at e)
+
+    pub rising-refuses : not r ≡ true → false ≡ whole
+    rising-refuses h = sym (both-no _ (not-true r h)) ∙ front
+
+    pub rising-goes-on : not r ≡ false → rising pages (p + 1) rest ≡ whole
+    unfolding both
+    rising-goes-on h = ap (λ (n : ℕ). rising pages n rest) (omega arith) ∙ (rw (not-false r h) at front)
+
+-- A page that passes is below V.
+pub rising-page : (pages least p : ℕ) {r : Bool} → r ≡ both (leb least p) (ltb p pages) → not r ≡ false → p < pages
+rising-page pages least p {r} asks h = ltb-true p pages (both-second (leb least p) (ltb p pages) (sym asks ∙ not-false r h))
 
 -- Pages that rise below V are below V.
 pub rising-below : (pages least : ℕ) (ps : List ℕ) → rising pages least ps ≡ true → allBelow pages ps ≡ true

@@ -4,22 +4,22 @@ use Prim.Native.Nat.{ℕ, zero, suc, _+_, _*_, _/_, _%_, _≤_, _<_}
 use mathlib.Core.Bool.{Bool, true}
 use mathlib.Core.List.{List, [], _∷_, _++_}
 use mathlib.Core.Path.{_≡_, refl, sym, ap, _∙_}
-use lib.Dec.{leb, eqb}
+use lib.Dec.{eqb}
 use lib.ListN.{length, getD, take, drop, length-append, List·getD-append}
 use lib.Seq.{ext-getD, take-all, drop-cons, getD-append-add, take-append-seam}
-use native.Mathlib.Nat.{add-zero, zero-add, suc-add, le-of-suc-le-suc}
+use native.Mathlib.Nat.{zero-add, suc-add, le-of-suc-le-suc}
 use native.Mathlib.Numerals.{add-one}
 use native.Mathlib.Omega.{arith}
-use borrow.Author.Tests.{le-leb, leb-true, eq-eqb, eqb-true}
+use borrow.Author.Tests.{lt-ltb, le-leb, leb-true, eq-eqb, eqb-true}
 use Rattle.model.specs.Basics.{both, either}
 use Rattle.model.specs.Keeps.{Tables}
 use Rattle.model.specs.Policy.{Givens, Policy, numberAt, numbersAt, policyOf, startGuard}
-use Rattle.model.specs.Questions.{firstNo, policyQuestions, givensInRange, recordQuestions, lengthsOf, lengthsFit, startQuestions}
-use Rattle.model.specs.Calls.{accepted, settle, outcome, startOf}
-use Rattle.model.specs.Record.{policyBy, numberBytes, numbersBytes, recordOf, arraysExact, writeRecordQuestions, Written, written, writeRecordOf, WrittenStarts, WrittenAgain}
-use Rattle.model.proofs.QuestionLaws.{both-yes, both-first, both-second, asked, numbered, all-yes, firstNo-yes, firstNo-back, firstNo-both, settle-accepted, settle-number}
+use Rattle.model.specs.Questions.{firstNo, allBelow, policyQuestions, givensInRange, recordQuestions, lengthsOf, lengthsFit, startQuestions}
+use Rattle.model.specs.Calls.{accepted, outcome, startOf}
+use Rattle.model.specs.Record.{numberBytes, numbersBytes, recordOf, arraysExact, writeRecordQuestions, Written, written, writeRecordOf, WrittenStarts, WrittenAgain}
+use Rattle.model.proofs.QuestionLaws.{both-first, both-second, asked, numbered, all-yes, firstNo-yes, firstNo-back, firstNo-both, settle-accepted, settle-number}
 use Rattle.model.proofs.CallLaws.{none-left}
-use Rattle.model.proofs.PolicyLaws.{length-numbersAt, getD-numbersAt, exact-yes, policy-asked, record-length as read-length}
+use Rattle.model.proofs.PolicyLaws.{length-numbersAt, getD-numbersAt, exact-yes, policy-asked, record-length, allBelow-none, allBelow-more, allBelow-head, allBelow-tail, allBelow-wider, Passed, policy-passed}
 
 -- The bytes of numbers in a row: how many, those of two rows, and each number read back.
 pub length-numbersBytes : (numbers : List ℕ) → length (numbersBytes numbers) ≡ 2 * length numbers
@@ -44,6 +44,22 @@ number-back (x ∷ numbers) (suc i) h =
     let e : 2 * suc i ≡ suc (suc (2 * i)) = omega arith in
     ap (numberAt (numbersBytes (x ∷ numbers))) e ∙ (number-later (x % 256) (x / 256) (numbersBytes numbers) (2 * i) ∙ number-back numbers i (le-of-suc-le-suc h))
 
+-- The bytes of 16-bit numbers are bytes.
+bytes-small : (numbers : List ℕ) → allBelow 65536 numbers ≡ true → (i : ℕ) → i < length (numbersBytes numbers) → getD (numbersBytes numbers) i 0 < 256
+unfolding numbersBytes numberBytes
+bytes-small [] small i h = absurd (omega arith)
+bytes-small (x ∷ numbers) small zero h = omega arith
+bytes-small (x ∷ numbers) small (suc zero) h = omega (arith, allBelow-head 65536 x numbers small)
+bytes-small (x ∷ numbers) small (suc (suc i)) h = bytes-small numbers (allBelow-tail 65536 x numbers small) i (le-of-suc-le-suc (le-of-suc-le-suc h))
+
+below-one : (x : ℕ) (xs : List ℕ) → x < 65536 → allBelow 65536 xs ≡ true → allBelow 65536 (x ∷ xs) ≡ true
+below-one x xs h rest = allBelow-more 65536 x xs (sym (lt-ltb x 65536 h)) refl ∙ rest
+
+below-append : (xs ys : List ℕ) → allBelow 65536 xs ≡ true → allBelow 65536 ys ≡ true → allBelow 65536 (xs ++ ys) ≡ true
+below-append [] ys h k = k
+below-append (x ∷ xs) ys h k =
+    below-one x (xs ++ ys) (allBelow-head 65536 x xs h) (below-append xs ys (allBelow-tail 65536 x xs h) k)
+
 -- The numbers that stand in a row from a place on.
 numbers-back : (bytes numbers : List ℕ) (at count : ℕ) → length numbers ≡ count → ((i : ℕ) → i < count → numberAt bytes (at + 2 * i) ≡ getD numbers i 0)
     → numbersAt bytes at count ≡ numbers
@@ -60,9 +76,9 @@ module _ (policy : Policy) (pages-fit : length (policy .listedPages) ≡ policy 
   unfolding numbers
   numbers-length = omega (arith, length-append (policy .listedPages) (policy .listedFrames))
 
-  pub record-length : length (recordOf policy) ≡ 8 + 4 * policy .count
+  pub written-length : length (recordOf policy) ≡ 8 + 4 * policy .count
   unfolding recordOf numbers
-  record-length = omega (arith, length-numbersBytes numbers, numbers-length)
+  written-length = omega (arith, length-numbersBytes numbers, numbers-length)
 
   at : (i place : ℕ) → place ≡ 2 * i → i < 4 + 2 * policy .count → numberAt (recordOf policy) place ≡ getD numbers i 0
   unfolding recordOf numbers
@@ -202,6 +218,17 @@ module _ (numbersFit : Bool) (policy : Policy) (buffer : List ℕ) (h : writeRec
   back : policyOf (recordOf policy) ≡ policy
   back = record-back policy fits-pages fits-frames
 
+  small : (i : ℕ) → i < length (recordOf policy) → getD (recordOf policy) i 0 < 256
+  unfolding recordOf
+  small =
+      let p : Passed policy = policy-passed true true true policy (write-passed numbersFit policy (length buffer) asked-all) in
+      let ps : allBelow 65536 (policy .listedPages) ≡ true = allBelow-wider (policy .pages) 65536 (policy .listedPages) (omega arith) (p .pages-below) in
+      let fs : allBelow 65536 (policy .listedFrames) ≡ true = allBelow-wider (policy .frames) 65536 (policy .listedFrames) (omega arith) (p .frames-below) in
+      bytes-small _
+      (below-one (policy .pages) _ (omega arith)
+      (below-one (policy .frames) _ (omega arith)
+      (below-one (policy .count) _ (omega arith) (below-one (policy .entryCount) _ (omega arith) (below-append _ _ ps fs)))))
+
   starts : (given : Givens) (t : Tables) → givensInRange given ≡ true → lengthsFit policy (lengthsOf t) ≡ true
       → startOf given (recordOf policy) t ≡ outcome (accepted (policy .count) (policy .entryCount)) (startGuard given policy)
   unfolding startOf startQuestions recordQuestions policyQuestions numbered both
@@ -209,13 +236,13 @@ module _ (numbersFit : Bool) (policy : Policy) (buffer : List ℕ) (h : writeRec
       rw back
       (settle-accepted _ _
       (firstNo-back (recordQuestions given (recordOf policy) policy) _ refl
-      (record-asked given (recordOf policy) policy (write-passed numbersFit policy (length buffer) asked-all) (record-length policy fits-pages fits-frames) more)
+      (record-asked given (recordOf policy) policy (write-passed numbersFit policy (length buffer) asked-all) (written-length policy fits-pages fits-frames) more)
       ∙ (firstNo-yes 7 [] fits ∙ sym none-left)))
 
 pub written-starts : WrittenStarts
 unfolding WrittenStarts
 written-starts numbersFit policy buffer h bytes e =
-    rw (e ∙ cut numbersFit policy buffer h) (back numbersFit policy buffer h, starts numbersFit policy buffer h)
+    rw (e ∙ cut numbersFit policy buffer h) (small numbersFit policy buffer h, back numbersFit policy buffer h, starts numbersFit policy buffer h)
 
 -- The arrays of a record that was read have n numbers each.
 read-pages : (bytes : List ℕ) → length (policyOf bytes .listedPages) ≡ policyOf bytes .count
@@ -229,7 +256,7 @@ read-frames bytes = length-numbersAt bytes (8 + 2 * numberAt bytes 4) (numberAt 
 pub written-again : WrittenAgain
 unfolding WrittenAgain recordQuestions
 written-again given bytes buffer small h room =
-    let long : length bytes ≡ 8 + 4 * policyOf bytes .count = read-length given bytes (policyOf bytes) 0 (sym h) refl in
+    let long : length bytes ≡ 8 + 4 * policyOf bytes .count = record-length given bytes (policyOf bytes) 0 (sym h) refl in
     let same : recordOf (policyOf bytes) ≡ bytes = record-same bytes small long in
     written-is true (policyOf bytes) buffer
     (write-asked (policyOf bytes) (length buffer) (policy-asked _ _ _ (policyOf bytes) h) (read-pages bytes) (read-frames bytes) (omega arith))

@@ -86,7 +86,8 @@ unfoldable pub allBelow : ℕ → List ℕ → Bool
 allBelow frames [] = true
 allBelow frames (f ∷ fs) = both (ltb f frames) (allBelow frames fs)
 
--- "7. [..] does every lent table have its exact length": the state, and the tables that a call is lent. Every call asks it so.
+-- "7. [..] does every lent table have its exact length": the state, and the tables that a call is lent. Every call that is lent
+-- one of them asks it so.
 unfoldable pub inOrder : Bool → List Bool → Bool
 inOrder stateFits [] = stateFits
 inOrder stateFits (fits ∷ others) = both fits (inOrder stateFits others)

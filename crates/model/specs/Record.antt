@@ -35,8 +35,8 @@ unfoldable pub arraysExact : Policy → Bool
 arraysExact policy = both (eqb (length (policy .listedPages)) (policy .count)) (eqb (length (policy .listedFrames)) (policy .count))
 
 -- "The input passes questions 2, 3, 5 and 6": the start's. Question 1 is about a record's bytes, and nothing else is given of which 3 asks, so that
--- both are answered yes. "It refuses with 16, as the last question, an output buffer shorter than the record." numbersFit: the run for the call's
--- numbers, where it is lent one, has its length. room: the buffer's.
+-- both are answered yes. "It refuses with 16, as the last question, an output buffer shorter than the record." 7 stands before it: numbersFit, whether
+-- the run for the call's numbers has its length, and yes where it is lent none. room is the buffer's length.
 unfoldable pub writeRecordQuestions : Bool → Policy → ℕ → List Question
 writeRecordQuestions numbersFit policy room =
     policyQuestions true true (arraysExact policy) policy ++ (question 7 numbersFit ∷ question 16 (leb (8 + 4 * policy .count) room) ∷ [])
@@ -59,12 +59,13 @@ writeRecordOf numbersFit policy buffer =
     (λ n. written (refused n) buffer)
 
 -- "With tables and the start's other givens in order, a written record starts a guard with those pages and frames": an accepted call's record, cut
--- to its length, reads back as the policy, and its start is accepted and leaves what the start defines for it.
+-- to its length, is bytes and reads back as the policy, and its start is accepted and leaves what the start defines for it.
 unfoldable pub WrittenStarts : Type 0
 WrittenStarts =
     (numbersFit : Bool) (policy : Policy) (buffer : List ℕ) → writeRecordOf numbersFit policy buffer .reply .number ≡ 0
     → (bytes : List ℕ) → bytes ≡ take (writeRecordOf numbersFit policy buffer .reply .first) (writeRecordOf numbersFit policy buffer .buffer)
-    → (policyOf bytes ≡ policy)
+    → ((i : ℕ) → i < length bytes → getD bytes i 0 < 256)
+    × (policyOf bytes ≡ policy)
     × ((given : Givens) (t : Tables) → givensInRange given ≡ true → lengthsFit policy (lengthsOf t) ≡ true
     → startOf given bytes t ≡ outcome (accepted (policy .count) (policy .entryCount)) (startGuard given policy))
 

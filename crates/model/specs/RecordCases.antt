@@ -1,9 +1,10 @@
 -- Document 02, K2: what the call that writes a record gives on small policies. A row fixes the number, both values and every byte of the buffer.
--- The policy is that of twoEntries (Further), the buffer holds nines.
+-- Unless a row says otherwise, the policy is that of twoEntries (Further), and the buffer holds nines.
 use Prim.Native.Nat.{ℕ}
-use mathlib.Core.Bool.{Bool, true, false}
+use mathlib.Core.Bool.{true, false}
 use mathlib.Core.List.{List, [], _∷_, _++_}
 use lib.ListN.{replicate}
+use Rattle.model.specs.Basics.{table}
 use Rattle.model.specs.Policy.{Policy}
 use Rattle.model.specs.Calls.{accepted, refused}
 use Rattle.model.specs.Record.{policyBy, Written, written, writeRecordOf}
@@ -22,7 +23,7 @@ unfoldable pub sized : ℕ → ℕ → ℕ → ℕ → Policy
 sized pages frames count entryCount = policyBy pages frames count entryCount (1 ∷ 2 ∷ 4 ∷ []) (5 ∷ 3 ∷ 5 ∷ [])
 
 unfoldable pub listing : List ℕ → List ℕ → Policy
-listing pages frames = policyBy 6 8 3 2 pages frames
+listing listedPages listedFrames = policyBy 6 8 3 2 listedPages listedFrames
 
 abbrev pub RecordCase : Type 0
 RecordCase = Row Written
@@ -41,20 +42,20 @@ recordCases =
     -- n V and e n
     ∷ row (writtenInto 16 (policyBy 2 1 2 2 (0 ∷ 1 ∷ []) (0 ∷ 0 ∷ [])))
     (written (accepted 16 0) (2 ∷ 0 ∷ 1 ∷ 0 ∷ 2 ∷ 0 ∷ 2 ∷ 0 ∷ 0 ∷ 0 ∷ 1 ∷ 0 ∷ 0 ∷ 0 ∷ 0 ∷ 0 ∷ []))
-    -- 2, with V and F past each end; a number of more than 16 bits is not cut
+    -- 2, with V and F past each end; a number is not cut to 16, 32 or 63 bits: 2^63 + 6 is not 6
     ∷ row (writtenInto 20 (sized 0 8 3 2)) (leftAs 20 2)
     ∷ row (writtenInto 20 (sized 2049 8 3 2)) (leftAs 20 2)
-    ∷ row (writtenInto 20 (sized 65542 8 3 2)) (leftAs 20 2)
+    ∷ row (writtenInto 20 (sized 9223372036854775814 8 3 2)) (leftAs 20 2)
     ∷ row (writtenInto 20 (sized 6 0 3 2)) (leftAs 20 2)
     ∷ row (writtenInto 20 (sized 6 4097 3 2)) (leftAs 20 2)
-    ∷ row (writtenInto 20 (sized 6 65544 3 2)) (leftAs 20 2)
+    ∷ row (writtenInto 20 (sized 6 9223372036854775816 3 2)) (leftAs 20 2)
     -- 3: n 0, n above V, e 0, e above n; e 17 of 17, where e 16 goes on to 4
     ∷ row (writtenInto 20 (sized 6 8 0 2)) (leftAs 20 3)
     ∷ row (writtenInto 36 (sized 6 8 7 2)) (leftAs 36 3)
-    ∷ row (writtenInto 20 (sized 6 8 65539 2)) (leftAs 20 3)
+    ∷ row (writtenInto 20 (sized 6 8 9223372036854775811 2)) (leftAs 20 3)
     ∷ row (writtenInto 20 (sized 6 8 3 0)) (leftAs 20 3)
     ∷ row (writtenInto 20 (sized 6 8 3 4)) (leftAs 20 3)
-    ∷ row (writtenInto 20 (sized 6 8 3 65538)) (leftAs 20 3)
+    ∷ row (writtenInto 20 (sized 6 8 3 9223372036854775810)) (leftAs 20 3)
     ∷ row (writtenInto 76 (sized 17 8 17 17)) (leftAs 76 3)
     ∷ row (writtenInto 76 (sized 17 8 17 16)) (leftAs 76 4)
     -- 4: "each array must also have exactly n numbers": each of them one short, and one long
@@ -69,19 +70,29 @@ recordCases =
     ∷ row (writtenInto 20 (listing (1 ∷ 1 ∷ 4 ∷ []) (5 ∷ 3 ∷ 5 ∷ []))) (leftAs 20 5)
     ∷ row (writtenInto 20 (listing (1 ∷ 4 ∷ 2 ∷ []) (5 ∷ 3 ∷ 5 ∷ []))) (leftAs 20 5)
     ∷ row (writtenInto 20 (listing (1 ∷ 2 ∷ 6 ∷ []) (5 ∷ 3 ∷ 5 ∷ []))) (leftAs 20 5)
-    -- 6: the first frame F, the last frame F
+    -- the last above V, and the first frame above F
+    ∷ row (writtenInto 20 (listing (1 ∷ 2 ∷ 7 ∷ []) (9 ∷ 3 ∷ 5 ∷ []))) (leftAs 20 5)
+    -- 6: the first frame F, the last frame F, the second above F
     ∷ row (writtenInto 20 (listing (1 ∷ 2 ∷ 4 ∷ []) (8 ∷ 3 ∷ 5 ∷ []))) (leftAs 20 6)
     ∷ row (writtenInto 20 (listing (1 ∷ 2 ∷ 4 ∷ []) (5 ∷ 3 ∷ 8 ∷ []))) (leftAs 20 6)
-    -- 16: "an output buffer shorter than the record", by one byte, and one of no byte
+    ∷ row (writtenInto 20 (listing (1 ∷ 2 ∷ 4 ∷ []) (5 ∷ 9 ∷ 5 ∷ []))) (leftAs 20 6)
+    -- 16: "an output buffer shorter than the record", by one byte, with n 3, 1 and 62, and one of no byte; it stays as it was
     ∷ row (writtenInto 19 (sized 6 8 3 2)) (leftAs 19 16)
+    ∷ row (writtenInto 11 (policyBy 4 4 1 1 (1 ∷ []) (2 ∷ []))) (leftAs 11 16)
+    ∷ row (writtenInto 255 (policyBy 62 1 62 1 (table 62 (λ i. i)) (replicate 62 0))) (leftAs 255 16)
     ∷ row (writtenInto 0 (sized 6 8 3 2)) (leftAs 0 16)
-    -- The order. 2 to 16: V 0, n 7, arrays of 2 and 1, pages that fall, frame 8, a run for the numbers that does not fit, no room; then 3 to 16,
-    -- 4 to 16, 5 to 16, 6 to 16, and 7 and 16
-    ∷ row (writeRecordOf false (policyBy 0 8 7 2 (2 ∷ 1 ∷ []) (8 ∷ [])) (9 ∷ [])) (leftAs 1 2)
-    ∷ row (writeRecordOf false (policyBy 6 8 7 2 (2 ∷ 1 ∷ []) (8 ∷ [])) (9 ∷ [])) (leftAs 1 3)
-    ∷ row (writeRecordOf false (policyBy 6 8 3 2 (2 ∷ 1 ∷ []) (8 ∷ [])) (9 ∷ [])) (leftAs 1 4)
-    ∷ row (writeRecordOf false (policyBy 6 8 2 2 (2 ∷ 1 ∷ []) (8 ∷ 8 ∷ [])) (9 ∷ [])) (leftAs 1 5)
-    ∷ row (writeRecordOf false (policyBy 6 8 2 2 (1 ∷ 2 ∷ []) (8 ∷ 8 ∷ [])) (9 ∷ [])) (leftAs 1 6)
+    ∷ row (writeRecordOf true (sized 6 8 3 2) (1 ∷ 2 ∷ 3 ∷ [])) (written (refused 16) (1 ∷ 2 ∷ 3 ∷ []))
+    -- The order. 2 to 16: V 0, F 8, n 7, e 0, arrays of 2 and 1, pages at or above V that fall, frames above F, a run for the numbers that does not
+    -- fit, a buffer of one byte; the same with F 0; then 3 to 16, 4 to 16 with both arrays and with one of them of another length, 5 to 16, 6 to 16,
+    -- 7 and 16
+    ∷ row (writeRecordOf false (policyBy 0 8 7 0 (7 ∷ 1 ∷ []) (9 ∷ [])) (9 ∷ [])) (leftAs 1 2)
+    ∷ row (writeRecordOf false (policyBy 6 0 7 0 (7 ∷ 1 ∷ []) (9 ∷ [])) (9 ∷ [])) (leftAs 1 2)
+    ∷ row (writeRecordOf false (policyBy 6 8 7 2 (7 ∷ 1 ∷ []) (9 ∷ [])) (9 ∷ [])) (leftAs 1 3)
+    ∷ row (writeRecordOf false (policyBy 6 8 3 2 (7 ∷ 1 ∷ []) (9 ∷ [])) (9 ∷ [])) (leftAs 1 4)
+    ∷ row (writeRecordOf false (listing (7 ∷ 1 ∷ []) (9 ∷ 3 ∷ 5 ∷ [])) (9 ∷ [])) (leftAs 1 4)
+    ∷ row (writeRecordOf false (listing (7 ∷ 1 ∷ 4 ∷ []) (9 ∷ 3 ∷ [])) (9 ∷ [])) (leftAs 1 4)
+    ∷ row (writeRecordOf false (policyBy 6 8 2 2 (7 ∷ 1 ∷ []) (9 ∷ 9 ∷ [])) (9 ∷ [])) (leftAs 1 5)
+    ∷ row (writeRecordOf false (policyBy 6 8 2 2 (1 ∷ 2 ∷ []) (9 ∷ 9 ∷ [])) (9 ∷ [])) (leftAs 1 6)
     ∷ row (writeRecordOf false (policyBy 6 8 2 2 (1 ∷ 2 ∷ []) (7 ∷ 7 ∷ [])) (9 ∷ [])) (leftAs 1 7)
     -- 7 alone
     ∷ row (writeRecordOf false (sized 6 8 3 2) (replicate 20 9)) (leftAs 20 7)

@@ -1,5 +1,5 @@
 // The declared types of the guard, and the functions that carry the theorems about its definitions.
-// The definitions themselves stand in specs/, one file for each section of document 01.
+// The definitions themselves stand in specs/, one file for each section of document 01 and for a request that adds to none.
 
 ghost use mathlib.Core.Path.{_≡_};
 ghost use mathlib.Core.List.{_++_};

@@ -14,7 +14,7 @@ use Rattle.model.specs.Policy.{Policy, Givens, nothingGiven, numberAt, numbersA
 use Rattle.model.specs.Questions.{Question, question, firstNo, sizesInRange, countsInRange, rising, allBelow, policyQuestions, givensInRange, recordQuestions, Lengths, lengthsFit, startQuestions}
 use Rattle.model.proofs.QuestionLaws.{both-true, firstNo-yes, firstNo-no, firstNo-front, firstNo-back, numbered}
 use Rattle.model.proofs.CallLaws.{passed, stopped, none-left}
-use Rattle.model.proofs.PolicyLaws.{numbersAt-none, numbersAt-more, rising-none, rising-more, rising-no, allBelow-none, allBelow-more, allBelow-no}
+use Rattle.model.proofs.PolicyLaws.{numbersAt-none, numbersAt-more, rising-refuses, allBelow-none, allBelow-more, allBelow-no}
 
 -- A number past the end, one whose second byte is, and one inside.
 pub number-none : (bytes : List ℕ) (at : ℕ) → length bytes ≤ at → 0 ≡ numberAt bytes at
@@ -34,20 +34,18 @@ pub number-both : (bytes : List ℕ) (at r : ℕ) → r ≡ getD bytes at 0 + 25
 unfolding numberAt
 number-both bytes at r e = e
 
--- Question 5, at the page read where `left` pages are left. `whole` is the answer on all of them.
-module _ (bytes : List ℕ) (pages least at left : ℕ) (whole : Bool) (e : rising pages least (numbersAt bytes at left) ≡ whole) where
-  pub rising-ends : left ≤ 0 → true ≡ whole
-  rising-ends h = sym (rising-none pages least (numbersAt-none bytes at (omega arith))) ∙ e
+-- The numbers that are left begin with the one that was read.
+pub numbers-front : (bytes : List ℕ) (at left number : ℕ) → number ≡ numberAt bytes at → 0 < left
+    → numbersAt bytes at left ≡ number ∷ numbersAt bytes (at + 2) (left - 1)
+numbers-front bytes at left number read more = rw read (numbersAt-more bytes at left more)
 
-  module _ (page : ℕ) (read : page ≡ numberAt bytes at) (more : 0 < left) (r : Bool) (asks : r ≡ both (leb least page) (ltb page pages)) where
-    front : rising pages least (page ∷ numbersAt bytes (at + 2) (left - 1)) ≡ whole
-    front = rw read (rw (numbersAt-more bytes at left more) at e)
+pub page-refused : (bytes : List ℕ) (pages least at left page : ℕ) (whole r : Bool) → rising pages least (numbersAt bytes at left) ≡ whole
+    → page ≡ numberAt bytes at → 0 < left → r ≡ both (leb least page) (ltb page pages) → not r ≡ true → false ≡ whole
+page-refused bytes pages least at left page whole r e read more asks h =
+    rising-refuses pages least _ whole e page r asks _ (numbers-front bytes at left page read more) h
 
-    pub rising-refuses : not r ≡ true → false ≡ whole
-    rising-refuses h = sym (rising-no pages least page _ asks h) ∙ front
-
-    pub rising-goes-on : not r ≡ false → rising pages (page + 1) (numbersAt bytes (at + 2) (left - 1)) ≡ whole
-    rising-goes-on h = sym (rising-more pages least page _ asks h) ∙ front
+pub numbers-none : (bytes : List ℕ) (at left : ℕ) → left ≤ 0 → numbersAt bytes at left ≡ []
+numbers-none bytes at left h = numbersAt-none bytes at (omega arith)
 
 -- Question 6, at the frame read where `left` frames are left.
 module _ (bytes : List ℕ) (limit at left : ℕ) (whole : Bool) (e : allBelow limit (numbersAt bytes at left) ≡ whole) where

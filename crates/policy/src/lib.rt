@@ -1,4 +1,4 @@
-// Document 01, "The policy record", and questions 1 to 6, which are about the record alone.
+// Document 01, "The policy record", and questions 1 to 6 of a record. The tests of the sizes, of one page and of one frame also serve arrays (K2).
 // Every number of the record is read by `number_from`, through a reader, with no test of the length: the questions before it have settled it.
 // `padded_number` is for bytes that may be short, and reads through the same.
 

@@ -18,24 +18,21 @@ use Rattle.model.specs.Policy.{Policy}
 use Rattle.model.specs.Questions.{firstNo, sizesInRange, countsInRange, rising, allBelow, policyQuestions}
 use Rattle.model.specs.Record.{policyBy, arraysExact}
 use Rattle.model.proofs.QuestionLaws.{both-true, both-first, both-second, within-low, within-high}
-use Rattle.model.proofs.PolicyLaws.{rising-none, rising-more, rising-no, allBelow-none}
+use Rattle.model.proofs.PolicyLaws.{rising-refuses}
 use Rattle.record.specs.Arrays.{highestOf}
 use Rattle.policy.proofs.RecordLaws.{asked-2, asked-3, asked-4, asked-5, asked-6, asked-none}
 
--- Question 5, at place i of the array. `whole` is the answer on all of it.
-module _ (listed : List ℕ) (pages least i : ℕ) (whole : Bool) (e : rising pages least (drop i listed) ≡ whole) where
-  pub rising-ends : length listed ≤ i → true ≡ whole
-  rising-ends h = sym (rising-none pages least (drop-of-length-le listed h)) ∙ e
+-- The numbers that are left begin with the one at place i.
+pub array-front : (listed : List ℕ) (i : ℕ) → i < length listed → drop i listed ≡ getD listed i 0 ∷ drop (i + 1) listed
+array-front listed i more = rw add-one (drop-cons listed i 0 more)
 
-  module _ (more : i < length listed) (r : Bool) (asks : r ≡ both (leb least (getD listed i 0)) (ltb (getD listed i 0) pages)) where
-    front : rising pages least (getD listed i 0 ∷ drop (i + 1) listed) ≡ whole
-    front = rw add-one (rw (drop-cons listed i 0 more) at e)
+pub array-ends : (listed : List ℕ) (i : ℕ) → length listed ≤ i → drop i listed ≡ []
+array-ends listed i h = drop-of-length-le listed h
 
-    pub rising-refuses : not r ≡ true → false ≡ whole
-    rising-refuses h = sym (rising-no pages least (getD listed i 0) _ asks h) ∙ front
-
-    pub rising-goes-on : not r ≡ false → rising pages (getD listed i 0 + 1) (drop (i + 1) listed) ≡ whole
-    rising-goes-on h = sym (rising-more pages least (getD listed i 0) _ asks h) ∙ front
+pub page-refused : (listed : List ℕ) (pages least i : ℕ) (whole r : Bool) → rising pages least (drop i listed) ≡ whole → i < length listed
+    → r ≡ both (leb least (getD listed i 0)) (ltb (getD listed i 0) pages) → not r ≡ true → false ≡ whole
+page-refused listed pages least i whole r e more asks h =
+    rising-refuses pages least _ whole e (getD listed i 0) r asks _ (array-front listed i more) h
 
 -- The highest number, at place i of the array: `so-far` is the highest before it.
 pub highest-starts : (numbers : List ℕ) → max 0 (highestOf (drop 0 numbers)) ≡ highestOf numbers
@@ -44,13 +41,11 @@ highest-starts numbers = omega arith
 module _ (numbers : List ℕ) (i so-far whole : ℕ) (e : max so-far (highestOf (drop i numbers)) ≡ whole) where
   pub highest-ends : length numbers ≤ i → so-far ≡ whole
   unfolding highestOf
-  highest-ends h = let none : drop i numbers ≡ [] = drop-of-length-le numbers h in omega (arith, rw none at e)
+  highest-ends h = omega (arith, rw (array-ends numbers i h) at e)
 
   pub highest-goes-on : (next : ℕ) → i < length numbers → next ≡ max so-far (getD numbers i 0) → max next (highestOf (drop (i + 1) numbers)) ≡ whole
   unfolding highestOf
-  highest-goes-on next more is =
-      let there : drop i numbers ≡ getD numbers i 0 ∷ drop (i + 1) numbers = rw add-one (drop-cons numbers i 0 more) in
-      omega (arith, rw there at e)
+  highest-goes-on next more is = omega (arith, rw (array-front numbers i more) at e)
 
 -- Question 6 by the highest frame.
 max-below : (a b limit : ℕ) → ltb (max a b) limit ≡ both (ltb a limit) (ltb b limit)

@@ -1,4 +1,4 @@
--- Laws of a record as it is written: the first no of all questions, a number, numbers in a row, the sizes, and the whole.
+-- Laws of a record as it is written: a number, numbers in a row, the sizes, the whole; and the call, by the first no of its questions.
 use Prim.Native.Nat.{ℕ, suc, _+_, _*_, _/_, _%_, _≤_, _<_}
 use mathlib.Core.Bool.{Bool, true, false, not}
 use mathlib.Core.List.{List, [], _∷_, _++_}
@@ -10,46 +10,17 @@ use mir.Syntax.{w16}
 use mir.Val.{Fits}
 use native.Mathlib.Numerals.{add-one}
 use native.Mathlib.Omega.{arith}
-use borrow.Author.Tests.{not-true, not-false, le-leb, lt-leb}
+use borrow.Author.Tests.{le-leb, lt-leb}
 use Rattle.model.specs.declared.Answer.the-variants.{Done, Refused}
 use Rattle.model.specs.Basics.{both}
 use Rattle.model.specs.Policy.{Policy}
-use Rattle.model.specs.Questions.{Question, question, firstNo, policyQuestions}
+use Rattle.model.specs.Questions.{question, firstNo, policyQuestions}
 use Rattle.model.specs.Calls.{replyOf}
 use Rattle.model.specs.Record.{policyBy, numberBytes, numbersBytes, recordOf, arraysExact, writeRecordQuestions, written, writeRecordOf}
 use Rattle.model.proofs.QuestionLaws.{firstNo-yes, firstNo-no, firstNo-front, firstNo-back, numbered}
 use Rattle.model.proofs.CallLaws.{passed, stopped, none-left, settle-refused-by}
 use Rattle.model.proofs.PolicyLaws.{Passed, policy-passed}
-use Rattle.model.proofs.RecordLaws.{length-numbersBytes, numbersBytes-append, record-length, write-passed, pages-exact, frames-exact, room-there, written-is}
-
--- The first no: that of questions 2 to 6, or 7, or 16. Past question 6, n is at most 2,048.
-module _ (pages frames count entries : ℕ) (ps fs : List ℕ) where
-  abbrev policy : Policy
-  policy = policyBy pages frames count entries ps fs
-
-  module _ (number : ℕ) (asks : number ≡ firstNo (policyQuestions true true (arraysExact policy) policy)) where
-    pub write-refused : (numbersFit : Bool) (room : ℕ) → (number ≡ 0 → ⊥) → number ≡ firstNo (writeRecordQuestions numbersFit policy room)
-    unfolding writeRecordQuestions
-    write-refused numbersFit room named = asks ∙ sym (firstNo-front (policyQuestions true true (arraysExact policy) policy) _ (λ z. named (asks ∙ z)))
-
-    module _ (six : number ≡ 0) where
-      pub count-few : count ≤ 2048
-      count-few = let p : Passed policy = policy-passed true true (arraysExact policy) policy (sym asks ∙ six) in omega arith
-
-      module _ (numbersFit : Bool) (room : ℕ) where
-        past6 : (k : ℕ) → k ≡ firstNo (question 7 numbersFit ∷ question 16 (leb (8 + 4 * count) room) ∷ [])
-            → k ≡ firstNo (writeRecordQuestions numbersFit policy room)
-        unfolding writeRecordQuestions policyQuestions numbered both
-        past6 k rest = rest ∙ sym (firstNo-back (policyQuestions true true (arraysExact policy) policy) _ refl (sym asks ∙ six))
-
-        pub write-7 : not numbersFit ≡ true → 7 ≡ firstNo (writeRecordQuestions numbersFit policy room)
-        write-7 h = past6 7 (stopped 7 numbersFit _ _ refl h)
-
-        pub write-16 : not numbersFit ≡ false → room < 8 + 4 * count → 16 ≡ firstNo (writeRecordQuestions numbersFit policy room)
-        write-16 h short = past6 16 (passed 7 16 numbersFit _ _ refl h (sym (firstNo-no 16 _ (lt-leb (8 + 4 * count) room short))))
-
-        pub write-yes : not numbersFit ≡ false → 8 + 4 * count ≤ room → 0 ≡ firstNo (writeRecordQuestions numbersFit policy room)
-        write-yes h long = past6 0 (passed 7 0 numbersFit _ _ refl h (none-left ∙ sym (firstNo-yes 16 _ (le-leb (8 + 4 * count) room long))))
+use Rattle.model.proofs.RecordLaws.{length-numbersBytes, numbersBytes-append, written-length, write-passed, pages-exact, frames-exact, room-there, written-is}
 
 -- Two stores put a number.
 pub number-put : (buffer : List ℕ) (at number : ℕ) → set (set buffer at (number % 256)) (at + 1) (number / 256) ≡ sets buffer at (numberBytes number)
@@ -99,50 +70,81 @@ record-put buffer b1 b2 b3 pages frames count entries ps fs e1 e2 e3 =
     row-put buffer b2 b3 (pages ∷ frames ∷ count ∷ entries ∷ ps) fs (8 + 2 * length ps) (omega arith)
     (row-put buffer b1 b2 (pages ∷ frames ∷ count ∷ entries ∷ []) ps 8 refl e1 e2) e3
 
--- The call, by the first no of its questions: refused, or accepted. An accepted one has shown what writing requires.
-module _ (numbersFit : Bool) (pages frames count entries : ℕ) (ps fs buffer : List ℕ) (number : ℕ)
-    (asks : number ≡ firstNo (writeRecordQuestions numbersFit (policyBy pages frames count entries ps fs) (length buffer))) where
-  abbrev given : Policy
-  given = policyBy pages frames count entries ps fs
+-- The call, by the first no of its questions.
+module _ (pages frames count entries : ℕ) (ps fs : List ℕ) where
+  abbrev policy : Policy
+  policy = policyBy pages frames count entries ps fs
 
-  pub write-refuses : (number ≡ 0 → ⊥) → written (replyOf (Refused number)) buffer ≡ writeRecordOf numbersFit given buffer
-  unfolding writeRecordOf replyOf
-  write-refuses named = sym (settle-refused-by number _ _ named (sym asks))
+  -- That of questions 2 to 6, or 7, or 16. Past question 6, n is at most 2,048. `bytes` is the record's length.
+  module _ (number : ℕ) (asks : number ≡ firstNo (policyQuestions true true (arraysExact policy) policy)) where
+    pub write-refused : (numbersFit : Bool) (room : ℕ) → (number ≡ 0 → ⊥) → number ≡ firstNo (writeRecordQuestions numbersFit policy room)
+    unfolding writeRecordQuestions
+    write-refused numbersFit room named = asks ∙ sym (firstNo-front (policyQuestions true true (arraysExact policy) policy) _ (λ z. named (asks ∙ z)))
 
-  module _ (none : number ≡ 0) where
-    yes : firstNo (writeRecordQuestions numbersFit given (length buffer)) ≡ 0
-    yes = sym asks ∙ none
+    module _ (six : number ≡ 0) where
+      pub count-few : count ≤ 2048
+      count-few = let p : Passed policy = policy-passed true true (arraysExact policy) policy (sym asks ∙ six) in omega arith
 
-    passes : Passed given
-    passes = policy-passed true true true given (write-passed numbersFit given (length buffer) yes)
+      module _ (numbersFit : Bool) (room : ℕ) where
+        past6 : (k : ℕ) → k ≡ firstNo (question 7 numbersFit ∷ question 16 (leb (8 + 4 * count) room) ∷ [])
+            → k ≡ firstNo (writeRecordQuestions numbersFit policy room)
+        unfolding writeRecordQuestions policyQuestions numbered both
+        past6 k rest = rest ∙ sym (firstNo-back (policyQuestions true true (arraysExact policy) policy) _ refl (sym asks ∙ six))
 
-    pub pages-cast : Fits w16 pages
-    pages-cast = let p = passes in record { fits = omega arith }
+        pub write-7 : not numbersFit ≡ true → 7 ≡ firstNo (writeRecordQuestions numbersFit policy room)
+        write-7 h = past6 7 (stopped 7 numbersFit _ _ refl h)
 
-    pub frames-cast : Fits w16 frames
-    frames-cast = let p = passes in record { fits = omega arith }
+        module _ (fits : not numbersFit ≡ false) (bytes : ℕ) (long : bytes ≡ 8 + 4 * count) where
+          pub write-16 : room < bytes → 16 ≡ firstNo (writeRecordQuestions numbersFit policy room)
+          write-16 short = past6 16 (passed 7 16 numbersFit _ _ refl fits (sym (firstNo-no 16 _ (lt-leb (8 + 4 * count) room (omega arith)))))
 
-    pub count-cast : Fits w16 count
-    count-cast = let p = passes in record { fits = omega arith }
+          pub write-yes : bytes ≤ room → 0 ≡ firstNo (writeRecordQuestions numbersFit policy room)
+          write-yes enough =
+              past6 0 (passed 7 0 numbersFit _ _ refl fits (none-left ∙ sym (firstNo-yes 16 _ (le-leb (8 + 4 * count) room (omega arith)))))
 
-    pub entries-cast : Fits w16 entries
-    entries-cast = let p = passes in record { fits = omega arith }
+  -- Refused, or accepted. An accepted call has shown what writing requires.
+  module _ (numbersFit : Bool) (buffer : List ℕ) (number : ℕ) (asks : number ≡ firstNo (writeRecordQuestions numbersFit policy (length buffer))) where
+    pub write-refuses : (number ≡ 0 → ⊥) → written (replyOf (Refused number)) buffer ≡ writeRecordOf numbersFit policy buffer
+    unfolding writeRecordOf replyOf
+    write-refuses named = sym (settle-refused-by number _ _ named (sym asks))
 
-    pages-there : length ps ≡ count
-    pages-there = pages-exact numbersFit given (length buffer) yes
+    module _ (none : number ≡ 0) where
+      yes : firstNo (writeRecordQuestions numbersFit policy (length buffer)) ≡ 0
+      yes = sym asks ∙ none
 
-    frames-there : length fs ≡ count
-    frames-there = frames-exact numbersFit given (length buffer) yes
+      passes : Passed policy
+      passes = policy-passed true true true policy (write-passed numbersFit policy (length buffer) yes)
 
-    pub record-room : 8 + 2 * length ps + 2 * length fs ≤ length buffer
-    record-room = omega (arith, pages-there, frames-there, room-there numbersFit given (length buffer) yes)
+      pub pages-cast : Fits w16 pages
+      pages-cast = let p = passes in record { fits = omega arith }
 
-    pub write-accepts : (after : List ℕ) → after ≡ sets buffer 0 (recordOf given)
-        → written (replyOf (Done (8 + 4 * count) 0)) after ≡ writeRecordOf numbersFit given buffer
-    unfolding replyOf
-    write-accepts after put =
-        let long : length (recordOf given) ≡ 8 + 4 * count = record-length given pages-there frames-there in
-        let front : sets buffer 0 (recordOf given) ≡ recordOf given ++ drop (0 + length (recordOf given)) buffer =
-        sets-eq (recordOf given) buffer 0 (omega (arith, room-there numbersFit given (length buffer) yes)) in
-        let past : 0 + length (recordOf given) ≡ length (recordOf given) = omega arith in
-        rw (put, front, past, ← long) (sym (written-is numbersFit given buffer yes))
+      pub frames-cast : Fits w16 frames
+      frames-cast = let p = passes in record { fits = omega arith }
+
+      pub count-cast : Fits w16 count
+      count-cast = let p = passes in record { fits = omega arith }
+
+      pub entries-cast : Fits w16 entries
+      entries-cast = let p = passes in record { fits = omega arith }
+
+      pub count-written : count ≤ 2048
+      count-written = let p = passes in omega arith
+
+      pages-there : length ps ≡ count
+      pages-there = pages-exact numbersFit policy (length buffer) yes
+
+      frames-there : length fs ≡ count
+      frames-there = frames-exact numbersFit policy (length buffer) yes
+
+      pub record-room : 8 + 2 * length ps + 2 * length fs ≤ length buffer
+      record-room = omega (arith, pages-there, frames-there, room-there numbersFit policy (length buffer) yes)
+
+      pub write-accepts : (after : List ℕ) (bytes : ℕ) → after ≡ sets buffer 0 (recordOf policy) → bytes ≡ 8 + 4 * count
+          → written (replyOf (Done bytes 0)) after ≡ writeRecordOf numbersFit policy buffer
+      unfolding replyOf
+      write-accepts after bytes put is =
+          let long : length (recordOf policy) ≡ bytes = written-length policy pages-there frames-there ∙ sym is in
+          let front : sets buffer 0 (recordOf policy) ≡ recordOf policy ++ drop (0 + length (recordOf policy)) buffer =
+          sets-eq (recordOf policy) buffer 0 (omega (arith, room-there numbersFit policy (length buffer) yes)) in
+          let past : 0 + length (recordOf policy) ≡ length (recordOf policy) = omega arith in
+          rw (put, front, past, ← long) (sym (written-is numbersFit policy buffer yes))

@@ -1,5 +1,5 @@
 // Document 02, K2, "Making the policy at the factory": a policy record written into a lent buffer.
-// All questions come before the first byte is written. Those of one size, one page and one frame are the policy crate's.
+// All questions come before the first byte is written. Those of the sizes, of one page and of one frame are the policy crate's.
 
 ghost use mathlib.Core.Path.{_≡_};
 ghost use mathlib.Core.Bool.{true};
@@ -19,10 +19,10 @@ use model::Answer;
 const SIZES: usize = 8;
 
 // Question 4: each array has exactly n numbers.
-fn arrays_exact(count: u64, pages: usize, frames: usize) -> bool
-    ensures { λ r. ⌜ r ≡ both (eqb pages count) (eqb frames count) ⌝ }
+fn arrays_exact(count: u64, pages_listed: usize, frames_listed: usize) -> bool
+    ensures { λ r. ⌜ r ≡ both (eqb «pages_listed» count) (eqb «frames_listed» count) ⌝ }
 {
-    questions::both(pages as u64 == count, frames as u64 == count)
+    questions::both(pages_listed as u64 == count, frames_listed as u64 == count)
 }
 
 // Question 5.
@@ -100,7 +100,15 @@ fn policy_question(
     0
 }
 
-// The first no of all questions, or 0: then 7, where the run for the call's numbers does not fit, and 16, by the buffer's length.
+// The bytes of a record that lists n pages. Question 3 has shown what is required.
+fn record_length(count: u64) -> u64
+    requires { ⌜ count ≤ 2048 ⌝ }
+    ensures { λ r. ⌜ r ≡ 8 + 4 * count ⌝ }
+{
+    SIZES as u64 + 4 * count
+}
+
+// The first no of all questions, or 0: after 6 come 7, where the run for the call's numbers does not fit, and 16, by the buffer's length.
 fn write_question(
     pages: u64,
     frames: u64,
@@ -128,7 +136,7 @@ fn write_question(
     if !numbers_fit {
         return 7;
     }
-    if room < SIZES + 4 * count as usize {
+    if (room as u64) < record_length(count) {
         return 16;
     }
     0
@@ -224,5 +232,5 @@ pub fn write_record(
         listed_pages,
         listed_frames,
     );
-    Answer::Done(SIZES as u64 + 4 * count, 0)
+    Answer::Done(record_length(count), 0)
 }

@@ -113,7 +113,7 @@ overwritten run values = cond (eqb (length run) (length values)) values run
 unfoldable pub withNumbers : ℕ → List ℕ → Reply → List ℕ
 withNumbers count numbers reply = overwritten numbers (take count (reply .first ∷ reply .second ∷ []))
 
--- The boundary's part of question 7. The start asks for the lengths of both runs; every other call also for a mode word of 0 or 1.
+-- The boundary's part of question 7. The start asks for the lengths of both runs; every call on a state also for a mode word of 0 or 1.
 unfoldable pub runsFit : ℕ → List ℕ → List ℕ → Bool
 runsFit count run numbers = both (eqb (length run) stateWords) (eqb (length numbers) count)
 

@@ -1,13 +1,12 @@
 -- The pages that are left are asked as all of them were.
 use Prim.Native.Nat.{_-_, _≤_}
-use mathlib.Core.List.{[]}
 use mathlib.Core.Path.{_≡_}
 use lib.ListN.{length, getD, drop}
 use native.Mathlib.Omega.{arith}
 use borrow.Author.Needs.{needs}
 use Rattle.model.specs.Questions.{rising}
-use Rattle.model.proofs.PolicyLaws.{rising-room}
-use Rattle.record.proofs.ArrayLaws.{rising-ends, rising-refuses, rising-goes-on}
+use Rattle.model.proofs.PolicyLaws.{rising-ends, rising-goes-on, rising-page}
+use Rattle.record.proofs.ArrayLaws.{array-front, array-ends, page-refused}
 use Rattle.record.proofs.pages_rising.Statement.{statement}
 use Rattle.record.proofs.pages_rising.Tie as tie
 
@@ -18,22 +17,22 @@ abbrev μ-loop : tie.MeasureT-loop
 μ-loop listed pages least₀ i₀ least i = length listed - i
 
 returns : tie.Need-returns Inv-loop μ-loop
-returns c = search (needs, rising-refuses)
+returns c = search (needs, page-refused)
 
 add-least : tie.Need-add-least Inv-loop μ-loop
 add-least c =
     omega (
       arith,
-      rising-room (c .before .before .before .before .before .before .args .pages) (c .before .before .before .before .loop .least)
-          (getD (c .before .before .before .before .before .before .args .listed .now) (c .before .before .before .before .loop .i) 0) []
+      rising-page (c .before .before .before .before .before .before .args .pages) (c .before .before .before .before .loop .least)
+          (getD (c .before .before .before .before .before .before .args .listed .now) (c .before .before .before .before .loop .i) 0)
           (c .before .page-rises .ensures) (c .if1 .left),
     )
 
 loop-again : tie.Need-loop-again Inv-loop μ-loop
-loop-again c = search (needs, rising-goes-on)
+loop-again c = search (needs, rising-goes-on, array-front)
 
 returns-2 : tie.Need-returns-2 Inv-loop μ-loop
-returns-2 c = search (needs, rising-ends)
+returns-2 c = search (needs, rising-ends, array-ends)
 
 pub pages-rising-spec : {M : Type 1} → statement M
 pages-rising-spec =

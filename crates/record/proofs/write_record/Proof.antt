@@ -1,8 +1,5 @@
-use mir.Syntax.{w16}
-use mir.Val.{Fits}
-use native.Mathlib.Omega.{arith}
 use borrow.Author.Needs.{needs}
-use Rattle.record.proofs.WriteLaws.{write-refuses, pages-cast, frames-cast, count-cast, entries-cast, record-room, write-accepts}
+use Rattle.record.proofs.WriteLaws.{write-refuses, pages-cast, frames-cast, count-cast, entries-cast, count-written, record-room, write-accepts}
 use Rattle.record.proofs.write_record.Statement.{statement}
 use Rattle.record.proofs.write_record.Tie as tie
 
@@ -24,11 +21,8 @@ cast-put-record-4 c = search (needs, entries-cast)
 put-record-requires : tie.Need-put-record-requires
 put-record-requires c κs = search (needs, record-room)
 
-mul-t20 : tie.Need-mul-t20
-mul-t20 c = let few : Fits w16 (c .before .before .before .before .before .before .before .before .before .args .count) = search (needs, count-cast) in omega arith
-
-add-t21 : tie.Need-add-t21
-add-t21 c = let few : Fits w16 (c .before .before .before .before .before .before .before .before .before .args .count) = search (needs, count-cast) in omega arith
+record-length-requires : tie.Need-record-length-requires
+record-length-requires c κs = search (needs, count-written)
 
 returns-2 : tie.Need-returns-2
 returns-2 c = search (needs, write-accepts)
@@ -37,4 +31,4 @@ pub write-record-spec : {M : Type 1} → statement M
 write-record-spec =
     tie.close
     (tie.spec (λ c κs. search needs) returns cast-put-record cast-put-record-2 cast-put-record-3 cast-put-record-4
-    put-record-requires mul-t20 add-t21 (λ c. search needs) returns-2)
+    put-record-requires record-length-requires (λ c. search needs) returns-2)
