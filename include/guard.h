@@ -14,14 +14,14 @@
  * These three are the caller's part, and the only part that the guard does not test. State, shadow, map and exclusion go from
  * one call to the next as the last one left them: that is what the guarantee about all calls rests on.
  *
- * Numbers. Sizes, counts, pages, entry indices, addresses and lengths are 64 bits wide and are never cut: page 65537 is refused
- * with 9, and is not taken for page 1. Sums of address and length are exact.
+ * Numbers. Sizes, counts, the pages that a call names, entry indices, addresses and lengths are 64 bits wide and are never cut:
+ * page 65537 is refused with 9, and is not taken for page 1. Sums of address and length are exact.
  *
  * Answers. A call returns 0 where it is accepted, and else the number of the first question that was answered no (enum
  * guard_refusal). Its two numbers go to the numbers run, a run of GUARD_NUMBERS words: 0 and 0 where it is refused.
  * A refused call changes nothing else: the state run, every table and a buffer stay as they were.
  *
- * The runs of a call are part of question 7. A state run that has not GUARD_STATE_WORDS words, a V, F, e or running page in it
+ * The state run and the numbers run are part of question 7. A state run that has not GUARD_STATE_WORDS words, a V, F, e or running page in it
  * that is wider than 16 bits, a mode word that is neither GUARD_MODE_KERNEL nor GUARD_MODE_USER, or a numbers run that has
  * not GUARD_NUMBERS words gives 7. A numbers run of another length is not written.
  */
@@ -178,15 +178,16 @@ uint64_t guard_start(const uint8_t *policy, size_t policy_length, uint64_t *stat
 /*
  * Writes a policy record, laid out as at guard_start, to the front of a buffer. It is given V (pages), F (frames), n (count), e
  * (entry_count) and two arrays: the n listed pages, of which the first e are the entry pages, and the n frames of these pages.
- * Numbers: the record's length, 8 + 4 * n, and 0. Bytes of the buffer past the record stay as they were.
+ * Numbers: the record's length, 8 + 4 * n, and 0. Bytes of the buffer past the record stay as they were. A buffer of 8200 bytes
+ * is long enough for every record.
  *
- * It is lent no state and no table, so that it can be called before any guard is started, also on another machine than the
- * guarded one. guard_start accepts the record, cut to its length, with tables of the lengths that its V and F ask for and state
- * and numbers runs of theirs, and stands as said there for these pages and frames. A record that guard_start accepts, read and
- * written again, is the same bytes. A buffer of 8200 bytes is long enough for every record.
+ * It is lent no state and no table, so that it can be called before any guard is started, and on another machine than the
+ * guarded one. guard_start, with tables, state and numbers runs of their right lengths, accepts the record, cut to its length;
+ * the guard then stands as said there for these pages and frames. A record that guard_start accepts, read and written again, is
+ * the same bytes.
  *
- * Refusals 2, 3, 5 and 6 are those of guard_start; 4 is for an array that has not n numbers. Then come 7, for the numbers run, and
- * last 16, for a buffer that is shorter than the record.
+ * Refusals 2 to 6, in this order, as at guard_start, but 4 is for an array that has not n numbers. Then comes 7, for the numbers
+ * run, and last 16, for a buffer that is shorter than the record.
  */
 uint64_t guard_write_record(uint64_t pages, uint64_t frames, uint64_t count, uint64_t entry_count,
                             const uint16_t *listed_pages, size_t listed_pages_length, const uint16_t *listed_frames,

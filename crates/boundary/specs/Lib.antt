@@ -1,3 +1,3 @@
 -- What the exported calls promise, and cases of it.
 pub mod Boundary
-pub mod RecordedCases
+pub mod ExportCases

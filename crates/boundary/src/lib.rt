@@ -10,7 +10,7 @@ ghost use Rattle.model.specs.Calls.{settle, syncPage, syncAll, deviceWrite};
 ghost use Rattle.model.specs.Record.{policyBy};
 ghost use Rattle.model.specs.Cases.{Hold};
 ghost use Rattle.boundary.specs.Boundary.{returned, startAt, callAt, recorded, recordAt, StateHeld};
-ghost use Rattle.boundary.specs.RecordedCases.{recordedCases};
+ghost use Rattle.boundary.specs.ExportCases.{exportCases};
 use model::Answer;
 
 // The refusal of a start whose runs do not fit: the record's questions come first.
@@ -176,8 +176,8 @@ pub fn device_write(
 }
 
 // What writing a record returns and leaves, by its numbers run.
-pub fn recorded_cases()
-    ensures { λ _. ⌜ Hold recordedCases ⌝ }
+pub fn export_cases()
+    ensures { λ _. ⌜ Hold exportCases ⌝ }
 {}
 
 // The state goes from call to call in its run as the definitions hand it on.

@@ -19,7 +19,7 @@ use Rattle.model.specs.Calls.{accepted, outcome, startOf}
 use Rattle.model.specs.Record.{numberBytes, numbersBytes, recordOf, arraysExact, writeRecordQuestions, Written, written, writeRecordOf, WrittenStarts, WrittenAgain}
 use Rattle.model.proofs.QuestionLaws.{both-first, both-second, asked, numbered, all-yes, firstNo-yes, firstNo-back, firstNo-both, settle-accepted, settle-number}
 use Rattle.model.proofs.CallLaws.{none-left}
-use Rattle.model.proofs.PolicyLaws.{length-numbersAt, getD-numbersAt, exact-yes, policy-asked, record-length, allBelow-none, allBelow-more, allBelow-head, allBelow-tail, allBelow-wider, Passed, policy-passed}
+use Rattle.model.proofs.PolicyLaws.{length-numbersAt, getD-numbersAt, exact-yes, policy-asked, record-length, allBelow-more, allBelow-head, allBelow-tail, allBelow-wider, Passed, policy-passed}
 
 -- The bytes of numbers in a row: how many, those of two rows, and each number read back.
 pub length-numbersBytes : (numbers : List ℕ) → length (numbersBytes numbers) ≡ 2 * length numbers
@@ -52,13 +52,13 @@ bytes-small (x ∷ numbers) small zero h = omega arith
 bytes-small (x ∷ numbers) small (suc zero) h = omega (arith, allBelow-head 65536 x numbers small)
 bytes-small (x ∷ numbers) small (suc (suc i)) h = bytes-small numbers (allBelow-tail 65536 x numbers small) i (le-of-suc-le-suc (le-of-suc-le-suc h))
 
-below-one : (x : ℕ) (xs : List ℕ) → x < 65536 → allBelow 65536 xs ≡ true → allBelow 65536 (x ∷ xs) ≡ true
-below-one x xs h rest = allBelow-more 65536 x xs (sym (lt-ltb x 65536 h)) refl ∙ rest
+module _ (limit : ℕ) where
+  below-one : (x : ℕ) (xs : List ℕ) → x < limit → allBelow limit xs ≡ true → allBelow limit (x ∷ xs) ≡ true
+  below-one x xs h rest = allBelow-more limit x xs (sym (lt-ltb x limit h)) refl ∙ rest
 
-below-append : (xs ys : List ℕ) → allBelow 65536 xs ≡ true → allBelow 65536 ys ≡ true → allBelow 65536 (xs ++ ys) ≡ true
-below-append [] ys h k = k
-below-append (x ∷ xs) ys h k =
-    below-one x (xs ++ ys) (allBelow-head 65536 x xs h) (below-append xs ys (allBelow-tail 65536 x xs h) k)
+  below-append : (xs ys : List ℕ) → allBelow limit xs ≡ true → allBelow limit ys ≡ true → allBelow limit (xs ++ ys) ≡ true
+  below-append [] ys h k = k
+  below-append (x ∷ xs) ys h k = below-one x (xs ++ ys) (allBelow-head limit x xs h) (below-append xs ys (allBelow-tail limit x xs h) k)
 
 -- The numbers that stand in a row from a place on.
 numbers-back : (bytes numbers : List ℕ) (at count : ℕ) → length numbers ≡ count → ((i : ℕ) → i < count → numberAt bytes (at + 2 * i) ≡ getD numbers i 0)
@@ -225,9 +225,9 @@ module _ (numbersFit : Bool) (policy : Policy) (buffer : List ℕ) (h : writeRec
       let ps : allBelow 65536 (policy .listedPages) ≡ true = allBelow-wider (policy .pages) 65536 (policy .listedPages) (omega arith) (p .pages-below) in
       let fs : allBelow 65536 (policy .listedFrames) ≡ true = allBelow-wider (policy .frames) 65536 (policy .listedFrames) (omega arith) (p .frames-below) in
       bytes-small _
-      (below-one (policy .pages) _ (omega arith)
-      (below-one (policy .frames) _ (omega arith)
-      (below-one (policy .count) _ (omega arith) (below-one (policy .entryCount) _ (omega arith) (below-append _ _ ps fs)))))
+      (below-one 65536 (policy .pages) _ (omega arith)
+      (below-one 65536 (policy .frames) _ (omega arith)
+      (below-one 65536 (policy .count) _ (omega arith) (below-one 65536 (policy .entryCount) _ (omega arith) (below-append 65536 _ _ ps fs)))))
 
   starts : (given : Givens) (t : Tables) → givensInRange given ≡ true → lengthsFit policy (lengthsOf t) ≡ true
       → startOf given (recordOf policy) t ≡ outcome (accepted (policy .count) (policy .entryCount)) (startGuard given policy)

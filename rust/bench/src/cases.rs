@@ -79,5 +79,5 @@ fn switches() -> Vec<Case> {
 
 fn records() -> Vec<Case> {
     let most_listed = |v| move || WriteRecord::new(&Tables::new(Contents::Approved, v));
-    SIZES.map(|v| case(format!("write record, V {v}"), most_listed(v))).into()
+    SIZES.map(|v| case(format!("write record, V {v}, most pages listed"), most_listed(v))).into()
 }

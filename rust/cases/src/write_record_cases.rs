@@ -195,7 +195,9 @@ fn question_2(t: Tally) -> Tally {
     let t = sized(t, "F 2^63 + 9", [4, 9223372036854775817, 2, 2], 2);
     let t = sized(t, "the highest F", [4, 18446744073709551615, 2, 2], 2);
     let t = sized(t, "V 0 with n 0", [0, 9, 0, 2], 2);
-    sized(t, "F 0 with e 0", [4, 0, 2, 0], 2)
+    let t = sized(t, "F 0 with e 0", [4, 0, 2, 0], 2);
+    let t = refused(t, "V 0 into a short buffer", [0, 9, 2, 2], &PAGES, &FRAMES, 15, 2);
+    refused(t, "F 4097 into an empty buffer", [4, 4097, 2, 2], &PAGES, &FRAMES, 0, 2)
 }
 
 // "3. Is n from 1 to V, and e from 1 to the smaller of n and 16?", before 4.
@@ -218,10 +220,13 @@ fn question_3(t: Tally) -> Tally {
     let pages = [0, 1, 2, 3, 4, 5, 6, 7, 8, 9, 10, 11, 12, 13, 14, 15, 16];
     let t = refused(t, "e 17 of 17", [17, 1, 17, 17], &pages, &[0; 17], 76, 3);
     let t = refused(t, "n above V, and no array so long", [1, 9, 2, 1], &[0], &[2], 16, 3);
-    refused(t, "e 0 with empty arrays", [4, 9, 2, 0], &[], &[], 16, 3)
+    let t = refused(t, "e 0 with empty arrays", [4, 9, 2, 0], &[], &[], 16, 3);
+    let t = refused(t, "n 0 into an empty buffer", [4, 9, 0, 2], &PAGES, &FRAMES, 0, 3);
+    let t = refused(t, "n above V into a short buffer", [4, 9, 5, 2], &PAGES, &FRAMES, 15, 3);
+    refused(t, "e 0 into a short buffer", [4, 9, 2, 0], &PAGES, &FRAMES, 15, 3)
 }
 
-// "each array must also have exactly n numbers, else 4", before 5.
+// "each array must also have exactly n numbers, else 4", before 5 and 6.
 fn question_4(t: Tally) -> Tally {
     let t = refused(t, "a page too few", SIZES, &[1], &FRAMES, 16, 4);
     let t = refused(t, "a page too many", SIZES, &[1, 2, 3], &FRAMES, 16, 4);
@@ -234,7 +239,11 @@ fn question_4(t: Tally) -> Tally {
     let t = refused(t, "a page too few and a frame too many", SIZES, &[1], &[2, 8, 8], 16, 4);
     let t = refused(t, "empty arrays", SIZES, &[], &[], 16, 4);
     let t = refused(t, "a page too few, which is at V", SIZES, &[4], &FRAMES, 16, 4);
-    refused(t, "a frame too few, with a page at V", SIZES, &[1, 4], &[2], 16, 4)
+    let t = refused(t, "a frame too few, with a page at V", SIZES, &[1, 4], &[2], 16, 4);
+    let t = refused(t, "a page too few, with a frame at F", SIZES, &[1], &[2, 9], 16, 4);
+    let t = refused(t, "a frame too many, which is at F", SIZES, &PAGES, &[2, 8, 9], 16, 4);
+    let t = refused(t, "a page too few into a short buffer", SIZES, &[1], &FRAMES, 15, 4);
+    refused(t, "a frame too many into an empty buffer", SIZES, &PAGES, &[2, 8, 8], 0, 4)
 }
 
 // "5. Is every listed page below V and above the one before?", before 6. "6. Is every listed frame below F?", before 7 and 16.
@@ -264,9 +273,18 @@ fn question_16(t: Tally) -> Tally {
     refused(t, "an empty buffer", SIZES, &PAGES, &FRAMES, 0, 16)
 }
 
+// Calls with a numbers run of this many words, and a buffer of this many bytes.
 // A numbers run of another length is not written. Of the run of two, calls.rs asks that a refused call writes zeros.
-fn run(t: Tally, name: &str, words: usize, frames: [u16; 2], room: usize, number: u64) -> Tally {
-    let [v, f, n, e] = SIZES;
+fn run(
+    t: Tally,
+    name: &str,
+    [words, room]: [usize; 2],
+    sizes: [u64; 4],
+    pages: &[u16],
+    frames: &[u16],
+    number: u64,
+) -> Tally {
+    let [v, f, n, e] = sizes;
     let mut buffer = [0xa5; 16];
     let mut numbers = [77; 3];
     let answered = archive::write_record(
@@ -274,8 +292,8 @@ fn run(t: Tally, name: &str, words: usize, frames: [u16; 2], room: usize, number
         f,
         n,
         e,
-        &PAGES,
-        &frames,
+        pages,
+        frames,
         &mut buffer[..room],
         &mut numbers[..words],
     );
@@ -283,16 +301,27 @@ fn run(t: Tally, name: &str, words: usize, frames: [u16; 2], room: usize, number
     t.case("write_record", name, answered == number && unwritten)
 }
 
-// 7 comes after 6 and before 16.
+// 7 comes after 2 to 6 and before 16.
 fn question_7(t: Tally) -> Tally {
-    let t = run(t, "an empty numbers run", 0, FRAMES, 16, 7);
-    let t = run(t, "a numbers run of 1", 1, FRAMES, 16, 7);
-    let t = run(t, "a numbers run of 3", 3, FRAMES, 16, 7);
-    let t = run(t, "an empty numbers run and a short buffer", 0, FRAMES, 15, 7);
-    let t = run(t, "a numbers run of 3 and an empty buffer", 3, FRAMES, 0, 7);
-    let t = run(t, "an empty numbers run and a frame at F", 0, [2, 9], 16, 6);
-    let t = run(t, "a numbers run of 1 and a frame at F", 1, [2, 9], 16, 6);
-    run(t, "a numbers run of 3 and a frame at F", 3, [2, 9], 15, 6)
+    let t = run(t, "an empty numbers run", [0, 16], SIZES, &PAGES, &FRAMES, 7);
+    let t = run(t, "a numbers run of 1", [1, 16], SIZES, &PAGES, &FRAMES, 7);
+    let t = run(t, "a numbers run of 3", [3, 16], SIZES, &PAGES, &FRAMES, 7);
+    let name = "an empty numbers run and a short buffer";
+    let t = run(t, name, [0, 15], SIZES, &PAGES, &FRAMES, 7);
+    let name = "a numbers run of 3 and an empty buffer";
+    let t = run(t, name, [3, 0], SIZES, &PAGES, &FRAMES, 7);
+    let t = run(t, "an empty numbers run and V 0", [0, 16], [0, 9, 2, 2], &PAGES, &FRAMES, 2);
+    let t = run(t, "a numbers run of 3 and F 4097", [3, 15], [4, 4097, 2, 2], &PAGES, &FRAMES, 2);
+    let t = run(t, "an empty numbers run and n 0", [0, 16], [4, 9, 0, 2], &PAGES, &FRAMES, 3);
+    let t = run(t, "a numbers run of 3 and e 0", [3, 15], [4, 9, 2, 0], &PAGES, &FRAMES, 3);
+    let t = run(t, "an empty numbers run and a page too few", [0, 16], SIZES, &[1], &FRAMES, 4);
+    let name = "a numbers run of 3 and a frame too many";
+    let t = run(t, name, [3, 15], SIZES, &PAGES, &[2, 8, 8], 4);
+    let t = run(t, "an empty numbers run and a page at V", [0, 16], SIZES, &[1, 4], &FRAMES, 5);
+    let t = run(t, "a numbers run of 3 and a page twice", [3, 15], SIZES, &[1, 1], &FRAMES, 5);
+    let t = run(t, "an empty numbers run and a frame at F", [0, 16], SIZES, &PAGES, &[2, 9], 6);
+    let t = run(t, "a numbers run of 1 and a frame at F", [1, 16], SIZES, &PAGES, &[2, 9], 6);
+    run(t, "a numbers run of 3 and a frame at F", [3, 15], SIZES, &PAGES, &[2, 9], 6)
 }
 
 #[derive(PartialEq)]

@@ -14,6 +14,7 @@ mod started;
 mod tally;
 mod written;
 
+pub use damage::Damage;
 pub use run::{run, Plan};
 pub use started::run_claim;
 pub use tally::Tally;

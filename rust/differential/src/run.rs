@@ -75,11 +75,16 @@ pub(crate) fn compare(fault: Fault, lent: &mut Lent, call: &Call) -> Result<u64,
     ];
     let differ: Vec<_> =
         what.iter().filter(|(_, differs)| *differs).map(|(name, _)| *name).collect();
-    Err(format!(
+    let mut message = format!(
         "{} differ: archive {number} {:?}, reference {expected_number} {:?}, state {:?}, {call:?}",
         differ.join(", "),
         lent.numbers,
         expected.numbers,
         expected.state,
-    ))
+    );
+    if lent.buffer != expected.buffer {
+        let (left, wanted) = (&lent.buffer, &expected.buffer);
+        message += &format!(", buffers: archive {left:?}, reference {wanted:?}");
+    }
+    Err(message)
 }

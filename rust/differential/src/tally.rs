@@ -104,7 +104,8 @@ impl Tally {
         self.entries.count(call, after.state[STATE_FRAMES], before, after);
     }
 
-    pub(crate) fn count_damaged(
+    /// Counts a call on damaged runs and tables.
+    pub fn count_damaged(
         &mut self,
         kind: usize,
         number: u64,
@@ -132,9 +133,9 @@ impl Tally {
         }
         for damage in Damage::ALL {
             for (kind, &count) in self.damage[damage as usize].iter().enumerate() {
-                if may_find(kind, damage) && count < CELL_MINIMUM {
-                    complaints.push(format!("{}, {}: {count} calls", damage.words(), KINDS[kind]));
-                }
+                complaints.extend(wrong(may_find(kind, damage), count).map(|wrong| {
+                    format!("{}, {}: {count} calls, {wrong}", damage.words(), KINDS[kind])
+                }));
             }
         }
         complaints
@@ -151,12 +152,7 @@ impl Tally {
         let mut complaints = Vec::new();
         for (kind, counts) in self.counts(half).iter().enumerate() {
             for (number, &count) in counts.iter().enumerate() {
-                let wrong = if !half.reaches(kind, number) {
-                    (count > 0).then(|| "which cannot be".into())
-                } else {
-                    (count < CELL_MINIMUM).then(|| format!("at least {CELL_MINIMUM} are asked for"))
-                };
-                complaints.extend(wrong.map(|wrong: String| {
+                complaints.extend(wrong(half.reaches(kind, number), count).map(|wrong| {
                     format!("{}, {}, {number}: {count} calls, {wrong}", half.words(), KINDS[kind])
                 }));
             }
@@ -164,7 +160,7 @@ impl Tally {
         complaints
     }
 
-    /// Prints the tables; a cell that cannot be reached is a dash.
+    /// Prints the tables; a cell that cannot be reached is a dash, where nothing was counted.
     pub fn print(&self, out: &mut impl Write) -> io::Result<()> {
         self.print_numbers(out, Half::Started)?;
         self.print_numbers(out, Half::Damaged)?;
@@ -180,11 +176,7 @@ impl Tally {
             write!(out, "{:16}", KINDS[kind])?;
             for (number, &count) in counts.iter().enumerate() {
                 let width = if number == 0 { 9 } else { 8 };
-                if half.reaches(kind, number) || count > 0 {
-                    write!(out, "{count:>width$}")?;
-                } else {
-                    write!(out, "{:>width$}", "-")?;
-                }
+                print_cell(out, width, half.reaches(kind, number), count)?;
             }
             writeln!(out)?;
         }
@@ -198,15 +190,28 @@ impl Tally {
         for damage in Damage::ALL {
             write!(out, "{:26}", damage.words())?;
             for (kind, &count) in self.damage[damage as usize].iter().enumerate() {
-                if may_find(kind, damage) {
-                    write!(out, "{count:>16}")?;
-                } else {
-                    write!(out, "{:>16}", "-")?;
-                }
+                print_cell(out, 16, may_find(kind, damage), count)?;
             }
             writeln!(out)?;
         }
         Ok(())
+    }
+}
+
+/// What is wrong with the count of a cell.
+fn wrong(can_be: bool, count: u64) -> Option<String> {
+    if can_be {
+        (count < CELL_MINIMUM).then(|| format!("at least {CELL_MINIMUM} are asked for"))
+    } else {
+        (count > 0).then(|| "which cannot be".into())
+    }
+}
+
+fn print_cell(out: &mut impl Write, width: usize, can_be: bool, count: u64) -> io::Result<()> {
+    if can_be || count > 0 {
+        write!(out, "{count:>width$}")
+    } else {
+        write!(out, "{:>width$}", "-")
     }
 }
 

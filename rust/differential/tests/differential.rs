@@ -4,7 +4,7 @@
 
 use std::io::{self, Write};
 
-use differential::{run, run_claim, Plan, Tally};
+use differential::{run, run_claim, Damage, Plan, Tally};
 use reference::Fault;
 
 const SEED: u64 = 1;
@@ -86,13 +86,38 @@ fn a_number_that_cannot_be_is_a_complaint() {
 #[test]
 fn too_few_written_records_are_noticed() {
     let complaints = Tally::default().complaints();
+    let wrong = "0 calls, at least 1000 are asked for";
     for number in [0, 2, 3, 4, 5, 6, 7, 16] {
-        let wrong = "0 calls, at least 1000 are asked for";
         let complaint = format!("damaged, write record, {number}: {wrong}");
         assert!(complaints.contains(&complaint), "{complaint}");
     }
     for damage in ["contents alone", "length of the numbers run", "length of the buffer"] {
-        let complaint = format!("{damage}, write record: 0 calls");
+        let complaint = format!("{damage}, write record: {wrong}");
+        assert!(complaints.contains(&complaint), "{complaint}");
+    }
+}
+
+/// Damage to what a call is not lent is counted, printed in place of its dash, and complained of.
+#[test]
+fn damage_that_cannot_be_is_a_complaint() {
+    let of_damage = |tally: &Tally| {
+        let mut printed = Vec::new();
+        tally.print(&mut printed).unwrap();
+        let printed = String::from_utf8(printed).unwrap();
+        let row = |name| printed.lines().find(|line| line.starts_with(name)).unwrap().to_string();
+        [row("length of a table"), row("length of the buffer")]
+    };
+    let mut tally = Tally::default();
+    let [table, buffer] = of_damage(&tally);
+    assert_eq!((table.matches('-').count(), buffer.matches('-').count()), (1, 8));
+    tally.count_damaged(8, 0, Damage::Table).unwrap();
+    tally.count_damaged(0, 0, Damage::Buffer).unwrap();
+    let [table, buffer] = of_damage(&tally);
+    assert_eq!((table.matches('-').count(), buffer.matches('-').count()), (0, 7));
+    assert!(table.ends_with(" 1"), "{table}");
+    let complaints = tally.complaints();
+    for cell in ["length of a table, write record", "length of the buffer, start"] {
+        let complaint = format!("{cell}: 1 calls, which cannot be");
         assert!(complaints.contains(&complaint), "{complaint}");
     }
 }

@@ -13,7 +13,7 @@ impl DrillInput {
         match refusal(number)?.constant {
             "GUARD_RECORD_TOO_SHORT" => self.too_short(),
             "GUARD_RECORD_LENGTH" => self.cut_short(),
-            _ => self.policy()?.cause(number),
+            _ => self.policy()?.cause_in_record(number),
         }
     }
 
@@ -33,12 +33,20 @@ impl DrillInput {
 }
 
 impl Policy {
-    /// What makes the library refuse the record with this number, and the line of it.
+    /// What makes the library refuse, with this number, the policy that was read, and the line of it.
     pub fn cause(&self, number: u64) -> Option<LineError> {
+        match refusal(number)?.constant {
+            "GUARD_COUNT_OUT_OF_RANGE" => self.given_count().or_else(|| self.count()),
+            "GUARD_RECORD_LENGTH" => self.given_length(),
+            _ => self.cause_in_record(number),
+        }
+    }
+
+    /// What makes a record of these numbers refused, whatever they were made from.
+    fn cause_in_record(&self, number: u64) -> Option<LineError> {
         match refusal(number)?.constant {
             "GUARD_SIZE_OUT_OF_RANGE" => self.size(),
             "GUARD_COUNT_OUT_OF_RANGE" => self.count(),
-            "GUARD_RECORD_LENGTH" => self.length(),
             "GUARD_LISTED_PAGE" => self.listed_page(),
             "GUARD_LISTED_FRAME" => self.listed_frame(),
             _ => None,
@@ -72,11 +80,23 @@ impl Policy {
         Some(LineError::new(line, message))
     }
 
+    /// A given n that is out of range or below e, where it is not the number of approvals.
+    fn given_count(&self) -> Option<LineError> {
+        let other_length = self.given_length()?;
+        let (v, Number { value: n, line }) = (self.pages.value, self.listed);
+        if n > v {
+            let pages = counted(v.into(), "page", "pages");
+            let message = format!("n is given as {n}, and the policy has {pages}");
+            return Some(LineError::new(line, message));
+        }
+        (n == 0 || n < self.entries.value).then_some(other_length)
+    }
+
     /// Both arrays are as long as there are approvals; n is another number only where it is given.
-    fn length(&self) -> Option<LineError> {
+    fn given_length(&self) -> Option<LineError> {
         let (Number { value: n, line }, there) = (self.listed, self.listed_pages.len());
         let approved = counted(there as u64, "page is approved", "pages are approved");
-        let message = format!("'listed {n}' is given, and {approved}");
+        let message = format!("n is given as {n}, and {approved}");
         (there != usize::from(n)).then(|| LineError::new(line, message))
     }
 

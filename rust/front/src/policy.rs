@@ -1,6 +1,7 @@
 //! A readable policy: its lines, and the sizes and arrays of the record that they stand for.
-//! Only what the binary form asks is checked, that each number fits its field, so refused policies can be written too.
+//! Each number has to fit its field, and in a policy file a given e the pages marked `entry`; the rest is for the library to refuse.
 
+use crate::explain::counted;
 use crate::text::shown;
 use crate::words::{field16, items, last_line, Field, Words, PAGE};
 use crate::LineError;
@@ -40,7 +41,7 @@ pub struct Policy {
 }
 
 impl Policy {
-    /// Reads a text that has a policy and nothing else.
+    /// Reads a text that has a policy and nothing else. A given e must not make entry pages of others than those marked.
     pub fn read(text: &str) -> Result<Policy, LineError> {
         let mut lines: Option<PolicyLines> = None;
         for (name, mut words) in items(text) {
@@ -52,7 +53,10 @@ impl Policy {
             words.end()?;
         }
         match lines {
-            Some(lines) => Ok(lines.policy()),
+            Some(lines) => {
+                lines.check_entries()?;
+                Ok(lines.policy())
+            }
             None => Err(LineError::new(last_line(text), "there is no 'policy' line")),
         }
     }
@@ -78,7 +82,7 @@ pub(crate) struct PolicyLines {
     line: usize,
     pages: u16,
     frames: u16,
-    /// Given only to write a record whose counts do not fit its arrays.
+    /// Given in scripts to write a record whose counts do not fit its arrays or marks.
     listed: Option<u16>,
     entries: Option<u16>,
     approvals: Vec<Approval>,
@@ -147,6 +151,19 @@ impl PolicyLines {
                 value: count as u16,
                 line: wrong.map_or(self.line, |approval| approval.line),
             },
+        }
+    }
+
+    /// Of a policy file: e, where it is given, is the number of pages marked `entry`.
+    fn check_entries(&self) -> Result<(), LineError> {
+        let marks = self.marked(true).count();
+        match self.entries {
+            Some(e) if usize::from(e) != marks => {
+                let marked = counted(marks as u64, "page is marked", "pages are marked");
+                let message = format!("e is given as {e}, and {marked} 'entry'");
+                Err(LineError::new(self.line, message))
+            }
+            _ => Ok(()),
         }
     }
 

@@ -1,4 +1,4 @@
-//! The lines of a script as items: a name, then names and numbers.
+//! The lines of a script or a policy as items: a name, then names and numbers.
 //! What is wrong with a word is told with its line.
 
 use crate::text::shown;

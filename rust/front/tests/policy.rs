@@ -33,11 +33,34 @@ fn numbers_with_their_lines() {
 
 #[test]
 fn given_counts_are_kept_beside_the_arrays() {
-    let text = "policy pages 4 frames 4 listed 7 entries 65535\napprove page 1 frame 2\n";
+    let text = "policy pages 4 frames 4 listed 7 entries 1\napprove page 1 frame 2 entry\n";
     let policy = Policy::read(text).unwrap();
-    assert_eq!([policy.listed, policy.entries], numbers([(7, 1), (65535, 1)]));
+    assert_eq!([policy.listed, policy.entries], numbers([(7, 1), (1, 1)]));
     assert_eq!(policy.listed_pages, numbers([(1, 2)]));
     assert_eq!(policy.listed_frames, numbers([(2, 2)]));
+}
+
+/// In a policy a given e is the number of marks; in a script it wins, so that refused records can be written.
+#[test]
+fn given_entries_that_are_not_those_marked() {
+    let pages = "\napprove page 1 frame 2 entry\napprove page 3 frame 2\n";
+    let given = [
+        ("0", 0, "e is given as 0, and 1 page is marked 'entry'"),
+        ("2", 2, "e is given as 2, and 1 page is marked 'entry'"),
+        ("0xffff", 65535, "e is given as 65535, and 1 page is marked 'entry'"),
+    ];
+    for (e, value, expected) in given {
+        let text = format!("# e\npolicy pages 4 frames 4 entries {e}{pages}");
+        assert_eq!(message(&text), format!("line 2: {expected}"));
+        let bytes = [4, 4, 2, value, 1, 3, 2, 2].map(u16::to_le_bytes).concat();
+        assert_eq!(encode(&text).unwrap().bytes, bytes, "{e}");
+    }
+    let none = "policy pages 4 frames 4 listed 1 entries 1\napprove page 1 frame 2";
+    assert_eq!(message(none), "line 1: e is given as 1, and 0 pages are marked 'entry'");
+    let fits = Policy::read(&format!("policy pages 4 frames 4 entries 0x1{pages}")).unwrap();
+    assert_eq!([fits.entries], numbers([(1, 1)]));
+    let fits = Policy::read("policy pages 4 frames 4 entries 0\napprove page 1 frame 2").unwrap();
+    assert_eq!([fits.entries], numbers([(0, 1)]));
 }
 
 /// The hotel's policy is that of its script: the script's bytes begin with its numbers.
@@ -119,12 +142,6 @@ fn items_that_are_no_policy_items() {
     }
 }
 
-#[test]
-fn no_more_approvals_than_the_count_holds() {
-    let text = format!("policy pages 4 frames 4{}", "\napprove page 1 frame 2".repeat(65536));
-    assert_eq!(message(&text), "line 65537: a policy lists at most 65535 pages");
-}
-
 /// The library may refuse what the front finds no fault with.
 #[test]
 fn a_policy_in_order_has_no_cause() {
@@ -142,11 +159,11 @@ fn arrays_that_do_not_fit_a_given_count() {
         let text = format!("# first\npolicy pages 4 frames 4 listed {listed}\n{approvals}");
         Policy::read(&text).unwrap().cause(4).map(|cause| cause.to_string())
     };
-    assert_eq!(cause(1).unwrap(), "line 2: 'listed 1' is given, and 2 pages are approved");
+    assert_eq!(cause(1).unwrap(), "line 2: n is given as 1, and 2 pages are approved");
     assert_eq!(cause(2), None);
-    assert_eq!(cause(3).unwrap(), "line 2: 'listed 3' is given, and 2 pages are approved");
+    assert_eq!(cause(3).unwrap(), "line 2: n is given as 3, and 2 pages are approved");
     let one =
-        Policy::read("policy pages 4 frames 4 listed 2\napprove page 0 frame 1 entry").unwrap();
-    let expected = "line 1: 'listed 2' is given, and 1 page is approved";
+        Policy::read("policy pages 4 frames 4 listed 0x2\napprove page 0 frame 1 entry").unwrap();
+    let expected = "line 1: n is given as 2, and 1 page is approved";
     assert_eq!(one.cause(4).unwrap().to_string(), expected);
 }

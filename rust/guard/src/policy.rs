@@ -9,9 +9,10 @@ use crate::Refusal;
 const SIZES_BYTES: usize = 8;
 const LISTED_BYTES: usize = 4;
 
-/// Writes a policy record to the front of a buffer: its length. A refused call leaves the buffer as it was.
+/// Writes a policy record to the front of a buffer: its length. Bytes past the record stay as they were, and a refused call leaves the
+/// whole buffer as it was.
 ///
-/// The numbers before the arrays are V, F, n and e. [`Policy`] counts n and e.
+/// The numbers before the arrays are V, F, n and e; the first e listed pages are the entry pages. [`Policy`] counts n and e.
 pub fn write_record(
     pages: u64,
     frames: u64,
@@ -39,6 +40,7 @@ pub fn write_record(
 /// A policy that is built page by page, and becomes a policy record.
 ///
 /// Entry pages stand first in the record; among them, and among the other pages, the order is that in which they were added.
+/// Nothing is sorted: add the pages of each group in rising order, the entry pages being the lowest, or the library refuses with 5.
 /// n and e are counted, so that each array has n numbers, and refusal 4 never comes.
 ///
 /// ```
@@ -69,7 +71,7 @@ impl Policy {
         Policy { pages, frames, entry_count: 0, listed_pages: vec![], listed_frames: vec![] }
     }
 
-    /// Lists an entry page with its frame. Its entry index is the number of entry pages before it.
+    /// Lists an entry page with its frame. Its entry index is the number of entry pages added before it.
     pub fn entry_page(mut self, page: u16, frame: u16) -> Policy {
         self.listed_pages.insert(self.entry_count, page);
         self.listed_frames.insert(self.entry_count, frame);

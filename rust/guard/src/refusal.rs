@@ -1,4 +1,4 @@
-//! The refusal numbers of document 01 as an enum with words.
+//! The refusal numbers of documents 01 and 02 as an enum with words.
 //! tests/refusals.rs compares numbers, names and words with docs/refusals.txt, where they stand for all parts of the guard.
 
 use std::error::Error;
@@ -7,7 +7,7 @@ use std::fmt;
 /// The enum, the list of all refusals and their words, from one row a refusal.
 macro_rules! refusals {
     ($($(#[$note:meta])* $name:ident = $number:literal, $words:literal;)*) => {
-        /// Why a call is refused: the first question of document 01 that was answered no.
+        /// Why a call is refused: the first question of documents 01 and 02 that was answered no.
         #[derive(Clone, Copy, Debug, PartialEq, Eq, Hash, PartialOrd, Ord)]
         #[repr(u8)]
         pub enum Refusal {

@@ -2,7 +2,7 @@
 //! Expected bytes are written out, and every refusal that a Rust program can meet comes once at least.
 
 use guard::{write_record, Guard, Mode, Policy, Refusal, NO_FRAME};
-use inputs::{random_record, Random};
+use inputs::{random_record, Parts, Random};
 
 /// The policy of the worked example: V 4, F 4, entry page 1 with frame 2.
 fn worked() -> Policy {
@@ -67,12 +67,9 @@ fn a_record_read_and_written_again() {
         let (v, f) = (1 + random.below(2048), 1 + random.below(4096));
         let record = random_record(&mut random, v as u16, f as u16);
         Guard::start(&record).unwrap();
-        let number = |pair: &[u8]| u16::from_le_bytes([pair[0], pair[1]]);
-        let numbers: Vec<_> = record.chunks(2).map(number).collect();
-        let (n, e) = (numbers[2].into(), numbers[3].into());
-        let (pages, frames) = numbers[4..].split_at(numbers[2].into());
+        let Parts { sizes: [v, f, n, e], pages, frames } = Parts::of(&record);
         let mut again = vec![9; record.len()];
-        assert_eq!(write_record(v, f, n, e, pages, frames, &mut again), Ok(record.len()));
+        assert_eq!(write_record(v, f, n, e, &pages, &frames, &mut again), Ok(record.len()));
         assert_eq!(again, record);
     }
 }

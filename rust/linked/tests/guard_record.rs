@@ -69,16 +69,19 @@ fn accepted_policies() {
     let numbers = [0x302, 0x504, 4, 2, 0, 7, 0x201, 0x202, 0x403, 8, 9, 9];
     assert_written(&policy("pages 0x302 frames 0x504", list), &numbers);
     // Counts that are given, and fit.
-    let one = policy("pages 4 frames 4 listed 1 entries 1", "page 1 frame 2");
+    let one = policy("pages 4 frames 4 listed 1 entries 1", "page 1 frame 2 entry");
     assert_written(&one, &[4, 4, 1, 1, 1, 2]);
-    let two = policy("pages 4 frames 4 entries 2", "page 1 frame 2|page 3 frame 2");
+    let two = policy("pages 4 frames 4 entries 2", "page 1 frame 2 entry|page 3 frame 2 entry");
     assert_written(&two, &[4, 4, 2, 2, 1, 3, 2, 2]);
 }
 
 #[test]
 fn the_largest_policy() {
-    let approvals: String =
-        (0..2048).map(|page| format!("approve page {page} frame {}\n", 4095 - page)).collect();
+    let approval = |page| {
+        let mark = if page < 16 { " entry" } else { "" };
+        format!("approve page {page} frame {}{mark}\n", 4095 - page)
+    };
+    let approvals: String = (0..2048).map(approval).collect();
     let policy = format!("policy pages 2048 frames 4096 entries 16\n{approvals}");
     let record = record(&policy);
     assert_eq!(record.len(), 8200);
@@ -100,27 +103,51 @@ fn sizes_and_counts_that_are_refused() {
     let policies = [
         ("pages 0 frames 4", "line 2: 2, the number of pages is 0, not 1 to 2048"),
         ("pages 4 frames 4097", "line 2: 2, the number of frames is 4097, not 1 to 4096"),
-        ("pages 4 frames 4 listed 0", "line 2: 3, no page is listed"),
-        ("pages 4 frames 4 listed 5", "line 2: 3, 5 pages are listed, and the policy has 4"),
-        ("pages 4 frames 4 entries 2", "line 2: 3, there are 2 entry pages, and 1 listed in all"),
-        ("pages 4 frames 4 entries 17", "line 2: 3, there are 17 entry pages, more than 16"),
+        ("pages 4 frames 4 listed 0", "line 2: 3, n is given as 0, and 1 page is approved"),
+        ("pages 4 frames 4 listed 0x5", "line 2: 3, n is given as 5, and the policy has 4 pages"),
+        ("pages 1 frames 4 listed 2", "line 2: 3, n is given as 2, and the policy has 1 page"),
     ];
     for (sizes, expected) in policies {
         assert_refused(&policy(sizes, "page 1 frame 2 entry"), expected);
     }
     let no_entry = "line 3: 3, there is no entry page: mark the lowest listed pages 'entry'";
     assert_refused(&policy("pages 4 frames 4", "page 1 frame 2"), no_entry);
-    let three = policy("pages 2 frames 4", "page 0 frame 2 entry|page 1 frame 2|page 2 frame 2");
-    assert_refused(&three, "line 5: 3, 3 pages are listed, and the policy has 2");
+    let no_entry = "line 2: 3, there is no entry page: mark the lowest listed pages 'entry'";
+    for sizes in ["pages 4 frames 4 entries 0", "pages 4 frames 4 listed 2 entries 0"] {
+        assert_refused(&policy(sizes, "page 1 frame 2"), no_entry);
+    }
+    let entries = |count| vec!["page 1 frame 2 entry"; count].join("|");
+    let seventeen = policy("pages 17 frames 4", &entries(17));
+    assert_refused(&seventeen, "line 19: 3, there are 17 entry pages, more than 16");
+    let below_e = policy("pages 4 frames 4 listed 1", &entries(2));
+    assert_refused(&below_e, "line 2: 3, n is given as 1, and 2 pages are approved");
+    assert_refused("policy pages 4 frames 4 listed 0", "line 1: 3, no page is listed");
+    let three = "page 0 frame 2 entry|page 1 frame 2|page 2 frame 2";
+    let counted = "line 5: 3, 3 pages are listed, and the policy has 2";
+    assert_refused(&policy("pages 2 frames 4", three), counted);
+    let given = "line 2: 3, 3 pages are listed, and the policy has 2";
+    assert_refused(&policy("pages 2 frames 4 listed 3", three), given);
+}
+
+/// A given e makes no entry page of a page that is not marked, and drops none that is.
+#[test]
+fn given_entries_that_are_not_those_marked() {
+    let list = "page 1 frame 2 entry|page 3 frame 2";
+    for e in [0, 2] {
+        let told = message(policy(&format!("pages 4 frames 4 entries {e}"), list));
+        assert_eq!(told, format!("line 2: e is given as {e}, and 1 page is marked 'entry'\n"));
+    }
+    let told = message(policy("pages 4 frames 4 entries 1", "page 1 frame 2"));
+    assert_eq!(told, "line 2: e is given as 1, and 0 pages are marked 'entry'\n");
 }
 
 /// An array may be shorter or longer than n; 4 comes before 5 and 6.
 #[test]
 fn arrays_that_are_refused() {
     let shorter = policy("pages 4 frames 4 listed 2", "page 9 frame 9 entry");
-    assert_refused(&shorter, "line 2: 4, 'listed 2' is given, and 1 page is approved");
+    assert_refused(&shorter, "line 2: 4, n is given as 2, and 1 page is approved");
     let longer = policy("pages 4 frames 4 listed 1", "page 1 frame 2 entry|page 9 frame 9");
-    assert_refused(&longer, "line 2: 4, 'listed 1' is given, and 2 pages are approved");
+    assert_refused(&longer, "line 2: 4, n is given as 1, and 2 pages are approved");
 }
 
 #[test]
@@ -155,7 +182,7 @@ fn the_whole_message() {
     let array = message("policy pages 4 frames 4 listed 2\napprove page 1 frame 2 entry");
     let expected =
         "line 1: record refused: 4, the length of the policy record or of an array does not fit n \
-                    ('listed 2' is given, and 1 page is approved)\n";
+                    (n is given as 2, and 1 page is approved)\n";
     assert_eq!(array, expected);
 }
 
@@ -173,27 +200,8 @@ fn the_longest_list() {
 #[test]
 fn bad_input_gives_a_line_and_nothing_else() {
     let none = "is no item of a policy; an item is policy or approve";
-    let inputs = [
-        (format!("{POLICY}fetch page 1\n"), format!("line 3: 'fetch' {none}\n")),
-        (format!("{POLICY}\nbytes 1\n"), format!("line 4: 'bytes' {none}\n")),
-        (example("hotel.script"), format!("line 10: 'edit' {none}\n")),
-        (
-            format!("{POLICY}{POLICY}"),
-            "line 3: there is one 'policy' line, at the beginning\n".into(),
-        ),
-        (
-            "approve page 1 frame 2".into(),
-            "line 1: 'approve' comes after the 'policy' line\n".into(),
-        ),
-        (String::new(), "line 1: there is no 'policy' line\n".into()),
-        (
-            "policy pages 4 frames 65536".into(),
-            "line 1: the number of frames 65536 does not fit its field, at most 65535\n".into(),
-        ),
-    ];
-    for (input, expected) in inputs {
-        assert_eq!(message(input), expected);
-    }
+    assert_eq!(message(example("hotel.script")), format!("line 10: 'edit' {none}\n"));
+    assert_eq!(message(""), "line 1: there is no 'policy' line\n");
     assert_eq!(message(b"\xff\xfep\0"), "line 1: the text is UTF-16: save it as UTF-8\n");
     assert_eq!(message(b"# 1\n# \xff\n"), "line 2: the text is not UTF-8\n");
 }

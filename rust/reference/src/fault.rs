@@ -76,7 +76,11 @@ pub fn synchronise_one(
         Fault::ForgetApproval => sync::one::<FORGET_APPROVAL>,
         Fault::IgnoreReserved => sync::one::<IGNORE_RESERVED>,
         Fault::ReservedIfNotApproved => sync::one::<RESERVED_IF_NOT_APPROVED>,
-        _ => sync::one::<NONE>,
+        Fault::None
+        | Fault::FirstPageOnly
+        | Fault::CutSizes
+        | Fault::BufferBeforeRun
+        | Fault::BytePastRecord => sync::one::<NONE>,
     };
     run(state, kernel, shadow, map, exclusion, page)
 }
@@ -96,7 +100,11 @@ pub fn synchronise_all(
         Fault::ForgetApproval => sync::all::<FORGET_APPROVAL>,
         Fault::IgnoreReserved => sync::all::<IGNORE_RESERVED>,
         Fault::ReservedIfNotApproved => sync::all::<RESERVED_IF_NOT_APPROVED>,
-        _ => sync::all::<NONE>,
+        Fault::None
+        | Fault::FirstPageOnly
+        | Fault::CutSizes
+        | Fault::BufferBeforeRun
+        | Fault::BytePastRecord => sync::all::<NONE>,
     };
     run(state, kernel, shadow, map, exclusion)
 }
@@ -130,7 +138,13 @@ pub fn write_record(
         Fault::CutSizes => boundary::write_variant::<CUT_SIZES>,
         Fault::BufferBeforeRun => boundary::write_variant::<BUFFER_BEFORE_RUN>,
         Fault::BytePastRecord => boundary::write_variant::<BYTE_PAST_RECORD>,
-        _ => boundary::write_variant::<NONE>,
+        Fault::None
+        | Fault::TrustKernelFrame
+        | Fault::WritableAlias
+        | Fault::FirstPageOnly
+        | Fault::ForgetApproval
+        | Fault::IgnoreReserved
+        | Fault::ReservedIfNotApproved => boundary::write_variant::<NONE>,
     };
     run(sizes, pages, frames, buffer, numbers)
 }

@@ -12,7 +12,8 @@ usage: guard-record < POLICY > RECORD    a readable policy becomes its policy re
 
 A policy has one item a line; # begins a comment; numbers are decimal, or hexadecimal with 0x.
   policy pages V frames F          first, then its approve lines; n and e are counted,
-                                   or given: policy pages V frames F listed N entries E
+                                   or given: policy pages V frames F listed N entries E,
+                                   where E is the number of pages marked entry
   approve page P frame F [entry]   entry pages come first in the record
 The proved library writes the record. What it refuses is told with its number, its line and why.
 ";

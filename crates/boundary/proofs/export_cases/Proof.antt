@@ -6,13 +6,13 @@ use Rattle.model.proofs.Computed.{computed}
 use Rattle.model.proofs.CaseLaws.{hold}
 use Rattle.words.specs.Words.{overwritten, withNumbers}
 use Rattle.boundary.specs.Boundary.{recordAt}
-use Rattle.boundary.specs.RecordedCases.{listed3, recordedCases}
-use Rattle.boundary.proofs.recorded_cases.Statement.{statement}
-use Rattle.boundary.proofs.recorded_cases.Tie as tie
+use Rattle.boundary.specs.ExportCases.{listed3, exportCases}
+use Rattle.boundary.proofs.export_cases.Statement.{statement}
+use Rattle.boundary.proofs.export_cases.Tie as tie
 
 returns : tie.Need-returns
-unfolding computed row twoEntries overwritten withNumbers recordAt listed3 recordedCases
-returns c = hold recordedCases refl
+unfolding computed row twoEntries overwritten withNumbers recordAt listed3 exportCases
+returns c = hold exportCases refl
 
-pub recorded-cases-spec : {M : Type 1} → statement M
-recorded-cases-spec = tie.close (tie.spec returns)
+pub export-cases-spec : {M : Type 1} → statement M
+export-cases-spec = tie.close (tie.spec returns)
