@@ -26,8 +26,8 @@ returned number state numbers t = record { number = number; state = state; numbe
 unfoldable pub replied : ℕ → Reply → List ℕ → List ℕ → Tables → Returned
 replied count reply run numbers t = returned (reply .number) run (withNumbers count numbers reply) t
 
--- Every call on a state, which is every one but the start and the call that writes a record. Question 7 comes first: where a run cannot be lent, it refuses, and changes neither the state run nor a table.
--- A call puts into the state run what it can change, and no other word.
+-- Every call on a state: all but the start and the call that writes a record. Question 7 comes first: where a run cannot be lent, it refuses, and
+-- changes neither the state run nor a table. A call puts into the state run what it can change, and no other word.
 unfoldable pub callAt : List ℕ → List ℕ → Tables → Call → Returned
 callAt run numbers t call =
     let o : Outcome = answer (guardOf (stateIn run) t) call in

@@ -92,33 +92,32 @@ module _ (pages frames count entries : ℕ) (ps fs : List ℕ) where
     pub policy-2 : not sizes ≡ true → 2 ≡ firstNo (policyQuestions true true (arraysExact policy) policy)
     policy-2 h = asked-2 true true (arraysExact policy) policy refl sizes is2 h
 
-    module _ (h2 : not sizes ≡ false) where
-      module _ (counts : Bool) (e3 : counts ≡ both (within 1 pages count) (within 1 (min count 16) entries)) where
-        is3 : counts ≡ both (countsInRange policy) true
-        unfolding countsInRange
-        is3 = e3 ∙ sym (both-true _)
+    module _ (h2 : not sizes ≡ false) (counts : Bool) (e3 : counts ≡ both (within 1 pages count) (within 1 (min count 16) entries)) where
+      is3 : counts ≡ both (countsInRange policy) true
+      unfolding countsInRange
+      is3 = e3 ∙ sym (both-true _)
 
-        pub policy-3 : not counts ≡ true → 3 ≡ firstNo (policyQuestions true true (arraysExact policy) policy)
-        policy-3 h = asked-3 true true (arraysExact policy) policy refl sizes is2 h2 counts is3 h
+      pub policy-3 : not counts ≡ true → 3 ≡ firstNo (policyQuestions true true (arraysExact policy) policy)
+      policy-3 h = asked-3 true true (arraysExact policy) policy refl sizes is2 h2 counts is3 h
 
-        module _ (h3 : not counts ≡ false) (exact : Bool) (e4 : exact ≡ both (eqb (length ps) count) (eqb (length fs) count)) where
-          is4 : exact ≡ arraysExact policy
-          unfolding arraysExact
-          is4 = e4
+      module _ (h3 : not counts ≡ false) (exact : Bool) (e4 : exact ≡ both (eqb (length ps) count) (eqb (length fs) count)) where
+        is4 : exact ≡ arraysExact policy
+        unfolding arraysExact
+        is4 = e4
 
-          pub policy-4 : not exact ≡ true → 4 ≡ firstNo (policyQuestions true true (arraysExact policy) policy)
-          policy-4 h = asked-4 true true (arraysExact policy) policy refl sizes is2 h2 counts is3 h3 (sym is4 ∙ not-true exact h)
+        pub policy-4 : not exact ≡ true → 4 ≡ firstNo (policyQuestions true true (arraysExact policy) policy)
+        policy-4 h = asked-4 true true (arraysExact policy) policy refl sizes is2 h2 counts is3 h3 (sym is4 ∙ not-true exact h)
 
-          module _ (h4 : not exact ≡ false) (rises : Bool) (e5 : rises ≡ rising pages 0 ps) where
-            yes4 : arraysExact policy ≡ true
-            yes4 = sym is4 ∙ not-false exact h4
+        module _ (h4 : not exact ≡ false) (rises : Bool) (e5 : rises ≡ rising pages 0 ps) where
+          yes4 : arraysExact policy ≡ true
+          yes4 = sym is4 ∙ not-false exact h4
 
-            pub policy-5 : not rises ≡ true → 5 ≡ firstNo (policyQuestions true true (arraysExact policy) policy)
-            policy-5 h = asked-5 true true (arraysExact policy) policy refl sizes is2 h2 counts is3 h3 yes4 rises e5 h
+          pub policy-5 : not rises ≡ true → 5 ≡ firstNo (policyQuestions true true (arraysExact policy) policy)
+          policy-5 h = asked-5 true true (arraysExact policy) policy refl sizes is2 h2 counts is3 h3 yes4 rises e5 h
 
-            module _ (h5 : not rises ≡ false) (below : Bool) (e6 : below ≡ allBelow frames fs) where
-              pub policy-6 : not below ≡ true → 6 ≡ firstNo (policyQuestions true true (arraysExact policy) policy)
-              policy-6 h = asked-6 true true (arraysExact policy) policy refl sizes is2 h2 counts is3 h3 yes4 rises e5 h5 below e6 h
+          module _ (h5 : not rises ≡ false) (below : Bool) (e6 : below ≡ allBelow frames fs) where
+            pub policy-6 : not below ≡ true → 6 ≡ firstNo (policyQuestions true true (arraysExact policy) policy)
+            policy-6 h = asked-6 true true (arraysExact policy) policy refl sizes is2 h2 counts is3 h3 yes4 rises e5 h5 below e6 h
 
-              pub policy-yes : not below ≡ false → 0 ≡ firstNo (policyQuestions true true (arraysExact policy) policy)
-              policy-yes h = asked-none true true (arraysExact policy) policy refl sizes is2 h2 counts is3 h3 yes4 rises e5 h5 below e6 h
+            pub policy-yes : not below ≡ false → 0 ≡ firstNo (policyQuestions true true (arraysExact policy) policy)
+            policy-yes h = asked-none true true (arraysExact policy) policy refl sizes is2 h2 counts is3 h3 yes4 rises e5 h5 below e6 h

@@ -4,8 +4,8 @@ use mathlib.Core.Bool.{Bool, true, false, not}
 use mathlib.Core.List.{List, [], _∷_, _++_}
 use mathlib.Core.Path.{_≡_, refl, sym, ap, _∙_}
 use lib.Dec.{leb}
-use lib.ListN.{length, getD, set, drop, drop-of-length-le}
-use lib.Seq.{drop-cons, sets, length-sets, sets-eq}
+use lib.ListN.{length, getD, set, drop}
+use lib.Seq.{sets, length-sets, sets-eq}
 use mir.Syntax.{w16}
 use mir.Val.{Fits}
 use native.Mathlib.Numerals.{add-one}
@@ -21,6 +21,7 @@ use Rattle.model.proofs.QuestionLaws.{firstNo-yes, firstNo-no, firstNo-front, f
 use Rattle.model.proofs.CallLaws.{passed, stopped, none-left, settle-refused-by}
 use Rattle.model.proofs.PolicyLaws.{Passed, policy-passed}
 use Rattle.model.proofs.RecordLaws.{length-numbersBytes, numbersBytes-append, written-length, write-passed, pages-exact, frames-exact, room-there, written-is}
+use Rattle.record.proofs.ArrayLaws.{array-front, array-ends}
 
 -- Two stores put a number.
 pub number-put : (buffer : List ℕ) (at number : ℕ) → set (set buffer at (number % 256)) (at + 1) (number / 256) ≡ sets buffer at (numberBytes number)
@@ -35,14 +36,14 @@ put-length buffer next at bytes e = ap length e ∙ length-sets buffer at bytes
 module _ (numbers buffer : List ℕ) (place i : ℕ) (whole : List ℕ) (e : sets buffer place (numbersBytes (drop i numbers)) ≡ whole) where
   pub numbers-end : length numbers ≤ i → buffer ≡ whole
   unfolding numbersBytes
-  numbers-end h = rw (drop-of-length-le numbers h) at e
+  numbers-end h = rw (array-ends numbers i h) at e
 
   pub numbers-more : (next : List ℕ) → i < length numbers → next ≡ sets buffer place (numberBytes (getD numbers i 0))
       → sets next (place + 2) (numbersBytes (drop (i + 1) numbers)) ≡ whole
   unfolding numbersBytes numberBytes
   numbers-more next more put =
       let after : place + 2 ≡ suc (suc place) = omega arith in
-      rw (put, after, add-one) (rw (drop-cons numbers i 0 more) at e)
+      rw (put, after) (rw (array-front numbers i more) at e)
 
 -- The four sizes, one after the other.
 pub sizes-put : (buffer b1 b2 b3 b4 : List ℕ) (pages frames count entries : ℕ) → b1 ≡ sets buffer 0 (numberBytes pages) → b2 ≡ sets b1 2 (numberBytes frames)
