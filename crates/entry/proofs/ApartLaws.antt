@@ -9,8 +9,8 @@ use borrow.Author.Tests.{eq-eqb, ne-eqb, eqb-true, eqb-false}
 use Rattle.model.specs.declared.Entry.the-variants.{Absent, Present}
 use Rattle.model.specs.declared.Fields.{Fields}
 use Rattle.model.specs.Basics.{bit, both}
-use Rattle.model.specs.Bits.{present, writable, userBit, noExecute, frameOf, fieldsOf, reserved, valid, takenApart}
-use Rattle.model.proofs.QuestionLaws.{both-first, both-second}
+use Rattle.model.specs.Bits.{present, writable, userBit, writeThrough, cacheDisable, noExecute, frameOf, fieldsOf, reserved, valid, takenApart}
+use Rattle.model.proofs.BitLaws.{valid-parts}
 
 -- Bit 1 and bits 53 to 63 of a number of 64 bits, as the mask of both takes them.
 masked : (x : ℕ) → x < 2 ^ 64 → bitAnd x 0xffe0000000000002 ≡ x / 2 ^ 53 * 2 ^ 53 + x / 2 % 2 * 2
@@ -69,13 +69,6 @@ valid-is entry x h e = rw (masked x h, bit-0, high) (by (entry % 2 ^ 63) refl)
         let up : z * 2 / 2 ^ 53 ≡ z / 2 ^ 52 = omega arith in
         rw (p, shifted-is entry x z h e p, low, up) (none-of z)
 
--- A valid entry is odd, and its reserved bits are 0.
-pub valid-parts : (entry : ℕ) → valid entry ≡ true → (entry % 2 ≡ 1) × (entry / 2 ^ 52 % 2 ^ 11 ≡ 0)
-unfolding valid present reserved bit
-valid-parts entry p =
-    let odd : entry / 2 ^ 0 % 2 ≡ 1 = eqb-true (entry / 2 ^ 0 % 2) 1 (both-first _ _ p) in
-    (omega arith, eqb-true (entry / 2 ^ 52 % 2 ^ 11) 0 (both-second (eqb (entry / 2 ^ 0 % 2) 1) _ p))
-
 -- What a valid entry has from bit 12 on: a frame of 40 bits, and bit 63.
 pub above-12 : (entry : ℕ) → valid entry ≡ true → entry / 2 ^ 12 ≡ entry / 2 ^ 63 * 2 ^ 51 + frameOf entry
 unfolding frameOf
@@ -110,10 +103,11 @@ frame-is entry x h e p = by (entry % 2 ^ 63) refl
         let same : suc z / 2 ^ 12 ≡ z / 2 ^ 12 = omega arith in
         rw (shifted-is entry x z h e q, low, above, q, same)
 
-pub fields-are : (entry : ℕ) {frame : ℕ} {w u x : Bool} → w ≡ writable entry → u ≡ userBit entry → x ≡ noExecute entry → frame ≡ frameOf entry
-    → record { writable = w; user = u; «no_execute» = x; frame = frame } ≡ fieldsOf entry
+-- Fields each of which is the entry's are its fields.
+pub fields-are : (entry : ℕ) {x : Fields} → x .writable ≡ writable entry → x .user ≡ userBit entry → x .«write_through» ≡ writeThrough entry
+    → x .«cache_disable» ≡ cacheDisable entry → x .«no_execute» ≡ noExecute entry → x .frame ≡ frameOf entry → x ≡ fieldsOf entry
 unfolding fieldsOf
-fields-are entry w u x f = rw (w, u, x, f)
+fields-are entry w u t c n f = rw (w, u, t, c, n, f)
 
 pub valid-yes : (entry : ℕ) {b : Bool} → b ≡ valid entry → b ≡ true → valid entry ≡ true
 valid-yes entry p q = rw (← p) q

@@ -5,9 +5,10 @@ use mathlib.Core.Path.{_≡_, refl, ap, ap₂, _∙_}
 use native.Mathlib.Omega.{arith}
 use lib.Bits.{bitOr, or-block, or-zero-r}
 use Rattle.model.specs.Basics.{bit, either, flag}
-use Rattle.model.specs.Bits.{writable, userBit, noExecute, frameOf, fieldsOf, valid, ordinaryNoExecute, ordinary}
+use Rattle.model.specs.Bits.{writable, userBit, writeThrough, cacheDisable, noExecute, frameOf, fieldsOf, valid, ordinaryNoExecute, ordinary}
 use Rattle.model.proofs.VectorLaws.{flag-weight, flag-bit}
-use Rattle.entry.proofs.ApartLaws.{valid-parts, above-12}
+use Rattle.model.proofs.BitLaws.{valid-parts, lowest, lowest-of}
+use Rattle.entry.proofs.ApartLaws.{above-12}
 
 -- Bit 63 set beside what it was.
 top-set : (c : ℕ) (b t : Bool) → c / 2 ^ 63 ≡ flag t 0 → bitOr c (cond b (2 ^ 63) 0) ≡ c % 2 ^ 63 + flag (either t b) 63
@@ -31,45 +32,34 @@ ordinary-bit false false bit2 = refl
 ordinary-bit true true bit2 = refl
 ordinary-bit true false bit2 = refl
 
--- A number's bit times a weight.
-weight-of : (j k x : ℕ) → flag (bit k x) j ≡ x / 2 ^ k % 2 * 2 ^ j
-weight-of j k x = flag-weight (bit k x) j ∙ ap (λ (d : ℕ). d * 2 ^ j) (flag-bit k x)
-
--- Bits 0 to 2 of an odd number.
-low-8 : (x : ℕ) → x % 2 ≡ 1 → x % 8 ≡ 1 + x / 2 ^ 1 % 2 * 2 ^ 1 + x / 2 ^ 2 % 2 * 2 ^ 2
-low-8 x p =
-    let by-4 : x / 2 ^ 1 / 2 ≡ x / 2 ^ 2 = omega arith in
-    let by-8 : x / 2 ^ 2 / 2 ≡ x / 8 = omega arith in
-    omega arith
-
--- A top bit t, a frame f, r below 8 and t again at bit 9, taken apart at bit 63.
-parts-63 : (t f r : ℕ) → t < 2 → f < 2 ^ 40 → r < 8
+-- A top bit t, a frame f, r below bit 5 and t again at bit 9, taken apart at bit 63.
+parts-63 : (t f r : ℕ) → t < 2 → f < 2 ^ 40 → r < 2 ^ 5
     → (((t * 2 ^ 51 + f) * 2 ^ 12 + r + t * 2 ^ 9) / 2 ^ 63 ≡ t) × (((t * 2 ^ 51 + f) * 2 ^ 12 + r + t * 2 ^ 9) % 2 ^ 63 ≡ r + t * 2 ^ 9 + f * 2 ^ 12)
 parts-63 zero f r a b c = (omega arith, omega arith)
 parts-63 (suc zero) f r a b c = (omega arith, omega arith)
 parts-63 (suc (suc t)) f r a b c = absurd (omega arith)
 
 -- A number shifted by 12, with what stands below it, fits 64 bits.
-pub copied-fits : (y r t w : ℕ) → y < 2 ^ 52 → r < 8 → t < 2 → w < 2 ^ 11 → y * 2 ^ 12 + r + t * w < 2 ^ 64
+pub copied-fits : (y r t w : ℕ) → y < 2 ^ 52 → r < 2 ^ 11 → t < 2 → w < 2 ^ 11 → y * 2 ^ 12 + r + t * w < 2 ^ 64
 copied-fits y r zero w a b c d = omega arith
 copied-fits y r (suc zero) w a b c d = omega arith
 copied-fits y r (suc (suc t)) w a b c d = absurd (omega arith)
 
--- An ordinary entry: what a valid entry has at bits 0 to 2 and from bit 12 on, and bit 63 copied to bit 9.
+-- An ordinary entry: what a valid entry has at bits 0 to 4 and from bit 12 on, and bit 63 copied to bit 9.
 pub ordinary-is : (user : Bool) (entry : ℕ) (u : Bool) (w : ℕ) → entry < 2 ^ 64 → valid entry ≡ true → u ≡ userBit entry
     → w ≡ cond (not user || not u) (2 ^ 63) 0
-    → bitOr (entry / 2 ^ 12 * 2 ^ 12 + entry % 8 + entry / 2 ^ 63 * 2 ^ 9) w ≡ ordinary user (fieldsOf entry)
-unfolding ordinary fieldsOf writable userBit noExecute frameOf
+    → bitOr (entry / 2 ^ 12 * 2 ^ 12 + entry % 2 ^ 5 + entry / 2 ^ 63 * 2 ^ 9) w ≡ ordinary user (fieldsOf entry)
+unfolding ordinary fieldsOf writable userBit writeThrough cacheDisable noExecute frameOf
 ordinary-is user entry u w h p q r =
     let t : ℕ = entry / 2 ^ 63 in
     let f : ℕ = frameOf entry in
     let odd : entry % 2 ≡ 1 = (valid-parts entry p) .0 in
     let top : t ≡ flag (bit 63 entry) 0 = omega (arith, flag-bit 63 entry) in
-    let (high, low) = parts-63 t f (entry % 8) (omega arith) (omega arith) (omega arith) in
-    let flags : entry % 8 + t * 2 ^ 9 + f * 2 ^ 12 ≡ 2 ^ 0 + flag (bit 1 entry) 1 + flag (bit 2 entry) 2 + flag (bit 63 entry) 9 + f * 2 ^ 12 =
-    rw (weight-of 1 1 entry, weight-of 2 2 entry, flag-weight (bit 63 entry) 9, top, low-8 entry odd) in
+    let (high, low) = parts-63 t f (entry % 2 ^ 5) (omega arith) (omega arith) (omega arith) in
+    let flags : entry % 2 ^ 5 + t * 2 ^ 9 + f * 2 ^ 12 ≡ lowest (fieldsOf entry) + flag (bit 63 entry) 9 + f * 2 ^ 12 =
+    rw (flag-weight (bit 63 entry) 9, top, lowest-of entry odd) in
     let set : Bool = not user || not (bit 2 entry) in
     rw (r, q)
-    (ap (λ (y : ℕ). bitOr (y * 2 ^ 12 + entry % 8 + t * 2 ^ 9) (cond set (2 ^ 63) 0)) (above-12 entry p)
-    ∙ top-set ((t * 2 ^ 51 + f) * 2 ^ 12 + entry % 8 + t * 2 ^ 9) set (bit 63 entry) (high ∙ top)
+    (ap (λ (y : ℕ). bitOr (y * 2 ^ 12 + entry % 2 ^ 5 + t * 2 ^ 9) (cond set (2 ^ 63) 0)) (above-12 entry p)
+    ∙ top-set ((t * 2 ^ 51 + f) * 2 ^ 12 + entry % 2 ^ 5 + t * 2 ^ 9) set (bit 63 entry) (high ∙ top)
     ∙ ap₂ (λ (a : ℕ) (b : Bool). a + flag b 63) (low ∙ flags) (ordinary-bit user (bit 63 entry) (bit 2 entry)))

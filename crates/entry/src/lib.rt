@@ -1,4 +1,4 @@
-// Document 01, "Entry bits", with request K1: the bits of kernel and shadow entries, kernel entries taken apart, shadow entries made and
+// Document 01, "Entry bits", with requests K1 and K3: the bits of kernel and shadow entries, kernel entries taken apart, shadow entries made and
 // switched.
 // Every function gives what its definition in the model gives; two ask for a kernel entry that is valid.
 
@@ -9,7 +9,7 @@ ghost use mathlib.Core.Bool.{true, cond, not};
 ghost use Prim.Native.Nat.{_+_, _*_, _/_, _%_, _^_, _<_, _≤_};
 ghost use lib.Bits.{bitXor};
 ghost use Rattle.model.specs.Basics.{differs, flag};
-ghost use Rattle.model.specs.Bits.{present, writable, userBit, noExecute, kernelNoExecute, approvedMark, frameOf, fieldsOf, valid, takenApart, approved, ordinary};
+ghost use Rattle.model.specs.Bits.{present, writable, userBit, writeThrough, cacheDisable, noExecute, kernelNoExecute, approvedMark, frameOf, fieldsOf, valid, takenApart, approved, ordinary};
 ghost use Rattle.model.specs.Switch.{noExecuteIn, switched};
 
 // The weights of the bits. Division and remainder by them are shifts and masks.
@@ -18,6 +18,13 @@ const PRESENT: u64 = 0x1;
 const WRITABLE: u64 = 0x2;
 
 const USER: u64 = 0x4;
+
+const WRITE_THROUGH: u64 = 0x8;
+
+const CACHE_DISABLE: u64 = 0x10;
+
+// One above the largest number that bits 0 to 4 hold, which an ordinary entry has as the kernel entry has them.
+const COPIED: u64 = 0x20;
 
 const KERNEL_NO_EXECUTE: u64 = 0x200;
 
@@ -48,6 +55,18 @@ pub fn user_bit(entry: u64) -> bool
     ensures { λ r. ⌜ r ≡ userBit entry ⌝ }
 {
     entry / USER % 2 == 1
+}
+
+fn write_through(entry: u64) -> bool
+    ensures { λ r. ⌜ r ≡ writeThrough entry ⌝ }
+{
+    entry / WRITE_THROUGH % 2 == 1
+}
+
+fn cache_disable(entry: u64) -> bool
+    ensures { λ r. ⌜ r ≡ cacheDisable entry ⌝ }
+{
+    entry / CACHE_DISABLE % 2 == 1
 }
 
 pub fn kernel_no_execute(entry: u64) -> bool
@@ -98,6 +117,8 @@ fn fields_of(entry: u64) -> Fields
     Fields {
         writable: writable(entry),
         user: user_bit(entry),
+        write_through: write_through(entry),
+        cache_disable: cache_disable(entry),
         no_execute: no_execute(entry),
         frame: shifted(entry) / (FRAME * 2),
     }
@@ -126,13 +147,13 @@ pub fn approved(user: bool, frame: u16) -> u64
     1 + APPROVED + frame as u64 * FRAME + weight_if(user, NO_EXECUTE)
 }
 
-// The ordinary entry of a kernel entry. It asks for a valid one, which step 5 has: then all bits but 3 to 11 are copied as they are, without a
+// The ordinary entry of a kernel entry. It asks for a valid one, which step 5 has: then all bits but 5 to 11 are copied as they are, without a
 // mask for the reserved bits. Bit 9 is bit 63 of the kernel entry; bit 63 is that bit too, and is set in kernel mode and where bit 2 is clear.
 pub fn ordinary_of(user: bool, entry: u64) -> u64
     requires { ⌜ valid entry ≡ true ⌝ }
     ensures { λ r. ⌜ r ≡ ordinary user (fieldsOf entry) ⌝ }
 {
-    entry / FRAME * FRAME + entry % 8 + entry / NO_EXECUTE * KERNEL_NO_EXECUTE
+    entry / FRAME * FRAME + entry % COPIED + entry / NO_EXECUTE * KERNEL_NO_EXECUTE
         | weight_if(!user | !user_bit(entry), NO_EXECUTE)
 }
 

@@ -1,18 +1,24 @@
--- Laws of the bits of entries: those of an approved and of an ordinary entry, and those that a mode switch keeps and sets.
-use Prim.Native.Nat.{ℕ, _+_, _*_, _/_, _%_, _^_, _≤_, _<_}
+-- Laws of the bits of entries: those of an approved and of an ordinary entry, and those that a mode switch keeps and sets. What is said of several
+-- bits is said once, of the bit.
+use Prim.Native.Nat.{ℕ, suc, _+_, _-_, _*_, _/_, _%_, _^_, _≤_, _<_}
 use mathlib.Core.Bool.{Bool, true, false, cond}
 use mathlib.Core.Logic.{_⊎_, inl, inr}
-use mathlib.Core.Path.{_≡_, refl, ap, _∙_}
+use mathlib.Core.Path.{_≡_, refl, sym, ap, _∙_}
 use native.Mathlib.Omega.{arith}
+use lib.Pow.{field, mod-mod-pow}
+use lib.Dec.{eqb}
+use borrow.Author.Tests.{eqb-true}
 use Rattle.model.specs.declared.Entry.{Entry}
 use Rattle.model.specs.declared.Entry.the-variants.{Absent, Present}
 use Rattle.model.specs.declared.Fields.{Fields}
 use Rattle.model.specs.Basics.{bit, flag}
-use Rattle.model.specs.Bits.{present, noExecute, frameOf, approvedMark, approvedNoExecute, approved, fieldsOf, valid, takenApart, ordinaryNoExecute, ordinary}
+use Rattle.model.specs.Bits.{present, writable, userBit, writeThrough, cacheDisable, noExecute, frameOf, approvedMark, approvedNoExecute, approved, fieldsOf, reserved, valid, takenApart, ordinaryNoExecute, ordinary}
 use Rattle.model.specs.Switch.{noExecuteIn, switched}
-use Rattle.model.proofs.VectorLaws.{flag-weight, flag-small, flag-test}
+use Rattle.model.specs.Cache.{OrdinaryCarries, ApprovedHasNone, SwitchKeeps}
+use Rattle.model.proofs.VectorLaws.{flag-weight, flag-small, flag-test, bits-to}
+use Rattle.model.proofs.QuestionLaws.{both-first, both-second}
 
--- A bit that is a Boolean's digit, one that is 1, one that is 0, and two numbers that agree at a bit.
+-- A bit that is a Boolean's digit, one that is 1 and one that is 0.
 pub bit-is : (k x : ℕ) (b : Bool) → x / 2 ^ k % 2 ≡ flag b 0 → bit k x ≡ b
 unfolding bit
 bit-is k x b h = flag-test b (x / 2 ^ k % 2) h
@@ -25,9 +31,16 @@ pub bit-off : (k x : ℕ) → x / 2 ^ k % 2 ≡ 0 → bit k x ≡ false
 unfolding flag
 bit-off k x h = bit-is k x false h
 
-pub bit-same : (k x y : ℕ) → x / 2 ^ k % 2 ≡ y / 2 ^ k % 2 → bit k x ≡ bit k y
+-- Two numbers that are the same below bit n agree at each bit there.
+bits-below : (n x y : ℕ) → x % 2 ^ n ≡ y % 2 ^ n → (k : ℕ) → k < n → bit k x ≡ bit k y
 unfolding bit
-bit-same k x y h = rw h refl
+bits-below n x y e k l = by (n - suc k) (omega arith)
+  where
+    of : (j z : ℕ) → z % 2 ^ (j + 1 + k) / 2 ^ k % 2 ≡ z / 2 ^ k % 2
+    of j z = ap (λ (d : ℕ). d % 2) (field z (j + 1) k) ∙ mod-mod-pow (z / 2 ^ k) j 1
+
+    by : (j : ℕ) → n ≡ j + 1 + k → eqb (x / 2 ^ k % 2) 1 ≡ eqb (y / 2 ^ k % 2) 1
+    by j p = ap (λ (d : ℕ). eqb d 1) (sym (of j x) ∙ ap (λ (d : ℕ). d / 2 ^ k % 2) (rw p at e) ∙ of j y)
 
 -- A flag is a digit, 0 or 1, times its weight.
 record Digit (b : Bool) (k : ℕ) : Type 0 where
@@ -63,6 +76,13 @@ present-valid entry x p = by (valid entry) ∙ ap isPresent p
     by true = refl
     by false = refl
 
+-- A valid entry is odd, and its reserved bits are 0.
+pub valid-parts : (entry : ℕ) → valid entry ≡ true → (entry % 2 ≡ 1) × (entry / 2 ^ 52 % 2 ^ 11 ≡ 0)
+unfolding valid present reserved bit
+valid-parts entry p =
+    let odd : entry / 2 ^ 0 % 2 ≡ 1 = eqb-true (entry / 2 ^ 0 % 2) 1 (both-first _ _ p) in
+    (omega arith, eqb-true (entry / 2 ^ 52 % 2 ^ 11) 0 (both-second (eqb (entry / 2 ^ 0 % 2) 1) _ p))
+
 -- An approved entry: "bits 0 and 10, the frame; bit 63 set in user mode only".
 module _ (user : Bool) (f : ℕ) where
   pub approvedMark-approved : approvedMark (approved user f) ≡ true
@@ -73,57 +93,76 @@ module _ (user : Bool) (f : ℕ) where
   unfolding frameOf approved approvedNoExecute
   frameOf-approved h = omega (arith, flag-is user 63)
 
--- Bit 0, three flags below bit 10, a frame, and a flag at bit 63.
-frame-of : (l f : ℕ) (d : Bool) → l < 2 ^ 10 → f < 2 ^ 40 → (l + f * 2 ^ 12 + flag d 63) / 2 ^ 12 % 2 ^ 40 ≡ f
-unfolding flag
-frame-of l f true h k = omega arith
-frame-of l f false h k = omega arith
+-- K3: an approved entry has neither cache bit.
+pub approved-none : ApprovedHasNone
+unfolding writeThrough cacheDisable approved approvedNoExecute
+approved-none user frame =
+    (bit-off 3 (approved user frame) (omega (arith, flag-is user 63)), bit-off 4 (approved user frame) (omega (arith, flag-is user 63)))
 
-above-low : (l f : ℕ) (d : Bool) → l < 2 ^ 10 → bit 10 (l + f * 2 ^ 12 + flag d 63) ≡ false
-unfolding flag
-above-low l f true h = bit-off 10 (l + f * 2 ^ 12 + 2 ^ 63) (omega arith)
-above-low l f false h = bit-off 10 (l + f * 2 ^ 12 + 0) (omega arith)
+-- What fields say of bits 0 to 4.
+module _ (x : Fields) where
+  abbrev pub lowest : ℕ
+  lowest = 2 ^ 0 + flag (x .writable) 1 + flag (x .user) 2 + flag (x .«write_through») 3 + flag (x .«cache_disable») 4
 
-module _ (a b c d : Bool) (f : ℕ) where
-  abbrev low : ℕ
-  low = 2 ^ 0 + flag a 1 + flag b 2 + flag c 9
+  pub lowest-lt : lowest < 2 ^ 5
+  lowest-lt =
+      omega (arith, flag-is (x .writable) 1, flag-is (x .user) 2, flag-is (x .«write_through») 3, flag-is (x .«cache_disable») 4)
 
-  low-lt : low < 2 ^ 10
-  low-lt = omega (arith, flag-is a 1, flag-is b 2, flag-is c 9)
+-- Bits 0 to 4 of a kernel entry that is present are those that its fields say.
+pub lowest-of : (entry : ℕ) → entry % 2 ≡ 1 → entry % 2 ^ 5 ≡ lowest (fieldsOf entry)
+unfolding fieldsOf writable userBit writeThrough cacheDisable
+lowest-of entry odd =
+    rw (bits-to entry 4, bits-to entry 3, bits-to entry 2, bits-to entry 1) (omega arith)
 
-  bit10-is : bit 10 (low + f * 2 ^ 12 + flag d 63) ≡ false
-  bit10-is = above-low low f d low-lt
+-- Numbers of an ordinary entry: r below bit 5, bit 9, a frame, and bit 63.
+module _ (r f : ℕ) (n d : Bool) where
+  abbrev whole : ℕ
+  whole = r + flag n 9 + f * 2 ^ 12 + flag d 63
 
-  bit63-is : f < 2 ^ 40 → bit 63 (low + f * 2 ^ 12 + flag d 63) ≡ d
-  bit63-is h = bit-flag d (low + f * 2 ^ 12) (omega (arith, low-lt))
+  whole-low : r < 2 ^ 5 → whole % 2 ^ 5 ≡ r
+  whole-low h = omega (arith, flag-is n 9, flag-is d 63)
+
+  whole-10 : r < 2 ^ 5 → bit 10 whole ≡ false
+  whole-10 h = bit-off 10 whole (omega (arith, flag-is n 9, flag-is d 63))
+
+  whole-63 : r < 2 ^ 5 → f < 2 ^ 40 → bit 63 whole ≡ d
+  whole-63 h k = bit-flag d (r + flag n 9 + f * 2 ^ 12) (omega (arith, flag-is n 9))
 
 -- An ordinary entry has these: no approved mark, and bit 63 by its own rule.
 module _ (user : Bool) (x : Fields) where
   pub approvedMark-ordinary : approvedMark (ordinary user x) ≡ false
   unfolding approvedMark ordinary
-  approvedMark-ordinary = bit10-is _ _ _ _ (x .frame)
+  approvedMark-ordinary = whole-10 (lowest x) (x .frame) _ _ (lowest-lt x)
 
   pub noExecute-ordinary : x .frame < 2 ^ 40 → noExecute (ordinary user x) ≡ ordinaryNoExecute user (x .«no_execute») (x .user)
   unfolding noExecute ordinary
-  noExecute-ordinary h = bit63-is _ _ _ _ (x .frame) h
+  noExecute-ordinary h = whole-63 (lowest x) (x .frame) _ _ (lowest-lt x) h
+
+  ordinary-low : ordinary user x % 2 ^ 5 ≡ lowest x
+  unfolding ordinary
+  ordinary-low = whole-low (lowest x) (x .frame) _ _ (lowest-lt x)
+
+-- K3: of a valid kernel entry, bits 0 to 4.
+pub ordinary-carries : OrdinaryCarries
+ordinary-carries user entry k p l =
+    bits-below 5 (ordinary user (fieldsOf entry)) entry (ordinary-low user (fieldsOf entry) ∙ sym (lowest-of entry ((valid-parts entry p) .0))) k l
 
 -- A mode switch: the frame and every bit but 63 are kept.
-switched-kept : (user : Bool) (entry k : ℕ) → ((b : Bool) → (entry % 2 ^ 63 + flag b 63) / 2 ^ k % 2 ≡ entry / 2 ^ k % 2)
-    → bit k (switched user entry) ≡ bit k entry
+pub switch-keeps : SwitchKeeps
 unfolding switched
-switched-kept user entry k h = at (present entry) _
+switch-keeps user entry k l = bits-below 63 _ entry (at (present entry) _) k l
   where
-    at : (b c : Bool) → bit k (cond b (entry % 2 ^ 63 + flag c 63) entry) ≡ bit k entry
-    at true c = bit-same k (entry % 2 ^ 63 + flag c 63) entry (h c)
+    at : (b c : Bool) → cond b (entry % 2 ^ 63 + flag c 63) entry % 2 ^ 63 ≡ entry % 2 ^ 63
+    at true c = omega (arith, flag-is c 63)
     at false c = refl
 
 pub present-switched : (user : Bool) (entry : ℕ) → present (switched user entry) ≡ present entry
 unfolding present
-present-switched user entry = switched-kept user entry 0 (λ b. omega (arith, flag-is b 63))
+present-switched user entry = switch-keeps user entry 0 (omega arith)
 
 pub approvedMark-switched : (user : Bool) (entry : ℕ) → approvedMark (switched user entry) ≡ approvedMark entry
 unfolding approvedMark
-approvedMark-switched user entry = switched-kept user entry 10 (λ b. omega (arith, flag-is b 63))
+approvedMark-switched user entry = switch-keeps user entry 10 (omega arith)
 
 pub frameOf-switched : (user : Bool) (entry : ℕ) → frameOf (switched user entry) ≡ frameOf entry
 unfolding frameOf switched

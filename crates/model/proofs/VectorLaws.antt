@@ -52,6 +52,10 @@ flag-bit k x = by (eqb (x / 2 ^ k % 2) 1) refl
         let differs : x / 2 ^ k % 2 ≡ 1 → ⊥ = eqb-false (x / 2 ^ k % 2) 1 e in
         rw e (omega arith)
 
+-- A number's bits up to k are bit k and those below it.
+pub bits-to : (x k : ℕ) → x % 2 ^ (1 + k) ≡ flag (bit k x) k + x % 2 ^ k
+bits-to x k = rw (flag-weight (bit k x) k, flag-bit) (mod-pow-add x 1 k)
+
 -- A byte and its bits: it is their sum, each 0 or 1 times its weight, so bit j of it is the bit j that it was made of.
 module _ (h : ℕ → Bool) where
   pub byteOf-sum
@@ -83,12 +87,10 @@ module _ (h : ℕ → Bool) where
 
 -- A byte is made of its own bits.
 pub byteOf-bits : (b : ℕ) → b < 256 → byteOf (λ j. bit j b) ≡ b
+unfolding byteOf
 byteOf-bits b small =
-    omega (arith, byteOf-sum (λ j. bit j b) .0, rw (digit 7, digit 6, digit 5, digit 4, digit 3, digit 2, digit 1, digit 0) at whole)
+    omega (arith, rw (bits-to b 7, bits-to b 6, bits-to b 5, bits-to b 4, bits-to b 3, bits-to b 2, bits-to b 1, bits-to b 0) at whole)
   where
-    digit : (k : ℕ) → b % 2 ^ (1 + k) ≡ flag (bit k b) 0 * 2 ^ k + b % 2 ^ k
-    digit k = rw flag-bit (mod-pow-add b 1 k)
-
     whole : b ≡ b % 2 ^ 8
     whole = omega arith
 

@@ -1,4 +1,4 @@
--- Document 01, "Entry bits", as request K1 (document 02) changed them, with the entries that "Synchronising one page" makes of them: kernel entries taken apart, shadow entries made.
+-- Document 01, "Entry bits", as requests K1 and K3 (document 02) changed them, with the entries that "Synchronising one page" makes of them: kernel entries taken apart, shadow entries made.
 use Prim.Native.Nat.{ℕ, _+_, _*_, _/_, _%_, _^_}
 use mathlib.Core.Bool.{Bool, true, not, cond}
 use lib.Dec.{eqb}
@@ -17,6 +17,13 @@ writable entry = bit 1 entry
 unfoldable pub userBit : ℕ → Bool
 userBit entry = bit 2 entry
 
+-- K3: "bits 3 (write-through) and 4 (cache disable)".
+unfoldable pub writeThrough : ℕ → Bool
+writeThrough entry = bit 3 entry
+
+unfoldable pub cacheDisable : ℕ → Bool
+cacheDisable entry = bit 4 entry
+
 unfoldable pub noExecute : ℕ → Bool
 noExecute entry = bit 63 entry
 
@@ -30,8 +37,17 @@ kernelNoExecute entry = bit 9 entry
 unfoldable pub approvedMark : ℕ → Bool
 approvedMark entry = bit 10 entry
 
+-- K3: "Taking a kernel entry apart now yields both bits".
 unfoldable pub fieldsOf : ℕ → Fields
-fieldsOf entry = record { writable = writable entry; user = userBit entry; «no_execute» = noExecute entry; frame = frameOf entry }
+fieldsOf entry =
+    record {
+      writable = writable entry;
+      user = userBit entry;
+      «write_through» = writeThrough entry;
+      «cache_disable» = cacheDisable entry;
+      «no_execute» = noExecute entry;
+      frame = frameOf entry;
+    }
 
 -- K1: "The processor faults on bits 52 to 62", reserved bits. "A kernel entry with any of those bits set is now absent, on approved pages
 -- too." Only a kernel entry is asked, never a shadow entry.
@@ -42,7 +58,7 @@ reserved entry = entry / 2 ^ 52 % 2 ^ 11
 unfoldable pub valid : ℕ → Bool
 valid entry = both (present entry) (eqb (reserved entry) 0)
 
--- "A kernel entry is taken apart first: absent, or present with its fields." "Other bits are ignored": since K1 these are bits 3 to 11.
+-- "A kernel entry is taken apart first: absent, or present with its fields." "Other bits are ignored": since K1 and K3 these are bits 5 to 11.
 unfoldable pub takenApart : ℕ → Entry
 takenApart entry = cond (valid entry) (Present (fieldsOf entry)) Absent
 
@@ -57,8 +73,8 @@ approved user frame = 2 ^ 0 + 2 ^ 10 + frame * 2 ^ 12 + flag (approvedNoExecute 
 unfoldable pub ordinaryNoExecute : Bool → Bool → Bool → Bool
 ordinaryNoExecute user bit9 bit2 = cond user (either bit9 (not bit2)) true
 
--- "Else ordinary: present, writable, user, frame and bit 9 from the kernel entry."
+-- "Else ordinary: present, writable, user, frame and bit 9 from the kernel entry." K3: "an ordinary shadow entry carries them", bits 3 and 4.
 unfoldable pub ordinary : Bool → Fields → ℕ
 ordinary user x =
-    2 ^ 0 + flag (x .writable) 1 + flag (x .user) 2 + flag (x .«no_execute») 9 + x .frame * 2 ^ 12
-    + flag (ordinaryNoExecute user (x .«no_execute») (x .user)) 63
+    2 ^ 0 + flag (x .writable) 1 + flag (x .user) 2 + flag (x .«write_through») 3 + flag (x .«cache_disable») 4 + flag (x .«no_execute») 9
+    + x .frame * 2 ^ 12 + flag (ordinaryNoExecute user (x .«no_execute») (x .user)) 63

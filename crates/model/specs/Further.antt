@@ -1,4 +1,4 @@
--- Cases beside the twelve of document 01, each from one of its sentences or of a request's (K1, ..): a policy with two entry pages and a repeated frame, the calls that
+-- Cases beside the twelve of document 01, each from one of its sentences or of a request's (K1, K3): a policy with two entry pages and a repeated frame, the calls that
 -- C1 to C12 do not make, and refusals with what comes before them. Rows as in Cases.
 use Prim.Native.Nat.{ℕ}
 use mathlib.Core.Bool.{true, false}
@@ -11,7 +11,7 @@ use Rattle.model.specs.declared.Answer.the-variants.{Done, Refused}
 use Rattle.model.specs.Keeps.{tables, withShadow, withMap, withExclusion, Guard, guardOf, withBit, stateOf}
 use Rattle.model.specs.Policy.{nothingGiven}
 use Rattle.model.specs.Calls.{Reply, Outcome, outcome, outcomeBy, accepted, refused, startOf, Call, syncPage, syncAll, fetch, write, enter, leave, deviceWrite, answer}
-use Rattle.model.specs.Cases.{Row, Case, row}
+use Rattle.model.specs.Cases.{started, startedUser, holding, mapStarted, Row, Case, row}
 
 -- V 6, F 8, n 3, e 2, pages 1, 2 and 4, frames 5, 3 and 5.
 unfoldable pub twoEntries : List ℕ
@@ -144,12 +144,12 @@ syncCases =
       map = 65535 ∷ 5 ∷ 3 ∷ 5 ∷ 5 ∷ 65535 ∷ [];
       exclusion = 0x28 ∷ [];
     })))
-    -- The same in user mode: an alias that joins and two approved pages get bit 63, a read-only entry with every ignored bit set stays read-only.
+    -- The same in user mode: an alias that joins and two approved pages get bit 63, a read-only entry with every bit from 3 to 11 set stays read-only.
     ∷ row (answer (with6 (User 1) shadow6) (syncAll (0x5003 ∷ 0x7003 ∷ 0 ∷ 0x7ff9 ∷ 0x9003 ∷ 0x6007 ∷ [])))
     (outcome (accepted 6 1)
     (guardOf (sixPages (User 1))
     (record {
-      shadow = 0x8000000000005401 ∷ 0x8000000000005401 ∷ 0 ∷ 0x8000000000007001 ∷ 0x8000000000005401 ∷ 0x6007 ∷ [];
+      shadow = 0x8000000000005401 ∷ 0x8000000000005401 ∷ 0 ∷ 0x8000000000007019 ∷ 0x8000000000005401 ∷ 0x6007 ∷ [];
       map = 5 ∷ 5 ∷ 3 ∷ 65535 ∷ 5 ∷ 65535 ∷ [];
       exclusion = 0x28 ∷ [];
     })))
@@ -182,7 +182,7 @@ syncCases =
     (answer (filled (User 1))
     (syncAll
     (0x1000000000004001 ∷ 0x2000000000005001 ∷ 0x0004000000003003 ∷ 0x1000000000005ff9 ∷ 0x2000000000009003 ∷ 0x7fff ∷ [])))
-    (outcome (accepted 6 0) (with6 (User 1) (0 ∷ 0 ∷ 0x8000000000003401 ∷ 0 ∷ 0 ∷ 0x7007 ∷ [])))
+    (outcome (accepted 6 0) (with6 (User 1) (0 ∷ 0 ∷ 0x8000000000003401 ∷ 0 ∷ 0 ∷ 0x701f ∷ [])))
     -- bits 51 and 63, on either side, are none of these: both on an approved page and bit 63 on an alias, which joins, and on an ordinary page
     ∷ row
     (answer (filled (Kernel 1))
@@ -198,6 +198,32 @@ syncCases =
     -- one page: an approved one gets entry 0, and its own frame again once the bit is gone
     ∷ row (answer started6 (syncPage (replicate 6 0x0010000000005003) 1)) (outcome (accepted 1 0) (with6 (Kernel 1) (set shadow6 1 0)))
     ∷ row (answer (with6 (Kernel 1) (set shadow6 1 0)) (syncPage (replicate 6 0x7003) 1)) (outcome (accepted 1 0) started6)
+    -- K3: "an ordinary shadow entry carries them": C5 to C8 with write-through, cache disable and both. The approved page has neither.
+    ∷ row (answer started (syncAll (0x300b ∷ 0x201b ∷ 0x3013 ∷ 0x301b ∷ [])))
+    (outcome (accepted 3 0) (holding (Kernel 1) (0x800000000000300b ∷ 0x2401 ∷ 0x8000000000003013 ∷ 0x800000000000301b ∷ []) mapStarted))
+    ∷ row (answer startedUser (syncAll (0x300f ∷ 0x200b ∷ 0x3017 ∷ 0x301f ∷ [])))
+    (outcome (accepted 4 0) (holding (User 1) (0x300f ∷ 0x8000000000002401 ∷ 0x3017 ∷ 0x301f ∷ []) mapStarted))
+    ∷ row (answer startedUser (syncAll (0x800000000000300f ∷ 0x2013 ∷ 0x8000000000003017 ∷ 0x800000000000301f ∷ [])))
+    (outcome (accepted 4 0) (holding (User 1) (0x800000000000320f ∷ 0x8000000000002401 ∷ 0x8000000000003217 ∷ 0x800000000000321f ∷ []) mapStarted))
+    ∷ row (answer startedUser (syncAll (0x300b ∷ 0x3019 ∷ 0x3013 ∷ 0x301b ∷ [])))
+    (outcome (accepted 4 0)
+    (holding (User 1) (0x800000000000300b ∷ 0x8000000000002401 ∷ 0x8000000000003013 ∷ 0x800000000000301b ∷ []) mapStarted))
+    -- an alias has neither, in both modes: the page joins; nor has an approved page with a frame past F in its kernel entry
+    ∷ row (answer started (syncAll (0x200b ∷ 0x401b ∷ 0x2013 ∷ 0x201b ∷ [])))
+    (outcome (accepted 3 3) (holding (Kernel 1) (replicate 4 0x2401) (replicate 4 2)))
+    ∷ row (answer startedUser (syncAll (0x200f ∷ 0x401f ∷ 0x2017 ∷ 0x201f ∷ [])))
+    (outcome (accepted 4 3) (holding (User 1) (replicate 4 0x8000000000002401) (replicate 4 2)))
+    -- read-only; bits 5 to 11 beside them, and without them; a frame past F; a reserved bit; not present
+    ∷ row (answer (filled (Kernel 1)) (syncAll (0x4019 ∷ 0xf19 ∷ 0x801b ∷ 0x6fe7 ∷ 0x001000000000501b ∷ 0x7fff ∷ [])))
+    (outcome (accepted 4 0)
+    (with6 (Kernel 1) (0x8000000000004019 ∷ 0x5401 ∷ 0x3401 ∷ 0x8000000000006007 ∷ 0 ∷ 0x800000000000701f ∷ [])))
+    ∷ row (answer (filled (User 1)) (syncAll (0x901b ∷ 0x3018 ∷ 0x5ff8 ∷ 0x001000000000701b ∷ 0x701b ∷ 0x6018 ∷ [])))
+    (outcome (accepted 6 0) (with6 (User 1) (0 ∷ 0 ∷ 0 ∷ 0 ∷ 0x8000000000005401 ∷ 0 ∷ [])))
+    -- one page, whose entry changes with either bit: write-through comes, gives way to cache disable, and both go; the same again is no change
+    ∷ row (answer (at0 (User 1) 0x4007) (syncPage (replicate 6 0x400f) 0)) (outcome (accepted 1 0) (at0 (User 1) 0x400f))
+    ∷ row (answer (at0 (User 1) 0x400f) (syncPage (replicate 6 0x4017) 0)) (outcome (accepted 1 0) (at0 (User 1) 0x4017))
+    ∷ row (answer (at0 (User 1) 0x401f) (syncPage (replicate 6 0x4007) 0)) (outcome (accepted 1 0) (at0 (User 1) 0x4007))
+    ∷ stays (at0 (User 1) 0x401f) (syncPage (replicate 6 0x4fff) 0) (accepted 0 0)
     -- 7 of the kernel table's length, and of each part of the state; 9 of the page
     ∷ stays started6 (syncAll (replicate 5 0)) (refused 7)
     ∷ stays started6 (syncPage (replicate 7 0) 0) (refused 7)
@@ -256,6 +282,9 @@ accessCases =
     -- K1 asks kernel entries alone: a shadow entry with all of bits 52 to 62 is fetched and written as one without
     ∷ row (answer (at0 (Kernel 1) 0x7ff0000000004001) (fetch 0)) (outcome (accepted 4 4) (at0 (Kernel 0) 0x7ff0000000004001))
     ∷ stays (at0 (User 1) 0x7ff0000000006007) (write 0 1) (accepted 6 6)
+    -- K3: no access asks for the cache bits
+    ∷ row (answer (at0 (User 1) 0x401d) (fetch 0)) (outcome (accepted 4 4) (at0 (User 0) 0x401d))
+    ∷ stays (at01 (User 1) 0x600f 0x7017) (write 4095 2) (accepted 6 7)
     ∷ stays started6 (fetch 6) (refused 9)
     ∷ stays started6 (fetch 0) (refused 11)
     ∷ stays (at0 (User 1) 0x4001) (fetch 0) (refused 12)
@@ -337,6 +366,23 @@ switchCases =
     (outcome (accepted 5 0)
     (with6 (Kernel 2)
     (0x8010000000004007 ∷ 0x0010000000005401 ∷ 0x4000000000003401 ∷ 0xc000000000007003 ∷ 0x7ff0000000005401 ∷ 0xfff0000000006007 ∷ [])))
+    -- K3: a switch keeps write-through, cache disable and both, on ordinary entries, the page's that is run too, and on entries with the mark
+    ∷ row
+    (answer
+    (with6 (Kernel 1)
+    (0x800000000000400f ∷ 0x5409 ∷ 0x3411 ∷ 0x8000000000007013 ∷ 0x5419 ∷ 0x800000000000601f ∷ []))
+    (leave 5))
+    (outcome (accepted 5 0)
+    (with6 (User 5)
+    (0x400f ∷ 0x8000000000005409 ∷ 0x8000000000003411 ∷ 0x8000000000007013 ∷ 0x8000000000005419 ∷ 0x601f ∷ [])))
+    ∷ row
+    (answer
+    (with6 (User 5)
+    (0x400f ∷ 0x8000000000005409 ∷ 0x8000000000003411 ∷ 0x8000000000007013 ∷ 0x8000000000005419 ∷ 0x601f ∷ []))
+    (enter 1))
+    (outcome (accepted 5 0)
+    (with6 (Kernel 2)
+    (0x800000000000400f ∷ 0x5409 ∷ 0x3411 ∷ 0x8000000000007013 ∷ 0x5419 ∷ 0x800000000000601f ∷ [])))
     ∷ []
 
 -- What an answer gives, with the tables that a call left.

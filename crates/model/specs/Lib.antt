@@ -10,6 +10,7 @@ pub mod Switch
 pub mod Calls
 pub mod Questions
 pub mod Record
+pub mod Cache
 pub mod OnePage
 pub mod Claim
 pub mod Drill

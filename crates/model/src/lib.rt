@@ -3,6 +3,7 @@
 
 ghost use mathlib.Core.Path.{_≡_};
 ghost use mathlib.Core.List.{_++_};
+ghost use Rattle.model.specs.Cache.{OrdinaryCarries, ApprovedHasNone, SwitchKeeps};
 ghost use Rattle.model.specs.Cases.{cases, Hold};
 ghost use Rattle.model.specs.Claim.{Claim};
 ghost use Rattle.model.specs.Drill.{drillOutput};
@@ -56,6 +57,9 @@ pub struct State {
 pub struct Fields {
     pub writable: bool,
     pub user: bool,
+    // K3: how the processor's caches treat the page, bits 3 and 4.
+    pub write_through: bool,
+    pub cache_disable: bool,
     // The kernel entry's own no-execute, bit 63.
     pub no_execute: bool,
     pub frame: u64,
@@ -107,6 +111,11 @@ pub fn written_starts()
 // Document 02, K2: "an accepted record read and written again is the same bytes".
 pub fn written_again()
     ensures { λ _. ⌜ WrittenAgain ⌝ }
+{}
+
+// Document 02, K3: "an ordinary shadow entry carries them"; an approved entry does not, and a mode switch keeps them.
+pub fn cache_bits()
+    ensures { λ _. ⌜ OrdinaryCarries × ApprovedHasNone × SwitchKeeps ⌝ }
 {}
 
 // Document 01, the worked example: every byte of its output follows from the drill's definitions.

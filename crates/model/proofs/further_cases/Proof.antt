@@ -1,7 +1,7 @@
 -- The cases beside the twelve: each row's outcome computes to the one that is fixed.
 use mathlib.Core.List.{_++_}
 use mathlib.Core.Path.{refl}
-use Rattle.model.specs.Cases.{row}
+use Rattle.model.specs.Cases.{policyBytes, theStart, started, startedUser, fourPages, holding, mapStarted, row}
 use Rattle.model.specs.Further.{twoEntries, everyPage, startOn, zeros, startRefused, sixPages, with6, shadow6, started6, at0, at01, stays, inState, manyPages, ofLengths, filled, leaving, left6, startCases, syncCases, orderCases, accessCases, switchCases, answerCases, vectorCases}
 use Rattle.model.proofs.Computed.{computed}
 use Rattle.model.proofs.CaseLaws.{hold}
@@ -9,7 +9,7 @@ use Rattle.model.proofs.further_cases.Statement.{statement}
 use Rattle.model.proofs.further_cases.Tie as tie
 
 returns : tie.Need-returns
-unfolding computed row twoEntries everyPage startOn zeros startRefused sixPages with6 shadow6 started6 at0 at01 stays inState manyPages ofLengths filled leaving left6 startCases syncCases orderCases accessCases switchCases answerCases vectorCases
+unfolding computed policyBytes theStart started startedUser fourPages holding mapStarted row twoEntries everyPage startOn zeros startRefused sixPages with6 shadow6 started6 at0 at01 stays inState manyPages ofLengths filled leaving left6 startCases syncCases orderCases accessCases switchCases answerCases vectorCases
 returns c = (hold (startCases ++ syncCases ++ orderCases ++ accessCases ++ switchCases ++ answerCases) refl, hold vectorCases refl)
 
 pub further-cases-spec : {M : Type 1} → statement M
