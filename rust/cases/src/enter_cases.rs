@@ -88,6 +88,38 @@ fn switches(t: Tally) -> Tally {
     )
 }
 
+// K3: "other bits kept" holds of write-through and cache disable, bits 3 and 4, too.
+fn cache_bits(t: Tally) -> Tally {
+    let t = entered(
+        t,
+        "bits 3 and 4 of ordinary entries are kept",
+        [0x301f, 0x8000000000002401, 0x500d, 0x6017],
+        4,
+        [0x800000000000301f, 0x2401, 0x800000000000500d, 0x8000000000006017],
+    );
+    let t = entered(
+        t,
+        "bits 3 and 4 of ordinary entries that stay are kept",
+        [0x800000000000301b, 0x8000000000002401, 0x8000000000005209, 0x8000000000006213],
+        1,
+        [0x800000000000301b, 0x2401, 0x8000000000005209, 0x8000000000006213],
+    );
+    let t = entered(
+        t,
+        "bits 3 and 4 of damaged approved entries are kept",
+        [0x8000000000003409, 0x8000000000002419, 0x8000000000005411, 0x8419],
+        3,
+        [0x3409, 0x2419, 0x5411, 0x8419],
+    );
+    entered(
+        t,
+        "damaged entries with bits 3 and 4 and bit 0 clear stay",
+        [0x301e, 0x8000000000002401, 0x800000000000541a, 0x18],
+        1,
+        [0x301e, 0x2401, 0x800000000000541a, 0x18],
+    )
+}
+
 // "9. [..] entry index below e with its page below V", before 10.
 fn question_9(t: Tally) -> Tally {
     let user = [0x3007, 0x8000000000002401, 0, 0x8000000000008401];
@@ -176,6 +208,7 @@ fn largest(t: Tally) -> Tally {
 
 pub fn all(t: Tally) -> Tally {
     let t = switches(t);
+    let t = cache_bits(t);
     let t = question_9(t);
     let t = sixteen(t);
     let t = questions_10_to_12(t);

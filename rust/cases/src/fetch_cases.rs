@@ -75,6 +75,8 @@ fn in_kernel_mode(t: Tally) -> Tally {
 
 fn in_user_mode(t: Tally) -> Tally {
     let t = fetch(t, "a user page in user mode", User(1), 0x3005, 0, Done(3, 3), User(0));
+    // Bits 3 and 4 are not asked.
+    let t = fetch(t, "a user page with bits 3 and 4", User(1), 0x301d, 0, Done(3, 3), User(0));
     let t =
         fetch(t, "a page of the kernel's in user mode", User(1), 0x3003, 0, Refused(12), User(1));
     let t = fetch(

@@ -85,6 +85,38 @@ fn switches(t: Tally) -> Tally {
     )
 }
 
+// K3: "other bits kept" holds of write-through and cache disable, bits 3 and 4, too. Page 0 has them, and may be left to.
+fn cache_bits(t: Tally) -> Tally {
+    let t = left(
+        t,
+        "bits 3 and 4 of user pages are kept",
+        [0x800000000000301f, 0x2401, 0x800000000000500d, 0x8000000000006017],
+        4,
+        [0x301f, 0x8000000000002401, 0x500d, 0x6017],
+    );
+    let t = left(
+        t,
+        "bits 3 and 4 of pages that do not run are kept",
+        [0x800000000000300d, 0x2401, 0x800000000000501b, 0x8000000000006217],
+        2,
+        [0x300d, 0x8000000000002401, 0x800000000000501b, 0x8000000000006217],
+    );
+    let t = left(
+        t,
+        "bits 3 and 4 of damaged approved entries are kept",
+        [0x8000000000003015, 0x2419, 0x5409, 0x8000000000008411],
+        3,
+        [0x3015, 0x8000000000002419, 0x8000000000005409, 0x8000000000008411],
+    );
+    left(
+        t,
+        "damaged entries with bits 3 and 4 and bit 0 clear stay",
+        [0x800000000000301f, 0x2418, 0x800000000000501e, 0x18],
+        1,
+        [0x301f, 0x2418, 0x800000000000501e, 0x18],
+    )
+}
+
 // "9. [..] page below V", before 10.
 fn question_9(t: Tally) -> Tally {
     let kernel = [0x8000000000003007, 0x2401, 0, 0x8000000000005007];
@@ -156,6 +188,7 @@ fn largest(t: Tally) -> Tally {
 
 pub fn all(t: Tally) -> Tally {
     let t = switches(t);
+    let t = cache_bits(t);
     let t = question_9(t);
     let t = questions_10_to_12(t);
     largest(t)

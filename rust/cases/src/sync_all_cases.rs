@@ -212,6 +212,218 @@ fn extremes(t: Tally) -> Tally {
     )
 }
 
+// K3: "an ordinary shadow entry carries them". Pages 0 to 7: bit 3, approved for 2 with both bits, at F with both, an alias of 8 with
+// bit 4, bit 4, read-only user with both, approved for 8 with both and bit 52, no-execute user with bit 4.
+fn every_kind_of_device_page() -> [u64; 8] {
+    [0x300b, 0x301b, 0x901b, 0x8013, 0x4013, 0x501d, 0x001000000000801b, 0x8000000000006017]
+}
+
+fn device_pages_in_kernel_mode() -> Tables {
+    Tables {
+        shadow: [
+            0x800000000000300b,
+            0x2401,
+            0,
+            0x8401,
+            0x8000000000004013,
+            0x800000000000501d,
+            0,
+            0x8000000000006217,
+        ],
+        map: [65535, 2, 65535, 8, 65535, 65535, 8, 65535],
+    }
+}
+
+fn device_pages_in_user_mode() -> Tables {
+    Tables {
+        shadow: [
+            0x800000000000300b,
+            0x8000000000002401,
+            0,
+            0x8000000000008401,
+            0x8000000000004013,
+            0x501d,
+            0,
+            0x8000000000006217,
+        ],
+        map: [65535, 2, 65535, 8, 65535, 65535, 8, 65535],
+    }
+}
+
+fn device_pages(t: Tally) -> Tally {
+    let t = eight(
+        t,
+        "every kind of device page in kernel mode",
+        Kernel(1),
+        every_kind_of_device_page(),
+        before(),
+        Done(7, 1),
+        device_pages_in_kernel_mode(),
+    );
+    let t = eight(
+        t,
+        "every kind of device page in user mode",
+        User(1),
+        every_kind_of_device_page(),
+        before(),
+        Done(8, 1),
+        device_pages_in_user_mode(),
+    );
+    let t = eight(
+        t,
+        "device pages a second time change nothing",
+        Kernel(1),
+        every_kind_of_device_page(),
+        device_pages_in_kernel_mode(),
+        Done(0, 0),
+        device_pages_in_kernel_mode(),
+    );
+    // Pages 0, 4, 5 and 7 are ordinary.
+    eight(
+        t,
+        "bits 3 and 4 cleared on every page",
+        Kernel(1),
+        [0x3003, 0x3003, 0x9003, 0x8003, 0x4003, 0x5005, 0x8002, 0x8000000000006007],
+        device_pages_in_kernel_mode(),
+        Done(4, 0),
+        Tables {
+            shadow: [
+                0x8000000000003003,
+                0x2401,
+                0,
+                0x8401,
+                0x8000000000004003,
+                0x8000000000005005,
+                0,
+                0x8000000000006207,
+            ],
+            map: [65535, 2, 65535, 8, 65535, 65535, 8, 65535],
+        },
+    )
+}
+
+// Neither bit, bit 3, bit 4 and both, over an empty shadow table: of user pages and no-execute user pages, of pages of the kernel's and
+// read-only ones, of aliases of 2 and pages approved for 8.
+fn every_combination(t: Tally) -> Tally {
+    let user_pages = [
+        0x3007,
+        0x300f,
+        0x3017,
+        0x301f,
+        0x8000000000003007,
+        0x800000000000300f,
+        0x8000000000003017,
+        0x800000000000301f,
+    ];
+    let kernel_pages = [0x3003, 0x300b, 0x3013, 0x301b, 0x3001, 0x3009, 0x3011, 0x3019];
+    let approved_pages = [0x2003, 0x200b, 0x2013, 0x201b, 0x3003, 0x300b, 0x3013, 0x301b];
+    let kernel_pages_left = [
+        0x8000000000003003,
+        0x800000000000300b,
+        0x8000000000003013,
+        0x800000000000301b,
+        0x8000000000003001,
+        0x8000000000003009,
+        0x8000000000003011,
+        0x8000000000003019,
+    ];
+    let empty = Tables { shadow: [0; 8], map: [65535; 8] };
+    let t = eight(
+        t,
+        "user pages with every combination of bits 3 and 4 in kernel mode",
+        Kernel(1),
+        user_pages,
+        empty,
+        Done(8, 0),
+        Tables {
+            shadow: [
+                0x8000000000003007,
+                0x800000000000300f,
+                0x8000000000003017,
+                0x800000000000301f,
+                0x8000000000003207,
+                0x800000000000320f,
+                0x8000000000003217,
+                0x800000000000321f,
+            ],
+            map: [65535; 8],
+        },
+    );
+    let t = eight(
+        t,
+        "user pages with every combination of bits 3 and 4 in user mode",
+        User(1),
+        user_pages,
+        empty,
+        Done(8, 0),
+        Tables {
+            shadow: [
+                0x3007,
+                0x300f,
+                0x3017,
+                0x301f,
+                0x8000000000003207,
+                0x800000000000320f,
+                0x8000000000003217,
+                0x800000000000321f,
+            ],
+            map: [65535; 8],
+        },
+    );
+    let t = eight(
+        t,
+        "pages of the kernel's with every combination of bits 3 and 4 in kernel mode",
+        Kernel(1),
+        kernel_pages,
+        empty,
+        Done(8, 0),
+        Tables { shadow: kernel_pages_left, map: [65535; 8] },
+    );
+    let t = eight(
+        t,
+        "pages of the kernel's with every combination of bits 3 and 4 in user mode",
+        User(1),
+        kernel_pages,
+        empty,
+        Done(8, 0),
+        Tables { shadow: kernel_pages_left, map: [65535; 8] },
+    );
+    let half_approved = Tables { shadow: [0; 8], map: [65535, 65535, 65535, 65535, 8, 8, 8, 8] };
+    let t = eight(
+        t,
+        "approved pages and aliases with every combination of bits 3 and 4 in kernel mode",
+        Kernel(1),
+        approved_pages,
+        half_approved,
+        Done(8, 4),
+        Tables {
+            shadow: [0x2401, 0x2401, 0x2401, 0x2401, 0x8401, 0x8401, 0x8401, 0x8401],
+            map: [2, 2, 2, 2, 8, 8, 8, 8],
+        },
+    );
+    eight(
+        t,
+        "approved pages and aliases with every combination of bits 3 and 4 in user mode",
+        User(1),
+        approved_pages,
+        half_approved,
+        Done(8, 4),
+        Tables {
+            shadow: [
+                0x8000000000002401,
+                0x8000000000002401,
+                0x8000000000002401,
+                0x8000000000002401,
+                0x8000000000008401,
+                0x8000000000008401,
+                0x8000000000008401,
+                0x8000000000008401,
+            ],
+            map: [2, 2, 2, 2, 8, 8, 8, 8],
+        },
+    )
+}
+
 // The largest tables: V 2,048, F 4,096, frame 4095 excluded.
 fn largest(t: Tally) -> Tally {
     let mut shadow = [0u64; 2048];
@@ -241,6 +453,8 @@ fn smallest(t: Tally) -> Tally {
 pub fn all(t: Tally) -> Tally {
     let t = kinds(t);
     let t = extremes(t);
+    let t = device_pages(t);
+    let t = every_combination(t);
     let t = largest(t);
     smallest(t)
 }

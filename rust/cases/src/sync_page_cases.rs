@@ -359,13 +359,20 @@ fn step_5_kernel(t: Tally) -> Tally {
         [0x7003, 0x8000000000007003, 65535],
         [0, 0, 0x8000000000007003, 65535],
     );
-    // "Other bits are ignored": bits 3 to 11 are set.
-    page_0(
+    // "Other bits are ignored": bits 5 to 11 are set, then bits 3 to 11, of which K3 has 3 and 4 carried.
+    let t = page_0(
         t,
         "other bits of a kernel entry are ignored",
         Kernel(1),
-        [0x3ffb, 0, 65535],
+        [0x3fe3, 0, 65535],
         [1, 0, 0x8000000000003003, 65535],
+    );
+    page_0(
+        t,
+        "other bits of a kernel entry are ignored beside bits 3 and 4",
+        Kernel(1),
+        [0x3ffb, 0, 65535],
+        [1, 0, 0x800000000000301b, 65535],
     )
 }
 
@@ -399,12 +406,208 @@ fn step_5_user(t: Tally) -> Tally {
         [0x8000000000003005, 0, 65535],
         [1, 0, 0x8000000000003205, 65535],
     );
-    page_0(
+    let t = page_0(
         t,
         "other bits of a kernel entry are ignored in user mode",
         User(1),
-        [0x3fff, 0, 65535],
+        [0x3fe7, 0, 65535],
         [1, 0, 0x3007, 65535],
+    );
+    page_0(
+        t,
+        "other bits of a kernel entry are ignored beside bits 3 and 4 in user mode",
+        User(1),
+        [0x3fff, 0, 65535],
+        [1, 0, 0x301f, 65535],
+    )
+}
+
+// K3: "Taking a kernel entry apart now yields both bits, and an ordinary shadow entry carries them." Bit 3 is write-through, bit 4 cache
+// disable. Given: the mode, the kernel entry and, over an entry of 0, the shadow entry that is left.
+fn carried(t: Tally, name: &str, mode: Mode, kernel: u64, shadow: u64) -> Tally {
+    page_0(t, name, mode, [kernel, 0, 65535], [1, 0, shadow, 65535])
+}
+
+// C5 to C8 of document 01 with bit 3, with bit 4 and with both.
+fn cache_bits_of_c5_to_c8(t: Tally) -> Tally {
+    let t = carried(t, "C5 with bit 3", Kernel(1), 0x300b, 0x800000000000300b);
+    let t = carried(t, "C5 with bit 4", Kernel(1), 0x3013, 0x8000000000003013);
+    let t = carried(t, "C5 with bits 3 and 4", Kernel(1), 0x301b, 0x800000000000301b);
+    let t = carried(t, "C6 with bit 3", User(1), 0x300f, 0x300f);
+    let t = carried(t, "C6 with bit 4", User(1), 0x3017, 0x3017);
+    let t = carried(t, "C6 with bits 3 and 4", User(1), 0x301f, 0x301f);
+    let t = carried(t, "C7 with bit 3", User(1), 0x800000000000300f, 0x800000000000320f);
+    let t = carried(t, "C7 with bit 4", User(1), 0x8000000000003017, 0x8000000000003217);
+    let t = carried(t, "C7 with bits 3 and 4", User(1), 0x800000000000301f, 0x800000000000321f);
+    let t = carried(t, "C8 with bit 3", User(1), 0x300b, 0x800000000000300b);
+    let t = carried(t, "C8 with bit 4", User(1), 0x3013, 0x8000000000003013);
+    carried(t, "C8 with bits 3 and 4", User(1), 0x301b, 0x800000000000301b)
+}
+
+// The other fields beside them.
+fn cache_bits_beside_others(t: Tally) -> Tally {
+    let t = carried(t, "bits 3 and 4 of a read-only page", Kernel(1), 0x3019, 0x8000000000003019);
+    let t = carried(
+        t,
+        "bits 3 and 4 of a read-only page in user mode",
+        User(1),
+        0x3019,
+        0x8000000000003019,
+    );
+    let t =
+        carried(t, "bit 3 of a user page in kernel mode", Kernel(1), 0x300f, 0x800000000000300f);
+    let t =
+        carried(t, "bit 4 of a user page in kernel mode", Kernel(1), 0x3017, 0x8000000000003017);
+    let t = carried(
+        t,
+        "bit 3 of a read-only no-execute page",
+        Kernel(1),
+        0x8000000000003009,
+        0x8000000000003209,
+    );
+    let t = carried(
+        t,
+        "bit 4 of a no-execute page of the kernel's in user mode",
+        User(1),
+        0x8000000000003013,
+        0x8000000000003213,
+    );
+    let t = carried(t, "bit 4 of a read-only user page in user mode", User(1), 0x3015, 0x3015);
+    let t = carried(t, "bits 3 and 4 with frame 0", Kernel(1), 0x1b, 0x800000000000001b);
+    let t = carried(t, "bits 3 and 4 with frame 1", User(1), 0x101f, 0x101f);
+    carried(t, "bits 3 and 4 with frame 7", Kernel(1), 0x701b, 0x800000000000701b)
+}
+
+// They go as they come: "shadow entries whose value changed".
+fn cache_bits_changed(t: Tally) -> Tally {
+    let t = page_0(
+        t,
+        "a page synchronised again with bits 3 and 4 cleared is a change",
+        Kernel(1),
+        [0x3003, 0x800000000000301b, 65535],
+        [1, 0, 0x8000000000003003, 65535],
+    );
+    let t = page_0(
+        t,
+        "a page synchronised again with bits 3 and 4 set is a change",
+        User(1),
+        [0x301f, 0x3007, 65535],
+        [1, 0, 0x301f, 65535],
+    );
+    let t = page_0(
+        t,
+        "bit 4 in place of bit 3 is a change",
+        Kernel(1),
+        [0x3013, 0x800000000000300b, 65535],
+        [1, 0, 0x8000000000003013, 65535],
+    );
+    page_0(
+        t,
+        "bits 3 and 4 as before are no change",
+        Kernel(1),
+        [0x301b, 0x800000000000301b, 65535],
+        [0, 0, 0x800000000000301b, 65535],
+    )
+}
+
+// "Approved entry: bits 0 and 10, the frame; bit 63 set in user mode only": neither bit, of an approved page or of an alias.
+fn cache_bits_lost(t: Tally) -> Tally {
+    let mut t = t;
+    for (bits, approved, alias) in
+        [("bit 3", 0x300b, 0x200b), ("bit 4", 0x3013, 0x2013), ("bits 3 and 4", 0x301b, 0x201b)]
+    {
+        for (words, mode, entry) in
+            [("kernel", Kernel(1), 0x2401), ("user", User(1), 0x8000000000002401)]
+        {
+            t = page_0(
+                t,
+                &format!("an approved page loses {bits} in {words} mode"),
+                mode,
+                [approved, 0, 2],
+                [1, 0, entry, 2],
+            );
+            t = page_0(
+                t,
+                &format!("an alias loses {bits} in {words} mode"),
+                mode,
+                [alias, 0, 65535],
+                [1, 1, entry, 2],
+            );
+        }
+    }
+    let t = page_0(
+        t,
+        "an approved entry as before is no change where the kernel's has bits 3 and 4",
+        Kernel(1),
+        [0x201b, 0x2401, 2],
+        [0, 0, 0x2401, 2],
+    );
+    let t = page_0(
+        t,
+        "a damaged approved entry loses bits 3 and 4",
+        Kernel(1),
+        [0x201b, 0x2419, 2],
+        [1, 0, 0x2401, 2],
+    );
+    page_0(
+        t,
+        "a page with bits 3 and 4 that turns into an alias loses them",
+        User(1),
+        [0x801f, 0x301f, 65535],
+        [1, 1, 0x8000000000008401, 8],
+    )
+}
+
+// They make no entry present: steps 1 and 3, and K1's reserved bits.
+fn cache_bits_absent(t: Tally) -> Tally {
+    let t = page_0(
+        t,
+        "an absent entry with bits 3 and 4 clears the shadow",
+        Kernel(1),
+        [0x301a, 0x800000000000301b, 65535],
+        [1, 0, 0, 65535],
+    );
+    let t = page_0(
+        t,
+        "frame F with bits 3 and 4 is not mapped",
+        Kernel(1),
+        [0x901b, 0x800000000000301b, 65535],
+        [1, 0, 0, 65535],
+    );
+    let t = page_0(
+        t,
+        "frame F with bits 3 and 4 is not mapped in user mode",
+        User(1),
+        [0x901f, 0x301f, 65535],
+        [1, 0, 0, 65535],
+    );
+    let t = page_0(
+        t,
+        "the highest frame with bits 3 and 4 is not mapped",
+        Kernel(1),
+        [0xffffffffff01b, 0, 65535],
+        [0, 0, 0, 65535],
+    );
+    let t = page_0(
+        t,
+        "bit 52 with bits 3 and 4 is absent",
+        Kernel(1),
+        [0x001000000000301b, 0x800000000000301b, 65535],
+        [1, 0, 0, 65535],
+    );
+    let t = page_0(
+        t,
+        "bit 62 with bits 3 and 4 is absent in user mode",
+        User(1),
+        [0x400000000000301f, 0x301f, 65535],
+        [1, 0, 0, 65535],
+    );
+    page_0(
+        t,
+        "an approved page with bits 3, 4 and 52 is absent and stays approved",
+        Kernel(1),
+        [0x001000000000201b, 0x2401, 2],
+        [1, 0, 0, 2],
     )
 }
 
@@ -482,5 +685,10 @@ pub fn all(t: Tally) -> Tally {
     let t = step_4(t);
     let t = step_5_kernel(t);
     let t = step_5_user(t);
+    let t = cache_bits_of_c5_to_c8(t);
+    let t = cache_bits_beside_others(t);
+    let t = cache_bits_changed(t);
+    let t = cache_bits_lost(t);
+    let t = cache_bits_absent(t);
     pages(t)
 }

@@ -81,6 +81,16 @@ fn allowed(t: Tally) -> Tally {
         16,
         Done(3, 7),
     );
+    // Nor are bits 3 and 4.
+    let t = write(
+        t,
+        "two pages with bits 3 and 4",
+        Kernel(1),
+        [0x800000000000300b, 0x8000000000005013],
+        4088,
+        16,
+        Done(3, 5),
+    );
     write(t, "the last byte of page 2", Kernel(1), [0, 0], 12287, 1, Done(6, 6))
 }
 

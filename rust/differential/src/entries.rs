@@ -1,5 +1,6 @@
-//! What accepted synchronisations made of kernel entries with bit 0 set and a frame below F, by what the page was before: mapped, or
-//! absent for a reserved bit, which is the only reason left (K1). Both outcomes must come often on each kind of page.
+//! The entries of accepted calls that K1 and K3 are about. A kernel entry with bit 0 set and a frame below F is mapped, or absent for a
+//! reserved bit, which is the only reason left (K1); its bits 3 and 4 are carried by an ordinary entry and lost by an approved one, and
+//! a mode switch keeps them (K3). Each must come often.
 
 use std::io::{self, Write};
 use std::ops::Range;
@@ -11,50 +12,80 @@ use crate::call::Lent;
 /// The least count of each.
 const MINIMUM: u64 = 1000;
 
-/// What a page was before: approved, or not and its kernel entry with a frame that is excluded, or that is not.
-const PAGES: [&str; 3] = ["approved page", "alias", "ordinary page"];
+/// The rows: the kernel entries of synchronised pages by what the page was before, which is approved, or not and with a frame that is
+/// excluded, or that is not; then the shadow entries without the approved mark that an enter and a leave found.
+const ROWS: [&str; 5] =
+    ["approved page", "alias", "ordinary page", "ordinary at enter", "ordinary at leave"];
+const APPROVED: usize = 0;
+const ALIAS: usize = 1;
+const ORDINARY: usize = 2;
+const AT_ENTER: usize = 3;
+const AT_LEAVE: usize = 4;
 
-/// What its shadow entry is after.
-const OUTCOMES: [&str; 2] = ["mapped", "absent"];
+/// What an entry is: absent, or present with these of bits 3 and 4.
+const COLUMNS: [&str; 5] = ["absent", "no cache bit", "write-through", "cache disable", "both"];
 
 /// The map's number of a page that is not approved.
 const NO_FRAME: u16 = 65535;
 
 #[derive(Clone, Debug, Default)]
-pub struct Entries([[u64; OUTCOMES.len()]; PAGES.len()]);
+pub struct Entries([[u64; COLUMNS.len()]; ROWS.len()]);
 
 impl Entries {
-    /// Counts the entries that an accepted call was brought, by the tables before and after it.
+    /// Counts the entries of an accepted call, by the tables before and after it.
     pub fn count(&mut self, call: &Call, frames: u64, before: &Lent, after: &Lent) {
-        let (kernel, pages): (&[u64], Range<usize>) = match *call {
-            Call::SynchroniseOne { kernel, page } => (kernel, page as usize..page as usize + 1),
-            Call::SynchroniseAll { kernel } => (kernel, 0..kernel.len()),
-            _ => return,
-        };
+        match *call {
+            Call::SynchroniseOne { kernel, page } => {
+                let page = page as usize;
+                self.count_synchronised(kernel, page..page + 1, frames, before, after);
+            }
+            Call::SynchroniseAll { kernel } => {
+                self.count_synchronised(kernel, 0..kernel.len(), frames, before, after);
+            }
+            Call::Enter { .. } => self.count_switched(AT_ENTER, &before.shadow),
+            Call::Leave { .. } => self.count_switched(AT_LEAVE, &before.shadow),
+            Call::Fetch { .. } | Call::Write { .. } | Call::DeviceWrite { .. } => {}
+        }
+    }
+
+    fn count_synchronised(
+        &mut self,
+        kernel: &[u64],
+        pages: Range<usize>,
+        frames: u64,
+        before: &Lent,
+        after: &Lent,
+    ) {
         for page in pages {
             let frame = kernel[page] >> 12 & ((1 << 40) - 1);
             if kernel[page] & 1 == 0 || frame >= frames {
                 continue;
             }
-            let kind = if before.map[page] != NO_FRAME {
-                0
+            let row = if before.map[page] != NO_FRAME {
+                APPROVED
             } else if is_excluded(&before.exclusion, frame) {
-                1
+                ALIAS
             } else {
-                2
+                ORDINARY
             };
-            self.0[kind][usize::from(after.shadow[page] == 0)] += 1;
+            self.0[row][column(after.shadow[page] != 0, kernel[page])] += 1;
+        }
+    }
+
+    fn count_switched(&mut self, row: usize, shadow: &[u64]) {
+        for &entry in shadow.iter().filter(|&entry| entry >> 10 & 1 == 0) {
+            self.0[row][column(entry & 1 == 1, entry)] += 1;
         }
     }
 
     /// What is wrong with the counts, one line each.
     pub fn complaints(&self) -> Vec<String> {
         let mut complaints = Vec::new();
-        for (page, counts) in PAGES.iter().zip(&self.0) {
-            for (outcome, &count) in OUTCOMES.iter().zip(counts) {
+        for (row, counts) in ROWS.iter().zip(&self.0) {
+            for (column, &count) in COLUMNS.iter().zip(counts) {
                 if count < MINIMUM {
                     complaints.push(format!(
-                        "{page}, {outcome}: {count} entries, at least {MINIMUM} are asked for"
+                        "{row}, {column}: {count} entries, at least {MINIMUM} are asked for"
                     ));
                 }
             }
@@ -63,15 +94,24 @@ impl Entries {
     }
 
     pub fn print(&self, out: &mut impl Write) -> io::Result<()> {
-        write!(out, "{:26}", "kernel entries below F")?;
-        OUTCOMES.iter().try_for_each(|outcome| write!(out, "{outcome:>16}"))?;
+        write!(out, "{:26}", "entries")?;
+        COLUMNS.iter().try_for_each(|column| write!(out, "{column:>16}"))?;
         writeln!(out)?;
-        for (page, counts) in PAGES.iter().zip(&self.0) {
-            write!(out, "{page:26}")?;
+        for (row, counts) in ROWS.iter().zip(&self.0) {
+            write!(out, "{row:26}")?;
             counts.iter().try_for_each(|count| write!(out, "{count:>16}"))?;
             writeln!(out)?;
         }
         Ok(())
+    }
+}
+
+/// The place in [`COLUMNS`] of an entry, by its bits 3 and 4 where it is present.
+fn column(is_present: bool, entry: u64) -> usize {
+    if is_present {
+        1 + (entry >> 3 & 3) as usize
+    } else {
+        0
     }
 }
 

@@ -66,10 +66,10 @@ pub fn by_reference(fault: Fault, lent: &mut Lent, call: &Call) -> u64 {
             fault::write(fault, state, shadow, exclusion, address, length)
         }),
         Listed::Enter { index } => {
-            boundary::go(run, numbers, |state| reference::enter(state, shadow, index))
+            boundary::go(run, numbers, |state| fault::enter(fault, state, shadow, index))
         }
         Listed::Leave { page } => {
-            boundary::go(run, numbers, |state| reference::leave(state, shadow, page))
+            boundary::go(run, numbers, |state| fault::leave(fault, state, shadow, page))
         }
         Listed::DeviceWrite { address, length } => boundary::ask(run, numbers, |state| {
             reference::device_write(state, exclusion, address, length)

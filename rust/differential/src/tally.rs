@@ -99,7 +99,7 @@ impl Tally {
         count(&mut self.started, kind, number)
     }
 
-    /// Counts what an accepted call of a list from a start made of its kernel entries.
+    /// Counts the entries of an accepted call of a list from a start.
     pub(crate) fn count_entries(&mut self, call: &claim::Call, before: &Lent, after: &Lent) {
         self.entries.count(call, after.state[STATE_FRAMES], before, after);
     }

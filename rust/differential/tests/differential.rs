@@ -47,13 +47,15 @@ fn too_few_calls_are_noticed() {
     assert!(!tally.complaints().is_empty());
 }
 
-/// Each outcome of a reserved bit that comes too seldom is named, on each kind of page.
+/// Absent entries and each combination of the cache bits that come too seldom are named, on each kind of page and at each switch.
 #[test]
-fn too_few_outcomes_of_reserved_bits_are_noticed() {
+fn too_few_entries_of_a_kind_are_noticed() {
     let complaints = Tally::default().complaints();
-    for page in ["approved page", "alias", "ordinary page"] {
-        for outcome in ["mapped", "absent"] {
-            let complaint = format!("{page}, {outcome}: 0 entries, at least 1000 are asked for");
+    let rows =
+        ["approved page", "alias", "ordinary page", "ordinary at enter", "ordinary at leave"];
+    for row in rows {
+        for column in ["absent", "no cache bit", "write-through", "cache disable", "both"] {
+            let complaint = format!("{row}, {column}: 0 entries, at least 1000 are asked for");
             assert!(complaints.contains(&complaint), "{complaint}");
         }
     }

@@ -6,7 +6,7 @@ use std::io::{self, BufWriter, ErrorKind, Read, Write};
 use crate::fault::{self, Fault};
 use crate::record::{record_len, SIZES_BYTES};
 use crate::state::{vector_len, Answer, Mode, Refusal, State, MAX_FRAMES, MAX_PAGES, MAX_VECTOR};
-use crate::{device_write, enter, fetch, leave, start};
+use crate::{device_write, fetch, start};
 
 const MAX_CALLS: usize = 1024;
 const CALL_BYTES: usize = 16;
@@ -170,8 +170,8 @@ impl Drill {
             2 => fault::synchronise_all(*fault, state, kernel, shadow, map, exclusion),
             3 => fetch(state, shadow, index),
             4 => fault::write(*fault, state, shadow, exclusion, call.value, length),
-            5 => enter(state, shadow, index),
-            6 => leave(state, shadow, index),
+            5 => fault::enter(*fault, state, shadow, index),
+            6 => fault::leave(*fault, state, shadow, index),
             7 => device_write(state, exclusion, call.value, length),
             _ => Err(Refusal::UnknownKind),
         }

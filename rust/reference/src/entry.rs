@@ -4,6 +4,10 @@
 pub const PRESENT: u64 = 1 << 0;
 pub const WRITABLE: u64 = 1 << 1;
 pub const USER: u64 = 1 << 2;
+pub const WRITE_THROUGH: u64 = 1 << 3;
+pub const CACHE_DISABLE: u64 = 1 << 4;
+/// Bits 3 and 4, with which device registers are mapped. An ordinary entry carries the kernel entry's, an approved one has none.
+pub const CACHE_BITS: u64 = WRITE_THROUGH | CACHE_DISABLE;
 /// In a shadow entry: the kernel entry's own no-execute.
 pub const KERNEL_NO_EXECUTE: u64 = 1 << 9;
 /// In a shadow entry: the approved mark.
@@ -41,8 +45,8 @@ pub fn approved<const IN_USER: bool>(frame: u64) -> u64 {
 /// The ordinary entry of a present kernel entry.
 #[inline(always)]
 pub fn ordinary<const IN_USER: bool>(kernel: u64) -> u64 {
-    let entry =
-        (kernel & (PRESENT | WRITABLE | USER | FRAME)) | ((kernel & NO_EXECUTE) >> (63 - 9));
+    let carried = PRESENT | WRITABLE | USER | CACHE_BITS | FRAME;
+    let entry = (kernel & carried) | ((kernel & NO_EXECUTE) >> (63 - 9));
     entry | no_execute::<IN_USER>(entry)
 }
 

@@ -135,6 +135,9 @@ impl PageGuard {
             (0, true),
             (1, kernel.bit(1)),
             (2, user_page),
+            // K3: write-through and cache disable.
+            (3, kernel.bit(3)),
+            (4, kernel.bit(4)),
             (9, kernel_no_execute),
             (63, no_execute),
         ];

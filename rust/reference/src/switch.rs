@@ -1,12 +1,22 @@
 //! Enter and leave: the mode switch over the whole shadow table.
 //! A switch reads no kernel table; it assigns bit 63 of each present shadow entry and keeps all other bits.
 
-use crate::entry::{no_execute, APPROVED, KERNEL_NO_EXECUTE, PRESENT, USER};
+use crate::entry::{no_execute, APPROVED, CACHE_BITS, KERNEL_NO_EXECUTE, PRESENT, USER};
+use crate::fault;
 use crate::state::{Answer, Mode, Refusal, State, ENTRY_PAGES};
 
 /// Enters the kernel by an entry index: how many shadow entries changed, and 0.
 #[inline(always)]
 pub fn enter(state: &mut State, shadow: &mut [u64], index: u64) -> Answer {
+    enter_variant::<{ fault::NONE }>(state, shadow, index)
+}
+
+#[inline(always)]
+pub(crate) fn enter_variant<const VARIANT: u8>(
+    state: &mut State,
+    shadow: &mut [u64],
+    index: u64,
+) -> Answer {
     if !state.fits_pages(shadow.len()) {
         return Err(Refusal::StateOrTable);
     }
@@ -28,12 +38,21 @@ pub fn enter(state: &mut State, shadow: &mut [u64], index: u64) -> Answer {
         return Err(Refusal::NotPermitted);
     }
     state.mode = Mode::Kernel(page);
-    Ok((switch::<false>(shadow), 0))
+    Ok((switch::<false, VARIANT>(shadow), 0))
 }
 
 /// Leaves the kernel to a page: how many shadow entries changed, and 0.
 #[inline(always)]
 pub fn leave(state: &mut State, shadow: &mut [u64], page: u64) -> Answer {
+    leave_variant::<{ fault::NONE }>(state, shadow, page)
+}
+
+#[inline(always)]
+pub(crate) fn leave_variant<const VARIANT: u8>(
+    state: &mut State,
+    shadow: &mut [u64],
+    page: u64,
+) -> Answer {
     if !state.fits_pages(shadow.len()) {
         return Err(Refusal::StateOrTable);
     }
@@ -51,18 +70,22 @@ pub fn leave(state: &mut State, shadow: &mut [u64], page: u64) -> Answer {
         return Err(Refusal::NotPermitted);
     }
     state.mode = Mode::User(page as u16);
-    Ok((switch::<true>(shadow), 0))
+    Ok((switch::<true, VARIANT>(shadow), 0))
 }
 
 /// Assigns bit 63 of each present entry for the new mode, and counts the entries that change.
 #[inline(always)]
-fn switch<const IN_USER: bool>(shadow: &mut [u64]) -> u64 {
+fn switch<const IN_USER: bool, const VARIANT: u8>(shadow: &mut [u64]) -> u64 {
     let mut changed = 0;
     for entry in shadow {
         // The present bit, brought to bit 63, lets the difference through.
         let difference = (*entry ^ no_execute::<IN_USER>(*entry)) & (*entry << 63);
-        *entry ^= difference;
-        changed += difference >> 63;
+        let cleared = match VARIANT {
+            fault::SWITCH_CLEARS_CACHE_BITS if *entry & PRESENT != 0 => *entry & CACHE_BITS,
+            _ => 0,
+        };
+        *entry ^= difference | cleared;
+        changed += difference >> 63 | u64::from(cleared != 0);
     }
     changed
 }

@@ -2,7 +2,8 @@
 //! One step serves the exact guard, the planted mistakes and the variant without approval; each is compiled apart.
 
 use crate::entry::{
-    approved, framed, is_excluded, ordinary, FRAME, FRAME_SHIFT, NO_FRAME, PRESENT, RESERVED,
+    approved, framed, is_excluded, ordinary, CACHE_BITS, CACHE_DISABLE, FRAME, FRAME_SHIFT,
+    NO_FRAME, PRESENT, RESERVED, WRITE_THROUGH,
 };
 use crate::fault;
 use crate::state::{Answer, Refusal, State, MAX_FRAMES, MAX_VECTOR};
@@ -36,9 +37,13 @@ fn step<const IN_USER: bool, const VARIANT: u8>(
         return 0;
     }
     let frame = kernel & FRAME;
+    let carried = match VARIANT {
+        fault::APPROVED_CARRIES_CACHE_BITS => kernel & CACHE_BITS,
+        _ => 0,
+    };
     if VARIANT != fault::NO_APPROVAL && *place != NO_FRAME {
         let kept = if VARIANT == fault::TRUST_KERNEL_FRAME { frame } else { framed(*place) };
-        return approved::<IN_USER>(kept);
+        return approved::<IN_USER>(kept) | carried;
     }
     if frame >= frames_end {
         return 0;
@@ -47,9 +52,17 @@ fn step<const IN_USER: bool, const VARIANT: u8>(
     if joins && is_excluded(frame >> FRAME_SHIFT) {
         *place = (frame >> FRAME_SHIFT) as u16;
         *joined += 1;
-        return approved::<IN_USER>(frame);
+        return approved::<IN_USER>(frame) | carried;
     }
-    ordinary::<IN_USER>(kernel)
+    ordinary::<IN_USER>(match VARIANT {
+        fault::EXCHANGE_CACHE_BITS => with_cache_bits_exchanged(kernel),
+        fault::ONE_CACHE_BIT => kernel & !CACHE_DISABLE,
+        _ => kernel,
+    })
+}
+
+fn with_cache_bits_exchanged(entry: u64) -> u64 {
+    entry & !CACHE_BITS | (entry & WRITE_THROUGH) << 1 | (entry & CACHE_DISABLE) >> 1
 }
 
 #[inline(always)]

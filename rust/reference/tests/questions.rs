@@ -348,8 +348,8 @@ fn a_kernel_frame_has_forty_bits() {
         assert_eq!(guard.synchronise(0, frame << 12 | 3), Ok((0, 0)), "frame {frame}");
         assert_eq!(guard.map[0], NO_FRAME);
     }
-    // Bits 3 to 11 are ignored.
-    assert_eq!(guard.synchronise(0, 0x3ffb), Ok((1, 0)));
+    // Bits 5 to 11 are ignored.
+    assert_eq!(guard.synchronise(0, 0x3fe3), Ok((1, 0)));
     assert_eq!(guard.shadow[0], NO_EXECUTE | 0x3003);
 }
 
@@ -377,6 +377,99 @@ fn bits_51_and_63_are_not_reserved() {
     assert_eq!(guard.shadow[1], 0x2401);
     assert_eq!(guard.synchronise(0, NO_EXECUTE | 0x3003), Ok((1, 0)));
     assert_eq!(guard.shadow[0], NO_EXECUTE | 0x3203);
+}
+
+/// K3: an ordinary entry carries write-through (bit 3) and cache disable (bit 4), each for itself: C5 to C8 with these bits.
+#[test]
+fn an_ordinary_entry_carries_the_cache_bits() {
+    let kernel_mode = [
+        (0x300b, 0x8000_0000_0000_300b),
+        (0x3013, 0x8000_0000_0000_3013),
+        (0x301b, 0x8000_0000_0000_301b),
+    ];
+    let user_mode = [
+        (0x300f, 0x300f),
+        (0x3017, 0x3017),
+        (0x301f, 0x301f),
+        (0x8000_0000_0000_300f, 0x8000_0000_0000_320f),
+        (0x8000_0000_0000_3017, 0x8000_0000_0000_3217),
+        (0x8000_0000_0000_301f, 0x8000_0000_0000_321f),
+        (0x300b, 0x8000_0000_0000_300b),
+        (0x3013, 0x8000_0000_0000_3013),
+        (0x301b, 0x8000_0000_0000_301b),
+    ];
+    for (entry, shadow) in kernel_mode {
+        assert_carried(Guard::cases(), entry, shadow);
+    }
+    for (entry, shadow) in user_mode {
+        assert_carried(Guard::cases_in_user_mode(), entry, shadow);
+    }
+}
+
+/// The entry is carried, by a call for one page and by one for all, and is no change the second time.
+fn assert_carried(mut guard: Guard, entry: u64, shadow: u64) {
+    assert_eq!(guard.synchronise(0, entry), Ok((1, 0)), "{entry:x}");
+    assert_eq!(guard.shadow[0], shadow, "{entry:x}");
+    guard.shadow = vec![0; 4];
+    assert_eq!(guard.synchronise_all(), Ok((1, 0)), "{entry:x}");
+    assert_eq!(guard.shadow, [shadow, 0, 0, 0], "{entry:x}");
+    assert_eq!(guard.synchronise_one(0), Ok((0, 0)), "{entry:x}");
+}
+
+/// K3: bits 3 and 4 are carried whatever bits 5 to 11 are, and go with the kernel's.
+#[test]
+fn the_cache_bits_come_and_go() {
+    let mut guard = Guard::cases();
+    for (entry, changed, shadow) in [
+        (0x3003, 1, 0x3003),
+        (0x301b, 1, 0x301b),
+        (0x3ffb, 0, 0x301b),
+        (0x3feb, 1, 0x300b),
+        (0x3ff3, 1, 0x3013),
+        (0x3003, 1, 0x3003),
+    ] {
+        assert_eq!(guard.synchronise(0, entry), Ok((changed, 0)), "{entry:x}");
+        assert_eq!(guard.shadow[0], NO_EXECUTE | shadow, "{entry:x}");
+    }
+    // Absent: bit 0 clear, frame F, a reserved bit.
+    for entry in [0x301a, 0x401b, 1 << 52 | 0x301b, 1 << 62 | 0x301b] {
+        guard.shadow[0] = NO_EXECUTE | 0x301b;
+        assert_eq!(guard.synchronise(0, entry), Ok((1, 0)), "{entry:x}");
+        assert_eq!(guard.shadow[0], 0, "{entry:x}");
+    }
+}
+
+/// K3: an approved entry has neither, be the page approved before or an alias that joins.
+#[test]
+fn an_approved_entry_carries_no_cache_bit() {
+    for bits in [0x08, 0x10, 0x18] {
+        let mut guard = Guard::cases();
+        assert_eq!(guard.synchronise(1, 0x2003 | bits), Ok((0, 0)), "{bits:x}");
+        assert_eq!(guard.synchronise(1, 0x3003 | bits), Ok((0, 0)), "{bits:x}");
+        assert_eq!(guard.synchronise(0, 0x2003 | bits), Ok((1, 1)), "{bits:x}");
+        assert_eq!(guard.shadow, [0x2401, 0x2401, 0, 0], "{bits:x}");
+        guard.state.mode = Mode::User(1);
+        assert_eq!(guard.synchronise_all(), Ok((2, 0)), "{bits:x}");
+        assert_eq!(guard.shadow, [NO_EXECUTE | 0x2401, NO_EXECUTE | 0x2401, 0, 0], "{bits:x}");
+    }
+}
+
+/// K3: a switch keeps both bits, on a made-up approved entry too.
+#[test]
+fn a_switch_keeps_the_cache_bits() {
+    let mut guard = Guard::cases();
+    guard.kernel = vec![0x3013, 0x2003, 0x100b, 0x301f];
+    assert_eq!(guard.synchronise_all(), Ok((3, 0)));
+    guard.shadow[1] = 0x2419;
+    let in_kernel_mode =
+        [0x8000_0000_0000_3013, 0x2419, 0x8000_0000_0000_100b, 0x8000_0000_0000_301f];
+    let in_user_mode =
+        [0x8000_0000_0000_3013, 0x8000_0000_0000_2419, 0x8000_0000_0000_100b, 0x301f];
+    assert_eq!(guard.shadow, in_kernel_mode);
+    assert_eq!(guard.leave(3), Ok((2, 0)));
+    assert_eq!(guard.shadow, in_user_mode);
+    assert_eq!(guard.enter(0), Ok((2, 0)));
+    assert_eq!(guard.shadow, in_kernel_mode);
 }
 
 #[test]
