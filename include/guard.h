@@ -106,8 +106,8 @@ enum guard_refusal {
  *   0       present            read            1                      1
  *   1       writable           read            kernel bit 1           0
  *   2       user               read            kernel bit 2           0
- *   3       write-through      ignored         0                      0
- *   4       cache disable      ignored         0                      0
+ *   3       write-through      read            kernel bit 3           0
+ *   4       cache disable      read            kernel bit 4           0
  *   5       accessed           ignored         0                      0
  *   6       dirty              ignored         0                      0
  *   7       PAT                ignored         0                      0
@@ -124,6 +124,11 @@ enum guard_refusal {
  * mappings, gets shadow entry 0 for them. Only kernel entries are asked for these bits, never shadow entries: there guard_enter and
  * guard_leave keep them as found, and a start or a synchronisation makes the entry anew without them.
  *
+ * Bits 3 and 4 choose how the processor caches a page. An ordinary entry has both as the kernel set them, so that device registers that
+ * it maps uncached stay so; guard_enter and guard_leave keep them, and no call asks for them in a shadow entry. An approved entry has
+ * neither, since approved frames are code in ordinary memory: an alias loses them. Bit 7 is not carried: the memory type is that of PAT
+ * entry 2 * bit 4 + bit 3, one of 0 to 3, whatever the kernel's bit 7 is (docs/INTEGRATION.md, "Memory types").
+ *
  * An accepted guard_enter or guard_leave sets or clears bit 63 of every shadow entry whose bit 0 is set, by the last two rows
  * and the entry's own bits 2, 9 and 10. It keeps every other bit. A processor that walks the shadow table sets bits 5 and 6 in
  * it; no call asks for them.
@@ -138,6 +143,8 @@ enum guard_refusal {
 #define GUARD_ENTRY_PRESENT (UINT64_C(1) << 0)
 #define GUARD_ENTRY_WRITABLE (UINT64_C(1) << 1)
 #define GUARD_ENTRY_USER (UINT64_C(1) << 2)
+#define GUARD_ENTRY_WRITE_THROUGH (UINT64_C(1) << 3)     /* PWT in the manuals */
+#define GUARD_ENTRY_CACHE_DISABLE (UINT64_C(1) << 4)     /* PCD in the manuals */
 #define GUARD_ENTRY_KERNEL_NO_EXECUTE (UINT64_C(1) << 9) /* shadow entries only: the kernel entry's bit 63 */
 #define GUARD_ENTRY_APPROVED (UINT64_C(1) << 10)         /* shadow entries only */
 #define GUARD_ENTRY_RESERVED (UINT64_C(0x7ff) << 52)     /* kernel entries only: with any of them set the entry is absent */

@@ -9,8 +9,9 @@
 
 #include "guard.h"
 
-/* The named bits, as document 01 and request K1 have them. */
+/* The named bits, as document 01 and requests K1 and K3 have them. */
 _Static_assert(GUARD_ENTRY_PRESENT == 0x1 && GUARD_ENTRY_WRITABLE == 0x2 && GUARD_ENTRY_USER == 0x4, "bits 0, 1 and 2");
+_Static_assert(GUARD_ENTRY_WRITE_THROUGH == 0x8 && GUARD_ENTRY_CACHE_DISABLE == 0x10, "bits 3 and 4");
 _Static_assert(GUARD_ENTRY_KERNEL_NO_EXECUTE == 0x200 && GUARD_ENTRY_APPROVED == 0x400, "bits 9 and 10");
 _Static_assert(GUARD_ENTRY_RESERVED == 0x7ff0000000000000 && GUARD_ENTRY_NO_EXECUTE == 0x8000000000000000, "bits 52 to 63");
 _Static_assert(GUARD_ENTRY_FRAME(0xfff2345678901fff) == 0x2345678901 && GUARD_ENTRY_FRAME(0x000ffffffffff000) == 0xffffffffff,
@@ -189,6 +190,19 @@ static uint64_t sync_page(struct guard *g, uint64_t page)
                            page, g->numbers, GUARD_NUMBERS);
 }
 
+static uint64_t sync_all(struct guard *g)
+{
+    return guard_sync_all(g->state, GUARD_STATE_WORDS, g->kernel, PAGES, g->shadow, PAGES, g->map, PAGES, g->exclusion, VECTOR,
+                          g->numbers, GUARD_NUMBERS);
+}
+
+/* Leave to page 7, or enter by index 1, which is page 1. */
+static uint64_t switch_to(struct guard *g, int user)
+{
+    return user ? guard_leave(g->state, GUARD_STATE_WORDS, g->shadow, PAGES, 7, g->numbers, GUARD_NUMBERS)
+                : guard_enter(g->state, GUARD_STATE_WORDS, g->shadow, PAGES, 1, g->numbers, GUARD_NUMBERS);
+}
+
 /* Reserved bits of a kernel entry: mostly none, else one of them or any. */
 static uint64_t reserved_bits(void)
 {
@@ -293,6 +307,55 @@ static int reserved(int user)
     return 1;
 }
 
+/* Synchronises pages whose kernel entries have these of bits 3 and 4, and all of bits 5 to 11: two approved ones, an alias, one past
+ * the last frame, an ordinary one and an absent one; in one call, or a page at a time. How many entries changed. */
+static uint64_t cache(struct guard *g, int all, uint64_t bits)
+{
+    g->kernel[0] = 0x2fe3 | bits;
+    g->kernel[1] = 0x12bfe1 | bits;
+    g->kernel[5] = 0x2fe7 | bits;
+    g->kernel[6] = 0x12cfe7 | bits;
+    g->kernel[7] = 0x3fe7 | bits;
+    g->kernel[8] = 0x3fe6 | bits;
+    if (all)
+        return sync_all(g) == GUARD_ACCEPTED ? g->numbers[0] : UINT64_MAX;
+    uint64_t changed = 0;
+    for (uint64_t page = 0; page < 9; page++) {
+        if (sync_page(g, page) != GUARD_ACCEPTED)
+            return UINT64_MAX;
+        changed += g->numbers[0];
+    }
+    return changed;
+}
+
+/* The entries of these pages in a mode, by literals and by the table: the ordinary one alone has the bits, and none the others. */
+static int cached_as(const struct guard *g, int user, uint64_t bits)
+{
+    uint64_t in_user = user ? GUARD_ENTRY_NO_EXECUTE : 0;
+    uint64_t ordinary = (user ? 0x3007 : 0x8000000000003007) | bits;
+    return g->shadow[0] == (in_user | 0x2401) && g->shadow[1] == (in_user | 0x12b401) && g->shadow[5] == (in_user | 0x2401) &&
+           g->shadow[6] == 0 && g->shadow[7] == ordinary && g->shadow[8] == 0 &&
+           by_table(1, user, g->kernel[0], 2) == g->shadow[0] && by_table(0, user, g->kernel[7], 3) == ordinary;
+}
+
+/* Neither of bits 3 and 4, each alone and both, from each of these to each: an entry that gains or loses one is counted as changed. A
+ * switch to the other mode and back keeps them. */
+static int cached(int user, int all)
+{
+    for (uint64_t from = 0; from < 4; from++)
+        for (uint64_t to = 0; to < 4; to++) {
+            struct guard g = started(user);
+            cache(&g, all, from << 3);
+            if (!cached_as(&g, user, from << 3) || cache(&g, all, to << 3) != (from != to) || !cached_as(&g, user, to << 3))
+                return 0;
+            if (switch_to(&g, !user) != GUARD_ACCEPTED || !cached_as(&g, !user, to << 3))
+                return 0;
+            if (switch_to(&g, user) != GUARD_ACCEPTED || !cached_as(&g, user, to << 3))
+                return 0;
+        }
+    return 1;
+}
+
 /* A bit is read where some present entry's shadow entry depends on it, and ignored elsewhere. */
 static int read_or_ignored(const struct row *r)
 {
@@ -333,9 +396,8 @@ static int switched(int user)
             want[p] = entry & GUARD_ENTRY_PRESENT ? (entry & ~GUARD_ENTRY_NO_EXECUTE) | no_execute(user, entry) : entry;
             changed += want[p] != entry;
         }
-        uint64_t number = user ? guard_leave(g.state, GUARD_STATE_WORDS, g.shadow, PAGES, 7, g.numbers, GUARD_NUMBERS)
-                               : guard_enter(g.state, GUARD_STATE_WORDS, g.shadow, PAGES, 1, g.numbers, GUARD_NUMBERS);
-        if (number != GUARD_ACCEPTED || memcmp(g.shadow, want, sizeof want) != 0 || g.numbers[0] != changed || g.numbers[1] != 0)
+        if (switch_to(&g, user) != GUARD_ACCEPTED || memcmp(g.shadow, want, sizeof want) != 0 || g.numbers[0] != changed ||
+            g.numbers[1] != 0)
             return 0;
     }
     return 1;
@@ -404,6 +466,8 @@ int main(void)
     for (int user = 0; user < 2; user++) {
         check(synchronised(user), user ? "synchronised entries in user mode" : "synchronised entries in kernel mode");
         check(reserved(user), user ? "reserved bits in user mode" : "reserved bits in kernel mode");
+        check(cached(user, 0), user ? "cache bits in user mode" : "cache bits in kernel mode");
+        check(cached(user, 1), user ? "cache bits in user mode, all pages" : "cache bits in kernel mode, all pages");
         check(switched(user), user ? "entries after a leave" : "entries after an enter");
         check(asked(user), user ? "bits that the calls ask for in user mode" : "bits that the calls ask for in kernel mode");
         check(accessed_and_dirty(user), user ? "accessed and dirty bits in user mode" : "accessed and dirty bits in kernel mode");

@@ -275,6 +275,65 @@ static void other_calls(void)
     check("device write of the last byte", number, GUARD_ACCEPTED, &g, &want);
 }
 
+/* K3: page 3 has the registers of a line card. It carries bits 3 and 4, and approved pages and an alias have neither. */
+static void device_registers(void)
+{
+    struct guard g = ready(&finished);
+    struct guard want = finished;
+    const uint64_t kernel[PAGES] = {0x201b, 0x2019, 0x201f, 0x301f};
+    memcpy(g.kernel, kernel, sizeof kernel);
+    memcpy(want.kernel, kernel, sizeof kernel);
+    uint64_t number = sync_all(&g);
+    want.shadow[2] = 0x8000000000002401;
+    want.shadow[3] = 0x301f;
+    want.map[2] = 2;
+    want.numbers[0] = 2;
+    want.numbers[1] = 1;
+    check("synchronise all with both cache bits", number, GUARD_ACCEPTED, &g, &want);
+
+    forget(&g);
+    number = write_bytes(&g, 12288, 4);
+    want.numbers[0] = 3;
+    want.numbers[1] = 3;
+    check("write to a register in user mode", number, GUARD_ACCEPTED, &g, &want);
+
+    forget(&g);
+    number = enter(&g, 0);
+    want.state[GUARD_STATE_MODE] = GUARD_MODE_KERNEL;
+    want.state[GUARD_STATE_RUNNING] = 1;
+    want.shadow[0] = 0x2401;
+    want.shadow[1] = 0x2401;
+    want.shadow[2] = 0x2401;
+    want.shadow[3] = 0x800000000000301f;
+    want.numbers[0] = 4;
+    want.numbers[1] = 0;
+    check("enter keeps both cache bits", number, GUARD_ACCEPTED, &g, &want);
+
+    g.kernel[3] = want.kernel[3] = 0x300f;
+    forget(&g);
+    number = sync_page(&g, 3);
+    want.shadow[3] = 0x800000000000300f;
+    want.numbers[0] = 1;
+    check("synchronise with write-through alone", number, GUARD_ACCEPTED, &g, &want);
+
+    g.kernel[3] = want.kernel[3] = 0x3017;
+    forget(&g);
+    number = sync_page(&g, 3);
+    want.shadow[3] = 0x8000000000003017;
+    check("synchronise with cache disable alone", number, GUARD_ACCEPTED, &g, &want);
+
+    forget(&g);
+    number = leave(&g, 3);
+    want.state[GUARD_STATE_MODE] = GUARD_MODE_USER;
+    want.state[GUARD_STATE_RUNNING] = 3;
+    want.shadow[0] = 0x8000000000002401;
+    want.shadow[1] = 0x8000000000002401;
+    want.shadow[2] = 0x8000000000002401;
+    want.shadow[3] = 0x3017;
+    want.numbers[0] = 4;
+    check("leave keeps cache disable", number, GUARD_ACCEPTED, &g, &want);
+}
+
 /* Refusals by page, index, address and length: nothing is cut to fewer bits. */
 static void refused_arguments(void)
 {
@@ -538,6 +597,7 @@ int main(void)
 {
     worked_example();
     other_calls();
+    device_registers();
     refused_arguments();
     refused_tables();
     refused_states();

@@ -151,10 +151,12 @@ fn explain_edited(entry: u64) -> &'static str {
 /// A shadow entry by its bits; bits without a name are shown as a number.
 fn explain_entry(page: u64, entry: u64) -> String {
     const FRAME: u64 = ((1 << 40) - 1) << 12;
-    const NAMES: [(u32, &str); 6] = [
+    const NAMES: [(u32, &str); 8] = [
         (0, "present"),
         (1, "writable"),
         (2, "user"),
+        (3, "write-through"),
+        (4, "cache disable"),
         (10, "approved"),
         (9, "no-execute in the kernel entry"),
         (63, "no-execute"),

@@ -74,7 +74,9 @@ fn every_number_has_its_words() {
 #[test]
 fn shadow_entries_and_share() {
     let lines = "0000000000000000\n8000000000002401\n0000000000003007\n8000000000003207\n\
-                 8000000000003003\n000ffffffffff005\n0000000000001006\n4000000000001809\nshare 25\n";
+                 8000000000003003\n000ffffffffff005\n0000000000001006\n4000000000001801\n\
+                 800000000000320b\n0000000000003017\n000000000000301f\n000000000000108d\n\
+                 0000000000002411\n0000000000001018\nshare 25\n";
     let expected = "page 0: absent\n\
                     page 1: present, approved, no-execute, frame 2\n\
                     page 2: present, writable, user, frame 3\n\
@@ -82,7 +84,13 @@ fn shadow_entries_and_share() {
                     page 4: present, writable, no-execute, frame 3\n\
                     page 5: present, user, frame 1099511627775\n\
                     page 6: absent, writable, user, frame 1\n\
-                    page 7: present, frame 1, other bits 0x4000000000000808\n\
+                    page 7: present, frame 1, other bits 0x4000000000000800\n\
+                    page 8: present, writable, write-through, no-execute in the kernel entry, no-execute, frame 3\n\
+                    page 9: present, writable, user, cache disable, frame 3\n\
+                    page 10: present, writable, user, write-through, cache disable, frame 3\n\
+                    page 11: present, user, write-through, frame 1, other bits 0x80\n\
+                    page 12: present, cache disable, approved, frame 2\n\
+                    page 13: absent, write-through, cache disable, frame 1\n\
                     share: 25 percent of the frames are excluded\n";
     assert_eq!(explain(lines, None).unwrap(), expected);
 }

@@ -143,7 +143,7 @@ impl Guard {
         }
     }
 
-    /// The shadow table, which the processor walks.
+    /// The shadow table, which the processor walks; include/guard.h has every bit of its entries.
     pub fn shadow(&self) -> &[u64] {
         &self.shadow
     }

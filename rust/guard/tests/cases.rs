@@ -1,4 +1,4 @@
-//! The cases and the worked example of document 01 through the safe guard, and calls at the edges of their arguments.
+//! The cases and the worked example of document 01, K3's bits, and calls at the edges of their arguments through the safe guard.
 //! C6 to C8 stand on the started guard with the mode replaced by user, so they call the archive's functions.
 
 use guard::archive::{self, MODE_USER, NUMBERS, STATE_MODE};
@@ -102,6 +102,29 @@ fn worked_example() {
     assert_eq!(guard.mode(), Mode::Kernel(1));
     assert_eq!(guard.fetch(0), Ok(2));
     assert_eq!(guard.mode(), Mode::Kernel(0));
+}
+
+/// K3: an ordinary entry carries bits 3 and 4; an approved page and an alias have neither. Switches keep them.
+#[test]
+fn device_registers_stay_uncached() {
+    const NO_EXECUTE: u64 = 1 << 63;
+    for bits in [0, 0x08, 0x10, 0x18] {
+        let mut guard = started();
+        let kernel = [0x2003 | bits, 0x2001 | bits, 0x3006 | bits, 0x3007 | bits];
+        let in_kernel_mode = [0x2401, 0x2401, 0, NO_EXECUTE | 0x3007 | bits];
+        let in_user_mode = [NO_EXECUTE | 0x2401, NO_EXECUTE | 0x2401, 0, 0x3007 | bits];
+        assert_eq!(guard.synchronise_all(&kernel), Ok(Synchronised { changed: 2, joined: 1 }));
+        assert_eq!(guard.shadow(), in_kernel_mode);
+        assert_eq!((guard.leave(3), guard.shadow()), (Ok(3), &in_user_mode[..]));
+        assert_eq!(guard.write(3 * 4096, 4), Ok(Frames { first: 3, last: 3 }));
+        assert_eq!(guard.synchronise_all(&kernel), Ok(NONE_CHANGED));
+        assert_eq!((guard.enter(0), guard.shadow()), (Ok(3), &in_kernel_mode[..]));
+        let counts = Synchronised { changed: (bits != 0).into(), joined: 0 };
+        assert_eq!(guard.synchronise_page(&[0, 0, 0, 0x3007], 3), Ok(counts));
+        assert_eq!(guard.shadow()[3], NO_EXECUTE | 0x3007);
+        assert_eq!(guard.synchronise_page(&kernel, 3), Ok(counts));
+        assert_eq!(guard.shadow(), in_kernel_mode);
+    }
 }
 
 #[test]
