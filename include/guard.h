@@ -124,10 +124,9 @@ enum guard_refusal {
  * mappings, gets shadow entry 0 for them. Only kernel entries are asked for these bits, never shadow entries: there guard_enter and
  * guard_leave keep them as found, and a start or a synchronisation makes the entry anew without them.
  *
- * Bits 3 and 4 choose how the processor caches a page. An ordinary entry has both as the kernel set them, so that device registers that
- * it maps uncached stay so; guard_enter and guard_leave keep them, and no call asks for them in a shadow entry. An approved entry has
- * neither, since approved frames are code in ordinary memory: an alias loses them. Bit 7 is not carried: the memory type is that of PAT
- * entry 2 * bit 4 + bit 3, one of 0 to 3, whatever the kernel's bit 7 is (docs/INTEGRATION.md, "Memory types").
+ * Bits 3 and 4 choose how the processor caches a page: device registers that the kernel maps uncached stay so. An approved entry has
+ * neither, since approved frames are code in ordinary memory. Bit 7 is not carried: the PAT entry is 2 * bit 4 + bit 3, whatever the
+ * kernel's bit 7 is (docs/INTEGRATION.md, "Memory types").
  *
  * An accepted guard_enter or guard_leave sets or clears bit 63 of every shadow entry whose bit 0 is set, by the last two rows
  * and the entry's own bits 2, 9 and 10. It keeps every other bit. A processor that walks the shadow table sets bits 5 and 6 in

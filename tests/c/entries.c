@@ -237,16 +237,20 @@ static uint64_t kernel_entry(void)
 }
 
 /* A synchronisation, by the list of the header: the shadow entry, the map's number and both numbers. */
-static int synchronised(int user)
+static int synchronised(int user, int all)
 {
     struct guard g = started(user);
+    /* with all pages: none changes after this but the one whose kernel entry does */
+    sync_all(&g);
     /* absent by bit 0; the other four lines of the list; absent by a reserved bit, of an approved page and of another */
     unsigned kinds[7] = {0};
     for (int i = 0; i < ROUNDS; i++) {
         uint64_t page = below(PAGES);
         /* a page approved by an earlier round stays approved: begin anew at times */
-        if (below(PAGES) == 0)
+        if (below(PAGES) == 0) {
             g = started(user);
+            sync_all(&g);
+        }
         uint64_t entry = g.kernel[page] = kernel_entry();
         uint64_t frame = GUARD_ENTRY_FRAME(entry);
         uint64_t old_shadow = g.shadow[page];
@@ -270,7 +274,8 @@ static int synchronised(int user)
             want = by_table(0, user, entry, frame);
             kinds[4]++;
         }
-        if (sync_page(&g, page) != GUARD_ACCEPTED || g.shadow[page] != want || g.map[page] != want_map ||
+        uint64_t number = all ? sync_all(&g) : sync_page(&g, page);
+        if (number != GUARD_ACCEPTED || g.shadow[page] != want || g.map[page] != want_map ||
             g.numbers[0] != (want != old_shadow) || g.numbers[1] != (want_map != old_map))
             return 0;
     }
@@ -464,7 +469,8 @@ int main(void)
     check(every_bit(0) && every_bit(1), "the table has every bit once in each mode");
     check(start_entries(), "entries, map and vector after the start");
     for (int user = 0; user < 2; user++) {
-        check(synchronised(user), user ? "synchronised entries in user mode" : "synchronised entries in kernel mode");
+        check(synchronised(user, 0), user ? "synchronised entries in user mode" : "synchronised entries in kernel mode");
+        check(synchronised(user, 1), user ? "entries of all pages in user mode" : "entries of all pages in kernel mode");
         check(reserved(user), user ? "reserved bits in user mode" : "reserved bits in kernel mode");
         check(cached(user, 0), user ? "cache bits in user mode" : "cache bits in kernel mode");
         check(cached(user, 1), user ? "cache bits in user mode, all pages" : "cache bits in kernel mode, all pages");
