@@ -23,7 +23,7 @@ const WRITE_THROUGH: u64 = 0x8;
 
 const CACHE_DISABLE: u64 = 0x10;
 
-// One above the largest number that bits 0 to 4 hold, which an ordinary entry has as the kernel entry has them.
+// The weight of bit 5: an ordinary entry has the bits below it as the kernel entry has them.
 const COPIED: u64 = 0x20;
 
 const KERNEL_NO_EXECUTE: u64 = 0x200;

@@ -14,7 +14,7 @@ use Rattle.model.specs.declared.Fields.{Fields}
 use Rattle.model.specs.Basics.{bit, flag}
 use Rattle.model.specs.Bits.{present, writable, userBit, writeThrough, cacheDisable, noExecute, frameOf, approvedMark, approvedNoExecute, approved, fieldsOf, reserved, valid, takenApart, ordinaryNoExecute, ordinary}
 use Rattle.model.specs.Switch.{noExecuteIn, switched}
-use Rattle.model.specs.Cache.{OrdinaryCarries, ApprovedHasNone, SwitchKeeps}
+use Rattle.model.specs.Cache.{OrdinaryCarries, SwitchKeeps}
 use Rattle.model.proofs.VectorLaws.{flag-weight, flag-small, flag-test, bits-to}
 use Rattle.model.proofs.QuestionLaws.{both-first, both-second}
 
@@ -76,6 +76,19 @@ present-valid entry x p = by (valid entry) ∙ ap isPresent p
     by true = refl
     by false = refl
 
+-- The fields of a present entry.
+held : Fields → Entry → Fields
+held d Absent = d
+held d (Present x) = x
+
+pub fields-apart : (entry : ℕ) (x : Fields) → takenApart entry ≡ Present x → fieldsOf entry ≡ x
+unfolding held
+fields-apart entry x p = by (taken-apart entry)
+  where
+    by : (takenApart entry ≡ Absent) ⊎ (takenApart entry ≡ Present (fieldsOf entry)) → fieldsOf entry ≡ x
+    by (inl e) = ap (held (fieldsOf entry)) (sym e ∙ p)
+    by (inr e) = ap (held (fieldsOf entry)) (sym e ∙ p)
+
 -- A valid entry is odd, and its reserved bits are 0.
 pub valid-parts : (entry : ℕ) → valid entry ≡ true → (entry % 2 ≡ 1) × (entry / 2 ^ 52 % 2 ^ 11 ≡ 0)
 unfolding valid present reserved bit
@@ -93,11 +106,9 @@ module _ (user : Bool) (f : ℕ) where
   unfolding frameOf approved approvedNoExecute
   frameOf-approved h = omega (arith, flag-is user 63)
 
--- K3: an approved entry has neither cache bit.
-pub approved-none : ApprovedHasNone
-unfolding writeThrough cacheDisable approved approvedNoExecute
-approved-none user frame =
-    (bit-off 3 (approved user frame) (omega (arith, flag-is user 63)), bit-off 4 (approved user frame) (omega (arith, flag-is user 63)))
+  pub approved-none : (bit 3 (approved user f) ≡ false) × (bit 4 (approved user f) ≡ false)
+  unfolding approved approvedNoExecute
+  approved-none = (bit-off 3 (approved user f) (omega (arith, flag-is user 63)), bit-off 4 (approved user f) (omega (arith, flag-is user 63)))
 
 -- What fields say of bits 0 to 4.
 module _ (x : Fields) where
@@ -128,8 +139,12 @@ module _ (r f : ℕ) (n d : Bool) where
   whole-63 : r < 2 ^ 5 → f < 2 ^ 40 → bit 63 whole ≡ d
   whole-63 h k = bit-flag d (r + flag n 9 + f * 2 ^ 12) (omega (arith, flag-is n 9))
 
--- An ordinary entry has these: no approved mark, and bit 63 by its own rule.
+-- An ordinary entry has these: bits 0 to 4 by its fields, no approved mark, and bit 63 by its own rule.
 module _ (user : Bool) (x : Fields) where
+  ordinary-low : ordinary user x % 2 ^ 5 ≡ lowest x
+  unfolding ordinary
+  ordinary-low = whole-low (lowest x) (x .frame) _ _ (lowest-lt x)
+
   pub approvedMark-ordinary : approvedMark (ordinary user x) ≡ false
   unfolding approvedMark ordinary
   approvedMark-ordinary = whole-10 (lowest x) (x .frame) _ _ (lowest-lt x)
@@ -137,10 +152,6 @@ module _ (user : Bool) (x : Fields) where
   pub noExecute-ordinary : x .frame < 2 ^ 40 → noExecute (ordinary user x) ≡ ordinaryNoExecute user (x .«no_execute») (x .user)
   unfolding noExecute ordinary
   noExecute-ordinary h = whole-63 (lowest x) (x .frame) _ _ (lowest-lt x) h
-
-  ordinary-low : ordinary user x % 2 ^ 5 ≡ lowest x
-  unfolding ordinary
-  ordinary-low = whole-low (lowest x) (x .frame) _ _ (lowest-lt x)
 
 -- K3: of a valid kernel entry, bits 0 to 4.
 pub ordinary-carries : OrdinaryCarries

@@ -12,11 +12,11 @@ use Rattle.model.specs.declared.Fields.{Fields}
 use Rattle.model.specs.Basics.{bit}
 use Rattle.model.specs.Keeps.{none}
 use Rattle.model.specs.Policy.{Policy}
-use Rattle.model.specs.Bits.{present, noExecute, frameOf, approvedMark, fieldsOf, takenApart, approvedNoExecute, approved, ordinaryNoExecute, ordinary}
+use Rattle.model.specs.Bits.{present, noExecute, frameOf, approvedMark, fieldsOf, valid, takenApart, approvedNoExecute, approved, ordinaryNoExecute, ordinary}
 use Rattle.model.specs.Sync.{Rules, rules, Slot, slot, stepOf, step}
 use Rattle.model.specs.Switch.{noExecuteIn}
 use Rattle.model.specs.OnePage.{Page, withSlot, News, synchronised, entered, exited, nothing, switchedPage, stepped, told}
-use Rattle.model.proofs.BitLaws.{taken-apart, approvedMark-approved, frameOf-approved, approvedMark-ordinary, noExecute-ordinary, present-switched, approvedMark-switched, frameOf-switched, noExecute-switched}
+use Rattle.model.proofs.BitLaws.{taken-apart, present-valid, approvedMark-approved, frameOf-approved, approvedMark-ordinary, noExecute-ordinary, present-switched, approvedMark-switched, frameOf-switched, noExecute-switched}
 
 -- A good page: its approval, if it has one, is a frame of code; an entry with bits 0 and 10 has its approval for its frame; and in kernel
 -- mode an entry with bit 0 set and bit 63 clear has bit 10.
@@ -80,19 +80,19 @@ pub step-cases : (P : Slot → Type 0) (rules : Rules) (k a : ℕ)
     → P (slot 0 a)
     → (eqb a none ≡ false → P (slot (approved (rules .user) a) a))
     → (frameOf k < rules .frames → rules .excluded (frameOf k) ≡ true → P (slot (approved (rules .user) (frameOf k)) (frameOf k)))
-    → (frameOf k < rules .frames → rules .excluded (frameOf k) ≡ false → P (slot (ordinary (rules .user) (fieldsOf k)) a))
+    → (valid k ≡ true → frameOf k < rules .frames → rules .excluded (frameOf k) ≡ false → P (slot (ordinary (rules .user) (fieldsOf k)) a))
     → P (step rules k a)
 unfolding step fieldsOf stepOf
 step-cases P rules k a absent mapped joins plain = by (taken-apart k)
   where
     by : (takenApart k ≡ Absent) ⊎ (takenApart k ≡ Present (fieldsOf k)) → P (stepOf rules (takenApart k) a)
     by (inl e) = rw e absent
-    by (inr e) =
-        rw e
+    by (inr there) =
+        rw there
         (cond-cases P (not (eqb a none)) (λ e. mapped (not-true (eqb a none) e)) (λ e.
         cond-cases P (leb (rules .frames) (frameOf k)) (λ e. absent) (λ e.
         let below : frameOf k < rules .frames = leb-false (rules .frames) (frameOf k) e in
-        cond-cases P (rules .excluded (frameOf k)) (joins below) (plain below))))
+        cond-cases P (rules .excluded (frameOf k)) (joins below) (plain (present-valid k (fieldsOf k) there) below))))
 
 -- A synchronisation keeps a page good, if code is below F and every excluded frame is code.
 pub stepped-good : (policy : Policy) (code : ℕ → Bool) (page : Page) (k : ℕ) → policy .frames ≤ 4096
@@ -104,7 +104,7 @@ stepped-good policy code page k most below excluded h =
     (good-absent code page (page .approval) (h .approval))
     (λ e. good-approved code page (page .approval) (h .approval e) (omega (arith, below (page .approval) (h .approval e))))
     (λ l e. good-approved code page (frameOf k) (excluded (frameOf k) e) (omega arith))
-    (λ l e. good-ordinary code page (fieldsOf k) (page .approval) (omega arith) (h .approval))
+    (λ p l e. good-ordinary code page (fieldsOf k) (page .approval) (omega arith) (h .approval))
 
 -- In kernel mode the rule for bit 63 clears it for an approved mark only.
 clear-marked : (entry : ℕ) → noExecuteIn false entry ≡ false → approvedMark entry ≡ true

@@ -15,6 +15,7 @@ pub mod AcceptedLaws
 pub mod SweepLaws
 pub mod SwitchLaws
 pub mod ClaimPages
+mod CacheLaws
 pub mod ClaimKept
 pub mod ClaimCalls
 pub mod ClaimSafe

@@ -1,19 +1,31 @@
--- Document 02, K3: which shadow entries carry the cache bits, of all entries and in both modes.
-use Prim.Native.Nat.{ℕ, _<_}
-use mathlib.Core.Bool.{Bool, true, false}
+-- Document 02, K3: which shadow entries carry the cache bits, for every kernel entry and in both modes.
+use Prim.Native.Nat.{ℕ, _≤_, _<_}
+use mathlib.Core.Bool.{Bool, true, not}
 use mathlib.Core.Path.{_≡_}
-use Rattle.model.specs.Basics.{bit}
-use Rattle.model.specs.Bits.{writeThrough, cacheDisable, fieldsOf, valid, approved, ordinary}
+use Rattle.model.specs.declared.Entry.the-variants.{Present}
+use Rattle.model.specs.declared.Fields.{Fields}
+use Rattle.model.specs.Basics.{bit, both}
+use Rattle.model.specs.Bits.{present, approvedMark, fieldsOf, valid, takenApart, ordinary}
+use Rattle.model.specs.Sync.{Rules, step}
 use Rattle.model.specs.Switch.{switched}
+
+-- "Taking a kernel entry apart now yields both bits".
+abbrev pub ApartYields : Type 0
+ApartYields = (entry : ℕ) (x : Fields) → takenApart entry ≡ Present x → (x .«write_through» ≡ bit 3 entry) × (x .«cache_disable» ≡ bit 4 entry)
 
 -- "an ordinary shadow entry carries them": its bits 0 to 4 are those of the kernel entry that it is made of.
 abbrev pub OrdinaryCarries : Type 0
 OrdinaryCarries = (user : Bool) (entry k : ℕ) → valid entry ≡ true → k < 5 → bit k (ordinary user (fieldsOf entry)) ≡ bit k entry
 
--- An approved entry, which has "bits 0 and 10, the frame; bit 63", does not.
-abbrev pub ApprovedHasNone : Type 0
-ApprovedHasNone =
-    (user : Bool) (frame : ℕ) → (writeThrough (approved user frame) ≡ false) × (cacheDisable (approved user frame) ≡ false)
+-- A shadow entry that is present and has no approved mark.
+abbrev pub isOrdinary : ℕ → Bool
+isOrdinary entry = both (present entry) (not (approvedMark entry))
+
+-- Of steps 1 to 5: an ordinary entry has bits 3 and 4 as the kernel entry has them, and an approved entry and entry 0 have neither.
+abbrev pub StepCarries : Type 0
+StepCarries =
+    (rules : Rules) (entry approval k : ℕ) → 3 ≤ k → k < 5
+    → bit k (step rules entry approval .entry) ≡ both (isOrdinary (step rules entry approval .entry)) (bit k entry)
 
 -- "other bits kept": a mode switch keeps them, as it keeps every bit but 63.
 abbrev pub SwitchKeeps : Type 0

@@ -4,12 +4,15 @@ use Prim.Native.Nat.{ℕ}
 use mathlib.Core.Bool.{true, false}
 use mathlib.Core.List.{List, [], _∷_}
 use lib.ListN.{replicate, set}
+use Rattle.model.specs.declared.Entry.{Entry}
+use Rattle.model.specs.declared.Entry.the-variants.{Absent, Present}
 use Rattle.model.specs.declared.State.{State}
 use Rattle.model.specs.declared.Mode.{Mode}
 use Rattle.model.specs.declared.Mode.the-variants.{Kernel, User}
 use Rattle.model.specs.declared.Answer.the-variants.{Done, Refused}
 use Rattle.model.specs.Keeps.{tables, withShadow, withMap, withExclusion, Guard, guardOf, withBit, stateOf}
 use Rattle.model.specs.Policy.{nothingGiven}
+use Rattle.model.specs.Bits.{takenApart}
 use Rattle.model.specs.Calls.{Reply, Outcome, outcome, outcomeBy, accepted, refused, startOf, Call, syncPage, syncAll, fetch, write, enter, leave, deviceWrite, answer}
 use Rattle.model.specs.Cases.{started, startedUser, holding, mapStarted, Row, Case, row}
 
@@ -85,6 +88,10 @@ ofLengths mode shadow map exclusion =
 -- The started guard in a mode, with ordinary entries at the three pages that are not approved.
 unfoldable pub filled : Mode → Guard
 filled mode = with6 mode (set (set (set shadow6 0 0x4003) 3 0x6003) 5 0x7003)
+
+-- A guard of that policy in a mode, with these shadow entries, whose map has the same number for every page.
+unfoldable pub mapped : Mode → ℕ → List ℕ → Guard
+mapped mode number shadow = guardOf (sixPages mode) (tables shadow (replicate 6 number) (0x28 ∷ []))
 
 -- A user page of frame 6 and a kernel page of frame 7, as they stand in each mode.
 unfoldable pub leaving : List ℕ
@@ -208,22 +215,69 @@ syncCases =
     ∷ row (answer startedUser (syncAll (0x300b ∷ 0x3019 ∷ 0x3013 ∷ 0x301b ∷ [])))
     (outcome (accepted 4 0)
     (holding (User 1) (0x800000000000300b ∷ 0x8000000000002401 ∷ 0x8000000000003013 ∷ 0x800000000000301b ∷ []) mapStarted))
-    -- an alias has neither, in both modes: the page joins; nor has an approved page with a frame past F in its kernel entry
-    ∷ row (answer started (syncAll (0x200b ∷ 0x401b ∷ 0x2013 ∷ 0x201b ∷ [])))
-    (outcome (accepted 3 3) (holding (Kernel 1) (replicate 4 0x2401) (replicate 4 2)))
-    ∷ row (answer startedUser (syncAll (0x200f ∷ 0x401f ∷ 0x2017 ∷ 0x201f ∷ [])))
-    (outcome (accepted 4 3) (holding (User 1) (replicate 4 0x8000000000002401) (replicate 4 2)))
-    -- read-only; bits 5 to 11 beside them, and without them; a frame past F; a reserved bit; not present
-    ∷ row (answer (filled (Kernel 1)) (syncAll (0x4019 ∷ 0xf19 ∷ 0x801b ∷ 0x6fe7 ∷ 0x001000000000501b ∷ 0x7fff ∷ [])))
-    (outcome (accepted 4 0)
-    (with6 (Kernel 1) (0x8000000000004019 ∷ 0x5401 ∷ 0x3401 ∷ 0x8000000000006007 ∷ 0 ∷ 0x800000000000701f ∷ [])))
-    ∷ row (answer (filled (User 1)) (syncAll (0x901b ∷ 0x3018 ∷ 0x5ff8 ∷ 0x001000000000701b ∷ 0x701b ∷ 0x6018 ∷ [])))
-    (outcome (accepted 6 0) (with6 (User 1) (0 ∷ 0 ∷ 0 ∷ 0 ∷ 0x8000000000005401 ∷ 0 ∷ [])))
-    -- one page, whose entry changes with either bit: write-through comes, gives way to cache disable, and both go; the same again is no change
+    -- the same beside every other field: read-only, user, no-execute, frame 0
+    ∷ row
+    (answer (mapped (Kernel 1) 65535 (replicate 6 0))
+    (syncAll (0x1 ∷ 0x100f ∷ 0x8000000000002013 ∷ 0x401b ∷ 0x800000000000601d ∷ 0x8000000000007005 ∷ [])))
+    (outcome (accepted 6 0)
+    (mapped (Kernel 1) 65535
+    (0x8000000000000001 ∷ 0x800000000000100f ∷ 0x8000000000002213 ∷ 0x800000000000401b ∷ 0x800000000000621d ∷ 0x8000000000007205 ∷ [])))
+    ∷ row
+    (answer (mapped (User 1) 65535 (replicate 6 0))
+    (syncAll (0x800000000000001f ∷ 0x8000000000001011 ∷ 0x200d ∷ 0x8000000000004005 ∷ 0x6003 ∷ 0x701b ∷ [])))
+    (outcome (accepted 6 0)
+    (mapped (User 1) 65535
+    (0x800000000000021f ∷ 0x8000000000001211 ∷ 0x200d ∷ 0x8000000000004205 ∷ 0x8000000000006003 ∷ 0x800000000000701b ∷ [])))
+    -- an alias has neither: each page joins
+    ∷ row
+    (answer (mapped (Kernel 1) 65535 (replicate 6 0))
+    (syncAll (0x5001 ∷ 0x500f ∷ 0x8000000000005013 ∷ 0x501b ∷ 0x800000000000501d ∷ 0x8000000000005005 ∷ [])))
+    (outcome (accepted 6 6) (mapped (Kernel 1) 5 (replicate 6 0x5401)))
+    ∷ row
+    (answer (mapped (User 1) 65535 (replicate 6 0))
+    (syncAll (0x800000000000501f ∷ 0x8000000000005011 ∷ 0x500d ∷ 0x8000000000005005 ∷ 0x5003 ∷ 0x501b ∷ [])))
+    (outcome (accepted 6 6) (mapped (User 1) 5 (replicate 6 0x8000000000005401)))
+    -- an approved page has neither, whatever its kernel entry's frame is and whatever stood there
+    ∷ row
+    (answer (mapped (Kernel 1) 5 (replicate 6 0x5419))
+    (syncAll (0x3001 ∷ 0x300f ∷ 0x8000000000008013 ∷ 0x901b ∷ 0x800000000000401d ∷ 0x8000000000003005 ∷ [])))
+    (outcome (accepted 6 0) (mapped (Kernel 1) 5 (replicate 6 0x5401)))
+    ∷ row (answer started6 (syncAll (0x0 ∷ 0x500b ∷ 0x3013 ∷ 0x0 ∷ 0x501b ∷ 0x0 ∷ []))) (outcome (accepted 0 0) started6)
+    ∷ row
+    (answer (mapped (User 1) 5 (replicate 6 0x800000000000600f))
+    (syncAll (0x800000000000801f ∷ 0x8000000000003011 ∷ 0x500d ∷ 0x8000000000003005 ∷ 0x9003 ∷ 0x701b ∷ [])))
+    (outcome (accepted 6 0) (mapped (User 1) 5 (replicate 6 0x8000000000005401)))
+    -- a frame at or past F stays unmapped, and so does a reserved bit or an entry that is not present
+    ∷ row
+    (answer (mapped (Kernel 1) 65535 (replicate 6 0x401f))
+    (syncAll (0x8001 ∷ 0x900f ∷ 0x8008000000004013 ∷ 0x801b ∷ 0x800000000000c01d ∷ 0x8000000000008005 ∷ [])))
+    (outcome (accepted 6 0) (mapped (Kernel 1) 65535 (replicate 6 0)))
+    ∷ row
+    (answer (mapped (User 1) 65535 (replicate 6 0x401f))
+    (syncAll (0x800000000000801f ∷ 0x8000000000009011 ∷ 0x000800000000400d ∷ 0x8000000000008005 ∷ 0xc003 ∷ 0x801b ∷ [])))
+    (outcome (accepted 6 0) (mapped (User 1) 65535 (replicate 6 0)))
+    ∷ row
+    (answer (mapped (Kernel 1) 65535 (replicate 6 0x401f))
+    (syncAll (0x4008 ∷ 0x4016 ∷ 0x401e ∷ 0x001000000000400b ∷ 0x4000000000004013 ∷ 0x020000000000401f ∷ [])))
+    (outcome (accepted 6 0) (mapped (Kernel 1) 65535 (replicate 6 0)))
+    -- bits 5 to 11 beside them, and without them
+    ∷ row (answer (filled (Kernel 1)) (syncAll (0x4ff9 ∷ 0x5fe1 ∷ 0x3ff9 ∷ 0x6fe7 ∷ 0x5fff ∷ 0x7fff ∷ [])))
+    (outcome (accepted 3 0)
+    (with6 (Kernel 1) (0x8000000000004019 ∷ 0x5401 ∷ 0x3401 ∷ 0x8000000000006007 ∷ 0x5401 ∷ 0x800000000000701f ∷ [])))
+    -- an entry that changes by these bits alone is counted, of all pages and of one; the same again is no change
+    ∷ row
+    (answer (mapped (User 1) 65535 (0x4007 ∷ 0x400f ∷ 0x4017 ∷ 0x400f ∷ 0x4017 ∷ 0x401f ∷ []))
+    (syncAll (0x400f ∷ 0x401f ∷ 0x4007 ∷ 0x4017 ∷ 0x4017 ∷ 0x4007 ∷ [])))
+    (outcome (accepted 5 0) (mapped (User 1) 65535 (0x400f ∷ 0x401f ∷ 0x4007 ∷ 0x4017 ∷ 0x4017 ∷ 0x4007 ∷ [])))
     ∷ row (answer (at0 (User 1) 0x4007) (syncPage (replicate 6 0x400f) 0)) (outcome (accepted 1 0) (at0 (User 1) 0x400f))
     ∷ row (answer (at0 (User 1) 0x400f) (syncPage (replicate 6 0x4017) 0)) (outcome (accepted 1 0) (at0 (User 1) 0x4017))
     ∷ row (answer (at0 (User 1) 0x401f) (syncPage (replicate 6 0x4007) 0)) (outcome (accepted 1 0) (at0 (User 1) 0x4007))
     ∷ stays (at0 (User 1) 0x401f) (syncPage (replicate 6 0x4fff) 0) (accepted 0 0)
+    ∷ row (answer (mapped (Kernel 1) 65535 (replicate 6 0x800000000000400f)) (syncPage (replicate 6 0x401f) 3))
+    (outcome (accepted 1 0) (mapped (Kernel 1) 65535 (set (replicate 6 0x800000000000400f) 3 0x800000000000401f)))
+    ∷ row (answer (at0 (Kernel 1) 0x800000000000401f) (syncPage (replicate 6 0x501f) 0))
+    (outcome (accepted 1 1)
+    (guardOf (sixPages (Kernel 1)) (tables (set shadow6 0 0x5401) (5 ∷ 5 ∷ 3 ∷ 65535 ∷ 5 ∷ 65535 ∷ []) (0x28 ∷ []))))
     -- 7 of the kernel table's length, and of each part of the state; 9 of the page
     ∷ stays started6 (syncAll (replicate 5 0)) (refused 7)
     ∷ stays started6 (syncPage (replicate 7 0) 0) (refused 7)
@@ -282,9 +336,21 @@ accessCases =
     -- K1 asks kernel entries alone: a shadow entry with all of bits 52 to 62 is fetched and written as one without
     ∷ row (answer (at0 (Kernel 1) 0x7ff0000000004001) (fetch 0)) (outcome (accepted 4 4) (at0 (Kernel 0) 0x7ff0000000004001))
     ∷ stays (at0 (User 1) 0x7ff0000000006007) (write 0 1) (accepted 6 6)
-    -- K3: no access asks for the cache bits
+    -- K3: no access asks for the cache bits: with either and with both it is accepted, and refused with 11, 12 and 13, as without
     ∷ row (answer (at0 (User 1) 0x401d) (fetch 0)) (outcome (accepted 4 4) (at0 (User 0) 0x401d))
+    ∷ row (answer (at0 (Kernel 1) 0x4409) (fetch 0)) (outcome (accepted 4 4) (at0 (Kernel 0) 0x4409))
+    ∷ row (answer (at0 (Kernel 1) 0x4413) (fetch 0)) (outcome (accepted 4 4) (at0 (Kernel 0) 0x4413))
     ∷ stays (at01 (User 1) 0x600f 0x7017) (write 4095 2) (accepted 6 7)
+    ∷ stays (at01 (Kernel 1) 0x800000000000601b 0x8000000000007013) (write 4095 2) (accepted 6 7)
+    ∷ stays (at0 (User 1) 0x401c) (fetch 0) (refused 11)
+    ∷ stays (at0 (User 1) 0x401b) (fetch 0) (refused 12)
+    ∷ stays (at0 (Kernel 1) 0x800000000000400f) (fetch 0) (refused 12)
+    ∷ stays (at0 (Kernel 1) 0x8000000000004017) (fetch 0) (refused 12)
+    ∷ stays (at0 (Kernel 1) 0x800000000000401a) (write 0 1) (refused 11)
+    ∷ stays (at0 (User 1) 0x400d) (write 0 1) (refused 12)
+    ∷ stays (at0 (User 1) 0x4015) (write 0 1) (refused 12)
+    ∷ stays (at0 (Kernel 1) 0x800000000000401d) (write 0 1) (refused 12)
+    ∷ stays (at0 (Kernel 1) 0x800000000000501b) (write 0 1) (refused 13)
     ∷ stays started6 (fetch 6) (refused 9)
     ∷ stays started6 (fetch 0) (refused 11)
     ∷ stays (at0 (User 1) 0x4001) (fetch 0) (refused 12)
@@ -383,6 +449,27 @@ switchCases =
     (outcome (accepted 5 0)
     (with6 (Kernel 2)
     (0x800000000000400f ∷ 0x5409 ∷ 0x3411 ∷ 0x8000000000007013 ∷ 0x5419 ∷ 0x800000000000601f ∷ [])))
+    -- with bit 9 set they do not make a page run, and an entry that is not present keeps them
+    ∷ row
+    (answer
+    (with6 (Kernel 1)
+    (0x800000000000400f ∷ 0x800000000000420f ∷ 0x8000000000004217 ∷ 0x800000000000421b ∷ 0x701c ∷ 0x800000000000601e ∷ []))
+    (leave 0))
+    (outcome (accepted 1 0)
+    (with6 (User 0) (0x400f ∷ 0x800000000000420f ∷ 0x8000000000004217 ∷ 0x800000000000421b ∷ 0x701c ∷ 0x800000000000601e ∷ [])))
+    ∷ row (answer (with6 (Kernel 1) (0x4209 ∷ 0x421f ∷ 0x340b ∷ 0x8000000000007017 ∷ 0x6016 ∷ 0x8000000000006008 ∷ [])) (leave 3))
+    (outcome (accepted 4 0)
+    (with6 (User 3) (0x8000000000004209 ∷ 0x800000000000421f ∷ 0x800000000000340b ∷ 0x7017 ∷ 0x6016 ∷ 0x8000000000006008 ∷ [])))
+    ∷ row (answer (with6 (User 3) (0x420f ∷ 0x800000000000540b ∷ 0x3409 ∷ 0x4217 ∷ 0x601e ∷ 0x8000000000006018 ∷ [])) (enter 0))
+    (outcome (accepted 3 0)
+    (with6 (Kernel 1) (0x800000000000420f ∷ 0x540b ∷ 0x3409 ∷ 0x8000000000004217 ∷ 0x601e ∷ 0x8000000000006018 ∷ [])))
+    -- and no switch asks for them
+    ∷ stays (at0 (Kernel 1) 0x800000000000401e) (leave 0) (refused 11)
+    ∷ stays (at0 (Kernel 1) 0x800000000000401b) (leave 0) (refused 12)
+    ∷ stays (at0 (Kernel 1) 0x800000000000420f) (leave 0) (refused 12)
+    ∷ stays (at0 (Kernel 1) 0x8000000000004217) (leave 0) (refused 12)
+    ∷ stays (with6 (User 5) (set left6 2 0x3418)) (enter 1) (refused 11)
+    ∷ stays (with6 (User 5) (set left6 2 0x8000000000003019)) (enter 1) (refused 12)
     ∷ []
 
 -- What an answer gives, with the tables that a call left.
@@ -400,6 +487,19 @@ answerCases =
     (outcome (accepted 0 0) (guardOf zeros (record { shadow = 3 ∷ []; map = 4 ∷ []; exclusion = 6 ∷ [] })))
     ∷ row (outcomeBy (record { answer = Refused 7; state = zeros }) (tables [] [] []))
     (outcome (record { allowed = false; number = 7; first = 0; second = 0 }) (guardOf zeros (record { shadow = []; map = []; exclusion = [] })))
+    ∷ []
+
+-- K3: "Taking a kernel entry apart now yields both bits".
+abbrev pub ApartCase : Type 0
+ApartCase = Row Entry
+
+unfoldable pub apartCases : List ApartCase
+apartCases =
+    row (takenApart 0x300b)
+    (Present (record { writable = true; user = false; «write_through» = true; «cache_disable» = false; «no_execute» = false; frame = 3 }))
+    ∷ row (takenApart 0x8000000000003015)
+    (Present (record { writable = false; user = true; «write_through» = false; «cache_disable» = true; «no_execute» = true; frame = 3 }))
+    ∷ row (takenApart 0x3018) Absent
     ∷ []
 
 -- A vector with a bit set, cleared, and past its end.

@@ -33,7 +33,7 @@ slot entry approval = record { entry = entry; approval = approval }
 -- "3. Else frame at or above F: shadow 0." Source 004, section 4.2: no address at or above the memory limit is copied.
 -- "4. Else the frame is excluded: the page joins the map with it; approved entry." Source 000, section 5.1: every virtual alias of an
 -- approved physical page must disallow writes to it.
--- "5. Else ordinary: present, writable, user, frame and bit 9 from the kernel entry."
+-- "5. Else ordinary: present, writable, user, frame and bit 9 from the kernel entry." K3: and bits 3 and 4.
 unfoldable pub stepOf : Rules → Entry → ℕ → Slot
 stepOf rules Absent approval = slot 0 approval
 stepOf rules (Present x) approval =

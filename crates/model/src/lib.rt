@@ -3,12 +3,12 @@
 
 ghost use mathlib.Core.Path.{_≡_};
 ghost use mathlib.Core.List.{_++_};
-ghost use Rattle.model.specs.Cache.{OrdinaryCarries, ApprovedHasNone, SwitchKeeps};
+ghost use Rattle.model.specs.Cache.{ApartYields, OrdinaryCarries, StepCarries, SwitchKeeps};
 ghost use Rattle.model.specs.Cases.{cases, Hold};
 ghost use Rattle.model.specs.Claim.{Claim};
 ghost use Rattle.model.specs.Drill.{drillOutput};
 ghost use Rattle.model.specs.DrillCases.{drillCases, Limit};
-ghost use Rattle.model.specs.Further.{startCases, syncCases, orderCases, accessCases, switchCases, answerCases, vectorCases};
+ghost use Rattle.model.specs.Further.{startCases, syncCases, orderCases, accessCases, switchCases, answerCases, apartCases, vectorCases};
 ghost use Rattle.model.specs.Orders.{startOrder, callOrder};
 ghost use Rattle.model.specs.Record.{WrittenStarts, WrittenAgain};
 ghost use Rattle.model.specs.RecordCases.{recordCases};
@@ -90,7 +90,7 @@ pub fn twelve_cases()
 
 // Cases beside the twelve: the calls and refusals that those do not make.
 pub fn further_cases()
-    ensures { λ _. ⌜ Hold (startCases ++ syncCases ++ orderCases ++ accessCases ++ switchCases ++ answerCases) × Hold vectorCases ⌝ }
+    ensures { λ _. ⌜ Hold (startCases ++ syncCases ++ orderCases ++ accessCases ++ switchCases ++ answerCases) × Hold apartCases × Hold vectorCases ⌝ }
 {}
 
 // The order of each call's questions, by inputs that fail several of them.
@@ -113,9 +113,10 @@ pub fn written_again()
     ensures { λ _. ⌜ WrittenAgain ⌝ }
 {}
 
-// Document 02, K3: "an ordinary shadow entry carries them"; an approved entry does not, and a mode switch keeps them.
+// Document 02, K3: an entry taken apart yields the cache bits, "an ordinary shadow entry carries them", an approved entry does not, and a mode
+// switch keeps them.
 pub fn cache_bits()
-    ensures { λ _. ⌜ OrdinaryCarries × ApprovedHasNone × SwitchKeeps ⌝ }
+    ensures { λ _. ⌜ ApartYields × OrdinaryCarries × StepCarries × SwitchKeeps ⌝ }
 {}
 
 // Document 01, the worked example: every byte of its output follows from the drill's definitions.

@@ -2,7 +2,6 @@
 use Prim.Native.Nat.{ℕ, _+_, _/_, _≤_, _<_}
 use mathlib.Core.Bool.{Bool, true, false, not}
 use mathlib.Core.List.{List, [], _∷_}
-use mathlib.Core.Logic.{_⊎_, inl, inr}
 use mathlib.Core.Path.{_≡_, refl, sym, ap, _∙_}
 use native.Mathlib.Nat.{zero-add}
 use native.Mathlib.Omega.{arith}
@@ -21,24 +20,11 @@ use Rattle.model.specs.Bits.{fieldsOf, valid, takenApart, approved, ordinary}
 use Rattle.model.specs.Sync.{Rules, Slot, slot, stepOf, step, Sweep, sweep, sweepFrom, entryIn, stepFrom}
 use Rattle.model.specs.Questions.{stateInOrder, inOrder, syncAllQuestions, syncPageQuestions}
 use Rattle.model.specs.Calls.{replyOf, outcomeBy, keptBy, rulesOf, pageSynced, allSynced, syncPage, syncAll, questionsOf, effectOf, answer}
-use Rattle.model.proofs.BitLaws.{taken-apart, present-valid}
+use Rattle.model.proofs.BitLaws.{fields-apart, present-valid}
 use Rattle.model.proofs.StateLaws.{in-order}
 use Rattle.model.proofs.CallLaws.{passed, stopped, none-left, refused-by, accepted-by}
 use Rattle.model.proofs.SweepLaws.{getD-inside, whole, whole-more, whole-over}
 use Rattle.sync.specs.Steps.{rulesBy, stored}
-
--- The fields of a present entry.
-held : Fields → Entry → Fields
-held d Absent = d
-held d (Present x) = x
-
-fields-apart : (k : ℕ) (x : Fields) → takenApart k ≡ Present x → fieldsOf k ≡ x
-unfolding held
-fields-apart k x p = by (taken-apart k)
-  where
-    by : (takenApart k ≡ Absent) ⊎ (takenApart k ≡ Present (fieldsOf k)) → fieldsOf k ≡ x
-    by (inl e) = ap (held (fieldsOf k)) (sym e ∙ p)
-    by (inr e) = ap (held (fieldsOf k)) (sym e ∙ p)
 
 -- Steps 1 to 5.
 module _ (r : Rules) (k a : ℕ) (e : Entry) (apart : e ≡ takenApart k) where
