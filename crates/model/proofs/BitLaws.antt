@@ -5,7 +5,7 @@ use mathlib.Core.Bool.{Bool, true, false, cond}
 use mathlib.Core.Logic.{_⊎_, inl, inr}
 use mathlib.Core.Path.{_≡_, refl, sym, ap, _∙_}
 use native.Mathlib.Omega.{arith}
-use lib.Pow.{field, mod-mod-pow}
+use lib.Pow.{pow-lt, shr-lt, field, mod-mod-pow}
 use lib.Dec.{eqb}
 use borrow.Author.Tests.{eqb-true}
 use Rattle.model.specs.declared.Entry.{Entry}
@@ -30,6 +30,13 @@ bit-on k x h = bit-is k x true h
 pub bit-off : (k x : ℕ) → x / 2 ^ k % 2 ≡ 0 → bit k x ≡ false
 unfolding flag
 bit-off k x h = bit-is k x false h
+
+-- A number has no bit from its length on.
+pub bit-above : (k x : ℕ) → x < 2 ^ k → bit k x ≡ false
+bit-above k x l =
+    let same : 0 + k ≡ k = omega arith in
+    let none : x / 2 ^ k < 2 ^ 0 = shr-lt 0 k (rw same l) in
+    bit-off k x (omega arith)
 
 -- Two numbers that are the same below bit n agree at each bit there.
 bits-below : (n x y : ℕ) → x % 2 ^ n ≡ y % 2 ^ n → (k : ℕ) → k < n → bit k x ≡ bit k y
@@ -106,9 +113,9 @@ module _ (user : Bool) (f : ℕ) where
   unfolding frameOf approved approvedNoExecute
   frameOf-approved h = omega (arith, flag-is user 63)
 
-  pub approved-none : (bit 3 (approved user f) ≡ false) × (bit 4 (approved user f) ≡ false)
+  pub approved-none : (k : ℕ) → 1 ≤ k → k < 10 → bit k (approved user f) ≡ false
   unfolding approved approvedNoExecute
-  approved-none = (bit-off 3 (approved user f) (omega (arith, flag-is user 63)), bit-off 4 (approved user f) (omega (arith, flag-is user 63)))
+  approved-none k l h = bits-below 10 (approved user f) 1 (omega (arith, flag-is user 63)) k h ∙ bit-above k 1 (pow-lt l)
 
 -- What fields say of bits 0 to 4.
 module _ (x : Fields) where

@@ -1,15 +1,16 @@
 -- K3: what a kernel entry taken apart yields, and what each step carries.
-use Prim.Native.Nat.{ℕ, zero, suc, _≤_, _<_}
+use Prim.Native.Nat.{ℕ, _≤_, _<_}
 use mathlib.Core.Bool.{Bool, true, false, not}
 use mathlib.Core.Path.{_≡_, refl, sym, ap, _∙_}
 use native.Mathlib.Omega.{arith}
+use lib.Pow.{pow-lt}
 use Rattle.model.specs.declared.Fields.{Fields}
 use Rattle.model.specs.Basics.{bit, both}
 use Rattle.model.specs.Bits.{present, writeThrough, cacheDisable, frameOf, approvedMark, fieldsOf, valid, approved, ordinary}
 use Rattle.model.specs.Sync.{Slot}
 use Rattle.model.specs.Cache.{ApartYields, isOrdinary, StepCarries}
 use Rattle.model.proofs.QuestionLaws.{both-first}
-use Rattle.model.proofs.BitLaws.{fields-apart, approvedMark-approved, approved-none, approvedMark-ordinary, ordinary-carries}
+use Rattle.model.proofs.BitLaws.{bit-above, fields-apart, approvedMark-approved, approved-none, approvedMark-ordinary, ordinary-carries}
 use Rattle.model.proofs.ClaimPages.{step-cases}
 
 pub apart-yields : ApartYields
@@ -18,34 +19,25 @@ apart-yields entry x p =
     let same : x ≡ fieldsOf entry = sym (fields-apart entry x p) in
     (ap (λ (y : Fields). y .«write_through») same, ap (λ (y : Fields). y .«cache_disable») same)
 
--- What holds of 3 and 4 holds from 3 to below 5.
-three-or-four : (P : ℕ → Type 0) → P 3 → P 4 → (k : ℕ) → 3 ≤ k → k < 5 → P k
-three-or-four P p q (suc (suc (suc zero))) l h = p
-three-or-four P p q (suc (suc (suc (suc zero)))) l h = q
-three-or-four P p q zero l h = absurd (omega arith)
-three-or-four P p q (suc zero) l h = absurd (omega arith)
-three-or-four P p q (suc (suc zero)) l h = absurd (omega arith)
-three-or-four P p q (suc (suc (suc (suc (suc k))))) l h = absurd (omega arith)
-
--- An approved entry, with the mark, has neither bit.
+-- An entry with the mark is none that carries.
 marked : (b c d : Bool) → d ≡ true → false ≡ both (both b (not d)) c
 unfolding both
 marked true c d p = rw p
 marked false c d p = refl
 
 -- A shadow entry that a step may leave: 0, an approved one and an ordinary one.
-module _ (entry k : ℕ) (l : 3 ≤ k) (h : k < 5) where
+module _ (entry k : ℕ) (l : 1 ≤ k) (h : k < 5) where
   Carries : ℕ → Type 0
   Carries shadow = bit k shadow ≡ both (isOrdinary shadow) (bit k entry)
 
   absent : Carries 0
   unfolding Carries bit both present
-  absent = three-or-four (λ k. bit k 0 ≡ false) refl refl k l h
+  absent = bit-above k 0 (omega (arith, pow-lt l))
 
   mapped : (user : Bool) (f : ℕ) → Carries (approved user f)
   unfolding Carries
   mapped user f =
-      three-or-four (λ k. bit k (approved user f) ≡ false) (approved-none user f .0) (approved-none user f .1) k l h
+      approved-none user f k l (omega arith)
       ∙ marked (present (approved user f)) (bit k entry) (approvedMark (approved user f)) (approvedMark-approved user f)
 
   plain : (user : Bool) → valid entry ≡ true → Carries (ordinary user (fieldsOf entry))

@@ -21,10 +21,10 @@ OrdinaryCarries = (user : Bool) (entry k : ℕ) → valid entry ≡ true → k <
 abbrev pub isOrdinary : ℕ → Bool
 isOrdinary entry = both (present entry) (not (approvedMark entry))
 
--- Of steps 1 to 5: an ordinary entry has bits 3 and 4 as the kernel entry has them, and an approved entry and entry 0 have neither.
+-- Of steps 1 to 5: an ordinary entry has bits 1 to 4 as the kernel entry has them, and an approved entry and entry 0 have none of them.
 abbrev pub StepCarries : Type 0
 StepCarries =
-    (rules : Rules) (entry approval k : ℕ) → 3 ≤ k → k < 5
+    (rules : Rules) (entry approval k : ℕ) → 1 ≤ k → k < 5
     → bit k (step rules entry approval .entry) ≡ both (isOrdinary (step rules entry approval .entry)) (bit k entry)
 
 -- "other bits kept": a mode switch keeps them, as it keeps every bit but 63.
