@@ -93,6 +93,10 @@ filled mode = with6 mode (set (set (set shadow6 0 0x4003) 3 0x6003) 5 0x7003)
 unfoldable pub mapped : Mode → ℕ → List ℕ → Guard
 mapped mode number shadow = guardOf (sixPages mode) (tables shadow (replicate 6 number) (0x28 ∷ []))
 
+-- All pages of it synchronised from these kernel entries, over the same shadow entry at every page.
+unfoldable pub synced : Mode → ℕ → ℕ → List ℕ → Outcome
+synced mode number entry kernel = answer (mapped mode number (replicate 6 entry)) (syncAll kernel)
+
 -- A user page of frame 6 and a kernel page of frame 7, as they stand in each mode.
 unfoldable pub leaving : List ℕ
 leaving = set (set shadow6 5 0x8000000000006007) 3 0x8000000000007003
@@ -100,6 +104,22 @@ leaving = set (set shadow6 5 0x8000000000006007) 3 0x8000000000007003
 unfoldable pub left6 : List ℕ
 left6 =
     0 ∷ 0x8000000000005401 ∷ 0x8000000000003401 ∷ 0x8000000000007003 ∷ 0x8000000000005401 ∷ 0x6007 ∷ []
+
+-- The same of entries with reserved bits, and of entries with write-through, cache disable and both.
+unfoldable pub reservedLeaving : List ℕ
+reservedLeaving =
+    0x8010000000004007 ∷ 0x0010000000005401 ∷ 0x4000000000003401 ∷ 0xc000000000007003 ∷ 0x7ff0000000005401 ∷ 0xfff0000000006007 ∷ []
+
+unfoldable pub reservedLeft : List ℕ
+reservedLeft =
+    0x0010000000004007 ∷ 0x8010000000005401 ∷ 0xc000000000003401 ∷ 0xc000000000007003 ∷ 0xfff0000000005401 ∷ 0x7ff0000000006007 ∷ []
+
+unfoldable pub cachedLeaving : List ℕ
+cachedLeaving = 0x800000000000400f ∷ 0x5409 ∷ 0x3411 ∷ 0x8000000000007013 ∷ 0x5419 ∷ 0x800000000000601f ∷ []
+
+unfoldable pub cachedLeft : List ℕ
+cachedLeft =
+    0x400f ∷ 0x8000000000005409 ∷ 0x8000000000003411 ∷ 0x8000000000007013 ∷ 0x8000000000005419 ∷ 0x601f ∷ []
 
 unfoldable pub startCases : List Case
 startCases =
@@ -217,48 +237,39 @@ syncCases =
     (holding (User 1) (0x800000000000300b ∷ 0x8000000000002401 ∷ 0x8000000000003013 ∷ 0x800000000000301b ∷ []) mapStarted))
     -- the same beside every other field: read-only, user, no-execute, frame 0
     ∷ row
-    (answer (mapped (Kernel 1) 65535 (replicate 6 0))
-    (syncAll (0x1 ∷ 0x100f ∷ 0x8000000000002013 ∷ 0x401b ∷ 0x800000000000601d ∷ 0x8000000000007005 ∷ [])))
+    (synced (Kernel 1) 65535 0 (0x1 ∷ 0x100f ∷ 0x8000000000002013 ∷ 0x401b ∷ 0x800000000000601d ∷ 0x8000000000007005 ∷ []))
     (outcome (accepted 6 0)
     (mapped (Kernel 1) 65535
     (0x8000000000000001 ∷ 0x800000000000100f ∷ 0x8000000000002213 ∷ 0x800000000000401b ∷ 0x800000000000621d ∷ 0x8000000000007205 ∷ [])))
     ∷ row
-    (answer (mapped (User 1) 65535 (replicate 6 0))
-    (syncAll (0x800000000000001f ∷ 0x8000000000001011 ∷ 0x200d ∷ 0x8000000000004005 ∷ 0x6003 ∷ 0x701b ∷ [])))
+    (synced (User 1) 65535 0 (0x800000000000001f ∷ 0x8000000000001011 ∷ 0x200d ∷ 0x8000000000004005 ∷ 0x6003 ∷ 0x701b ∷ []))
     (outcome (accepted 6 0)
     (mapped (User 1) 65535
     (0x800000000000021f ∷ 0x8000000000001211 ∷ 0x200d ∷ 0x8000000000004205 ∷ 0x8000000000006003 ∷ 0x800000000000701b ∷ [])))
     -- an alias has neither: each page joins
     ∷ row
-    (answer (mapped (Kernel 1) 65535 (replicate 6 0))
-    (syncAll (0x5001 ∷ 0x500f ∷ 0x8000000000005013 ∷ 0x501b ∷ 0x800000000000501d ∷ 0x8000000000005005 ∷ [])))
+    (synced (Kernel 1) 65535 0 (0x5001 ∷ 0x500f ∷ 0x8000000000005013 ∷ 0x501b ∷ 0x800000000000501d ∷ 0x8000000000005005 ∷ []))
     (outcome (accepted 6 6) (mapped (Kernel 1) 5 (replicate 6 0x5401)))
     ∷ row
-    (answer (mapped (User 1) 65535 (replicate 6 0))
-    (syncAll (0x800000000000501f ∷ 0x8000000000005011 ∷ 0x500d ∷ 0x8000000000005005 ∷ 0x5003 ∷ 0x501b ∷ [])))
+    (synced (User 1) 65535 0 (0x800000000000501f ∷ 0x8000000000005011 ∷ 0x500d ∷ 0x8000000000005005 ∷ 0x5003 ∷ 0x501b ∷ []))
     (outcome (accepted 6 6) (mapped (User 1) 5 (replicate 6 0x8000000000005401)))
     -- an approved page has neither, whatever its kernel entry's frame is and whatever stood there
     ∷ row
-    (answer (mapped (Kernel 1) 5 (replicate 6 0x5419))
-    (syncAll (0x3001 ∷ 0x300f ∷ 0x8000000000008013 ∷ 0x901b ∷ 0x800000000000401d ∷ 0x8000000000003005 ∷ [])))
+    (synced (Kernel 1) 5 0x5419 (0x3001 ∷ 0x300f ∷ 0x8000000000008013 ∷ 0x901b ∷ 0x800000000000401d ∷ 0x8000000000003005 ∷ []))
     (outcome (accepted 6 0) (mapped (Kernel 1) 5 (replicate 6 0x5401)))
     ∷ row (answer started6 (syncAll (0x0 ∷ 0x500b ∷ 0x3013 ∷ 0x0 ∷ 0x501b ∷ 0x0 ∷ []))) (outcome (accepted 0 0) started6)
     ∷ row
-    (answer (mapped (User 1) 5 (replicate 6 0x800000000000600f))
-    (syncAll (0x800000000000801f ∷ 0x8000000000003011 ∷ 0x500d ∷ 0x8000000000003005 ∷ 0x9003 ∷ 0x701b ∷ [])))
+    (synced (User 1) 5 0x800000000000600f (0x800000000000801f ∷ 0x8000000000003011 ∷ 0x500d ∷ 0x8000000000003005 ∷ 0x9003 ∷ 0x701b ∷ []))
     (outcome (accepted 6 0) (mapped (User 1) 5 (replicate 6 0x8000000000005401)))
     -- a frame at or past F stays unmapped, and so does a reserved bit or an entry that is not present
     ∷ row
-    (answer (mapped (Kernel 1) 65535 (replicate 6 0x401f))
-    (syncAll (0x8001 ∷ 0x900f ∷ 0x8008000000004013 ∷ 0x801b ∷ 0x800000000000c01d ∷ 0x8000000000008005 ∷ [])))
+    (synced (Kernel 1) 65535 0x401f (0x8001 ∷ 0x900f ∷ 0x8008000000004013 ∷ 0x801b ∷ 0x800000000000c01d ∷ 0x8000000000008005 ∷ []))
     (outcome (accepted 6 0) (mapped (Kernel 1) 65535 (replicate 6 0)))
     ∷ row
-    (answer (mapped (User 1) 65535 (replicate 6 0x401f))
-    (syncAll (0x800000000000801f ∷ 0x8000000000009011 ∷ 0x000800000000400d ∷ 0x8000000000008005 ∷ 0xc003 ∷ 0x801b ∷ [])))
+    (synced (User 1) 65535 0x401f (0x800000000000801f ∷ 0x8000000000009011 ∷ 0x000800000000400d ∷ 0x8000000000008005 ∷ 0xc003 ∷ 0x801b ∷ []))
     (outcome (accepted 6 0) (mapped (User 1) 65535 (replicate 6 0)))
     ∷ row
-    (answer (mapped (Kernel 1) 65535 (replicate 6 0x401f))
-    (syncAll (0x4008 ∷ 0x4016 ∷ 0x401e ∷ 0x001000000000400b ∷ 0x4000000000004013 ∷ 0x020000000000401f ∷ [])))
+    (synced (Kernel 1) 65535 0x401f (0x4008 ∷ 0x4016 ∷ 0x401e ∷ 0x001000000000400b ∷ 0x4000000000004013 ∷ 0x020000000000401f ∷ []))
     (outcome (accepted 6 0) (mapped (Kernel 1) 65535 (replicate 6 0)))
     -- bits 5 to 11 beside them, and without them
     ∷ row (answer (filled (Kernel 1)) (syncAll (0x4ff9 ∷ 0x5fe1 ∷ 0x3ff9 ∷ 0x6fe7 ∷ 0x5fff ∷ 0x7fff ∷ [])))
@@ -416,39 +427,11 @@ switchCases =
     ∷ row (answer (with6 (User 5) (set (set left6 0 0x8000000000006006) 3 0x8000000000007e1f)) (enter 1))
     (outcome (accepted 5 0) (with6 (Kernel 2) (set (set leaving 0 0x8000000000006006) 3 0x7e1f)))
     -- K1 asks kernel entries alone: a switch keeps bit 52, bit 62 and all of 52 to 62 of a shadow entry as found, the page's that is run too
-    ∷ row
-    (answer
-    (with6 (Kernel 1)
-    (0x8010000000004007 ∷ 0x0010000000005401 ∷ 0x4000000000003401 ∷ 0xc000000000007003 ∷ 0x7ff0000000005401 ∷ 0xfff0000000006007 ∷ []))
-    (leave 5))
-    (outcome (accepted 5 0)
-    (with6 (User 5)
-    (0x0010000000004007 ∷ 0x8010000000005401 ∷ 0xc000000000003401 ∷ 0xc000000000007003 ∷ 0xfff0000000005401 ∷ 0x7ff0000000006007 ∷ [])))
-    ∷ row
-    (answer
-    (with6 (User 5)
-    (0x0010000000004007 ∷ 0x8010000000005401 ∷ 0xc000000000003401 ∷ 0xc000000000007003 ∷ 0xfff0000000005401 ∷ 0x7ff0000000006007 ∷ []))
-    (enter 1))
-    (outcome (accepted 5 0)
-    (with6 (Kernel 2)
-    (0x8010000000004007 ∷ 0x0010000000005401 ∷ 0x4000000000003401 ∷ 0xc000000000007003 ∷ 0x7ff0000000005401 ∷ 0xfff0000000006007 ∷ [])))
+    ∷ row (answer (with6 (Kernel 1) reservedLeaving) (leave 5)) (outcome (accepted 5 0) (with6 (User 5) reservedLeft))
+    ∷ row (answer (with6 (User 5) reservedLeft) (enter 1)) (outcome (accepted 5 0) (with6 (Kernel 2) reservedLeaving))
     -- K3: a switch keeps write-through, cache disable and both, on ordinary entries, the page's that is run too, and on entries with the mark
-    ∷ row
-    (answer
-    (with6 (Kernel 1)
-    (0x800000000000400f ∷ 0x5409 ∷ 0x3411 ∷ 0x8000000000007013 ∷ 0x5419 ∷ 0x800000000000601f ∷ []))
-    (leave 5))
-    (outcome (accepted 5 0)
-    (with6 (User 5)
-    (0x400f ∷ 0x8000000000005409 ∷ 0x8000000000003411 ∷ 0x8000000000007013 ∷ 0x8000000000005419 ∷ 0x601f ∷ [])))
-    ∷ row
-    (answer
-    (with6 (User 5)
-    (0x400f ∷ 0x8000000000005409 ∷ 0x8000000000003411 ∷ 0x8000000000007013 ∷ 0x8000000000005419 ∷ 0x601f ∷ []))
-    (enter 1))
-    (outcome (accepted 5 0)
-    (with6 (Kernel 2)
-    (0x800000000000400f ∷ 0x5409 ∷ 0x3411 ∷ 0x8000000000007013 ∷ 0x5419 ∷ 0x800000000000601f ∷ [])))
+    ∷ row (answer (with6 (Kernel 1) cachedLeaving) (leave 5)) (outcome (accepted 5 0) (with6 (User 5) cachedLeft))
+    ∷ row (answer (with6 (User 5) cachedLeft) (enter 1)) (outcome (accepted 5 0) (with6 (Kernel 2) cachedLeaving))
     -- with bit 9 set they do not make a page run, and an entry that is not present keeps them
     ∷ row
     (answer
