@@ -104,9 +104,9 @@ frame-is entry x h e p = by (entry % 2 ^ 63) refl
         rw (shifted-is entry x z h e q, low, above, q, same)
 
 -- Fields each of which is the entry's are its fields.
-pub fields-are : (entry : ℕ) {x : Fields} → x .writable ≡ writable entry → x .user ≡ userBit entry → x .«write_through» ≡ writeThrough entry
-    → x .«cache_disable» ≡ cacheDisable entry → x .«no_execute» ≡ noExecute entry → x .frame ≡ frameOf entry → x ≡ fieldsOf entry
-unfolding fieldsOf
+pub fields-are : (entry : ℕ) {x : Fields} → x .writable ≡ writable entry → x .user ≡ userBit entry → x .«write_through» ≡ bit 3 entry
+    → x .«cache_disable» ≡ bit 4 entry → x .«no_execute» ≡ noExecute entry → x .frame ≡ frameOf entry → x ≡ fieldsOf entry
+unfolding fieldsOf writeThrough cacheDisable
 fields-are entry w u t c n f = rw (w, u, t, c, n, f)
 
 pub valid-yes : (entry : ℕ) {b : Bool} → b ≡ valid entry → b ≡ true → valid entry ≡ true

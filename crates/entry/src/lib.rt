@@ -8,8 +8,8 @@ ghost use mathlib.Core.Path.{_≡_};
 ghost use mathlib.Core.Bool.{true, cond, not};
 ghost use Prim.Native.Nat.{_+_, _*_, _/_, _%_, _^_, _<_, _≤_};
 ghost use lib.Bits.{bitXor};
-ghost use Rattle.model.specs.Basics.{differs, flag};
-ghost use Rattle.model.specs.Bits.{present, writable, userBit, writeThrough, cacheDisable, noExecute, kernelNoExecute, approvedMark, frameOf, fieldsOf, valid, takenApart, approved, ordinary};
+ghost use Rattle.model.specs.Basics.{bit, differs, flag};
+ghost use Rattle.model.specs.Bits.{present, writable, userBit, noExecute, kernelNoExecute, approvedMark, frameOf, fieldsOf, valid, takenApart, approved, ordinary};
 ghost use Rattle.model.specs.Switch.{noExecuteIn, switched};
 
 // The weights of the bits. Division and remainder by them are shifts and masks.
@@ -18,10 +18,6 @@ const PRESENT: u64 = 0x1;
 const WRITABLE: u64 = 0x2;
 
 const USER: u64 = 0x4;
-
-const WRITE_THROUGH: u64 = 0x8;
-
-const CACHE_DISABLE: u64 = 0x10;
 
 // The weight of bit 5: an ordinary entry has the bits below it as the kernel entry has them.
 const COPIED: u64 = 0x20;
@@ -57,16 +53,12 @@ pub fn user_bit(entry: u64) -> bool
     entry / USER % 2 == 1
 }
 
-fn write_through(entry: u64) -> bool
-    ensures { λ r. ⌜ r ≡ writeThrough entry ⌝ }
+// Bit k of an entry, for fields that nothing else asks for.
+fn bit(entry: u64, k: u32) -> bool
+    requires { ⌜ k < 64 ⌝ }
+    ensures { λ r. ⌜ r ≡ bit k entry ⌝ }
 {
-    entry / WRITE_THROUGH % 2 == 1
-}
-
-fn cache_disable(entry: u64) -> bool
-    ensures { λ r. ⌜ r ≡ cacheDisable entry ⌝ }
-{
-    entry / CACHE_DISABLE % 2 == 1
+    (entry >> k) % 2 == 1
 }
 
 pub fn kernel_no_execute(entry: u64) -> bool
@@ -117,8 +109,8 @@ fn fields_of(entry: u64) -> Fields
     Fields {
         writable: writable(entry),
         user: user_bit(entry),
-        write_through: write_through(entry),
-        cache_disable: cache_disable(entry),
+        write_through: bit(entry, 3),
+        cache_disable: bit(entry, 4),
         no_execute: no_execute(entry),
         frame: shifted(entry) / (FRAME * 2),
     }
