@@ -2,3 +2,4 @@
 mod BoundaryLaws
 mod StartLaws
 mod RecordLaws
+mod WalkLaws

@@ -10,6 +10,8 @@ use Rattle.model.specs.Keeps.{Tables, guardOf}
 use Rattle.model.specs.Policy.{Givens, Policy}
 use Rattle.model.specs.Calls.{Reply, refused, settle, Outcome, startOf, Call, answer}
 use Rattle.model.specs.Record.{Written, writeRecordOf}
+use Rattle.model.specs.Tree.{Tree}
+use Rattle.model.specs.Walks.{walkReply}
 use Rattle.words.specs.Words.{stateIn, answerNumbers, numbersBy, changedBy, withNumbers, runsFit, lendable, runAfter, runStarted}
 
 -- What a call returns, both runs at its exit, and the guard's tables then.
@@ -26,7 +28,7 @@ returned number state numbers t = record { number = number; state = state; numbe
 unfoldable pub replied : ℕ → Reply → List ℕ → List ℕ → Tables → Returned
 replied count reply run numbers t = returned (reply .number) run (withNumbers count numbers reply) t
 
--- Every call on a state: all but the start and the call that writes a record. Question 7 comes first: where a run cannot be lent, it refuses, and
+-- Every call on a state: all but the start, the call that writes a record and the call that walks a page. Question 7 comes first: where a run cannot be lent, it refuses, and
 -- changes neither the state run nor a table. A call puts into the state run what it can change, and no other word.
 unfoldable pub callAt : List ℕ → List ℕ → Tables → Call → Returned
 callAt run numbers t call =
@@ -58,6 +60,20 @@ unfoldable pub recordAt : Policy → List ℕ → List ℕ → Recorded
 recordAt policy buffer numbers =
     let w : Written = writeRecordOf (eqb (length numbers) answerNumbers) policy buffer in
     recorded (w .reply .number) (w .buffer) (withNumbers answerNumbers numbers (w .reply))
+
+-- What the call that walks a page returns, and its numbers run at its exit. It is lent no state.
+pub record Walked : Type 0 where
+  pub number : ℕ
+  pub numbers : List ℕ
+
+abbrev pub walked : ℕ → List ℕ → Walked
+walked number numbers = record { number = number; numbers = numbers }
+
+-- A numbers run of another length gives 7, before 17, and is not written.
+unfoldable pub walkAt : Tree → ℕ → List ℕ → Walked
+walkAt tree page numbers =
+    let reply : Reply = walkReply (eqb (length numbers) answerNumbers) tree page in
+    walked (reply .number) (withNumbers answerNumbers numbers reply)
 
 -- Where both runs can be lent, the state run holds after every call the state that the call's definition answers. An accepted start's words
 -- decode to its state by `words::put_state`.

@@ -6,11 +6,12 @@ ghost use Rattle.model.specs.Keeps.{Tables, tables, withShadow, withExclusion, 
 ghost use Rattle.model.specs.Policy.{nothingGiven, policyOf};
 ghost use Rattle.model.specs.Questions.{firstNo, recordQuestions};
 ghost use Rattle.model.specs.Calls;
-ghost use Rattle.model.specs.Calls.{settle, syncPage, syncAll, deviceWrite};
+ghost use Rattle.model.specs.Tree.{treeOf};
+ghost use Rattle.model.specs.Calls.{settle, syncPage, syncAll, syncPageTree, syncAllTree, deviceWrite};
 ghost use Rattle.model.specs.Record.{policyBy};
 ghost use Rattle.model.specs.Cases.{Hold};
-ghost use Rattle.boundary.specs.Boundary.{returned, startAt, callAt, recorded, recordAt, StateHeld};
-ghost use Rattle.boundary.specs.ExportCases.{exportCases};
+ghost use Rattle.boundary.specs.Boundary.{returned, startAt, callAt, recorded, recordAt, walked, walkAt, StateHeld};
+ghost use Rattle.boundary.specs.ExportCases.{exportCases, walkExportCases};
 use model::Answer;
 
 // The refusal of a start whose runs do not fit: the record's questions come first.
@@ -107,6 +108,77 @@ pub fn sync_all(
     words::reply(numbers, answer)
 }
 
+// Walks a page down a tree.
+pub fn walk(tables: &[u64], root: u64, depth: u64, page: u64, numbers: &mut [u64]) -> u64
+    ensures { λ r. ⌜ walked r (now (numbers .exit)) ≡ walkAt (treeOf (now (tables .entry)) root depth) page (now (numbers .entry)) ⌝ }
+{
+    let fits = numbers.len() == words::NUMBERS;
+    let answer = tree::walk(tables, root, depth, page, fits);
+    words::reply(numbers, answer)
+}
+
+// Synchronise one page from a tree.
+pub fn sync_page_tree(
+    state: &[u64],
+    tables: &[u64],
+    root: u64,
+    depth: u64,
+    shadow: &mut [u64],
+    map: &mut [u16],
+    exclusion: &[u8],
+    page: u64,
+    numbers: &mut [u64],
+) -> u64
+    ensures { λ r. ⌜ ((t : Tables) → returned r (now (state .entry)) (now (numbers .exit)) (withThree (now (shadow .exit)) (now (map .exit)) (now (exclusion .entry)) t)
+        ≡ callAt (now (state .entry)) (now (numbers .entry)) (withThree (now (shadow .entry)) (now (map .entry)) (now (exclusion .entry)) t)
+        (syncPageTree (treeOf (now (tables .entry)) root depth) page)) ⌝ }
+{
+    if !words::usable(state, numbers, words::NUMBERS) {
+        return words::reply(numbers, Answer::Refused(7));
+    }
+    let answer = sync::sync_page_tree(
+        words::state_in(state),
+        tables,
+        root,
+        depth,
+        shadow,
+        map,
+        exclusion,
+        page,
+    );
+    words::reply(numbers, answer)
+}
+
+// Synchronise all pages from a tree.
+pub fn sync_all_tree(
+    state: &[u64],
+    tables: &[u64],
+    root: u64,
+    depth: u64,
+    shadow: &mut [u64],
+    map: &mut [u16],
+    exclusion: &[u8],
+    numbers: &mut [u64],
+) -> u64
+    ensures { λ r. ⌜ ((t : Tables) → returned r (now (state .entry)) (now (numbers .exit)) (withThree (now (shadow .exit)) (now (map .exit)) (now (exclusion .entry)) t)
+        ≡ callAt (now (state .entry)) (now (numbers .entry)) (withThree (now (shadow .entry)) (now (map .entry)) (now (exclusion .entry)) t)
+        (syncAllTree (treeOf (now (tables .entry)) root depth))) ⌝ }
+{
+    if !words::usable(state, numbers, words::NUMBERS) {
+        return words::reply(numbers, Answer::Refused(7));
+    }
+    let answer = sync::sync_all_tree(
+        words::state_in(state),
+        tables,
+        root,
+        depth,
+        shadow,
+        map,
+        exclusion,
+    );
+    words::reply(numbers, answer)
+}
+
 pub fn fetch(state: &mut [u64], shadow: &[u64], page: u64, numbers: &mut [u64]) -> u64
     ensures { λ r. ⌜ ((t : Tables) → returned r (now (state .exit)) (now (numbers .exit)) (withShadow (now (shadow .entry)) t)
         ≡ callAt (now (state .entry)) (now (numbers .entry)) (withShadow (now (shadow .entry)) t) (Calls.fetch page)) ⌝ }
@@ -175,9 +247,9 @@ pub fn device_write(
     words::reply(numbers, answer)
 }
 
-// What writing a record returns and leaves, by its numbers run.
+// What writing a record and walking a page return and leave, by their numbers run.
 pub fn export_cases()
-    ensures { λ _. ⌜ Hold exportCases ⌝ }
+    ensures { λ _. ⌜ Hold exportCases × Hold walkExportCases ⌝ }
 {}
 
 // The state goes from call to call in its run as the definitions hand it on.

@@ -4,9 +4,10 @@
 ghost use mathlib.Core.Path.{_≡_};
 ghost use Rattle.model.specs.Keeps.{Tables, tables, withShadow, withExclusion, withThree};
 ghost use Rattle.model.specs.Policy.{nothingGiven};
-ghost use Rattle.model.specs.Calls.{syncPage, syncAll, fetch, write, enter, leave, deviceWrite};
+ghost use Rattle.model.specs.Tree.{treeOf};
+ghost use Rattle.model.specs.Calls.{syncPage, syncAll, syncPageTree, syncAllTree, fetch, write, enter, leave, deviceWrite};
 ghost use Rattle.model.specs.Record.{policyBy};
-ghost use Rattle.boundary.specs.Boundary.{returned, startAt, callAt, recorded, recordAt};
+ghost use Rattle.boundary.specs.Boundary.{returned, startAt, callAt, recorded, recordAt, walked, walkAt};
 
 #[no_mangle]
 pub extern "C" fn guard_start(
@@ -81,6 +82,69 @@ pub extern "C" fn guard_sync_all(
         ≡ callAt (now (state .entry)) (now (numbers .entry)) (withThree (now (shadow .entry)) (now (map .entry)) (now (exclusion .entry)) t) (syncAll (now (kernel .entry)))) ⌝ }
 {
     boundary::sync_all(state, kernel, shadow, map, exclusion, numbers)
+}
+
+// Walks a page down a tree.
+#[no_mangle]
+pub extern "C" fn guard_walk(
+    tables: &[u64],
+    root: u64,
+    depth: u64,
+    page: u64,
+    numbers: &mut [u64],
+) -> u64
+    ensures { λ r. ⌜ walked r (now (numbers .exit)) ≡ walkAt (treeOf (now (tables .entry)) root depth) page (now (numbers .entry)) ⌝ }
+{
+    boundary::walk(tables, root, depth, page, numbers)
+}
+
+// Synchronise one page from a tree.
+#[no_mangle]
+pub extern "C" fn guard_sync_page_tree(
+    state: &[u64],
+    tables: &[u64],
+    root: u64,
+    depth: u64,
+    shadow: &mut [u64],
+    map: &mut [u16],
+    exclusion: &[u8],
+    page: u64,
+    numbers: &mut [u64],
+) -> u64
+    ensures { λ r. ⌜ ((t : Tables) → returned r (now (state .entry)) (now (numbers .exit)) (withThree (now (shadow .exit)) (now (map .exit)) (now (exclusion .entry)) t)
+        ≡ callAt (now (state .entry)) (now (numbers .entry)) (withThree (now (shadow .entry)) (now (map .entry)) (now (exclusion .entry)) t)
+        (syncPageTree (treeOf (now (tables .entry)) root depth) page)) ⌝ }
+{
+    boundary::sync_page_tree(
+        state,
+        tables,
+        root,
+        depth,
+        shadow,
+        map,
+        exclusion,
+        page,
+        numbers,
+    )
+}
+
+// Synchronise all pages from a tree.
+#[no_mangle]
+pub extern "C" fn guard_sync_all_tree(
+    state: &[u64],
+    tables: &[u64],
+    root: u64,
+    depth: u64,
+    shadow: &mut [u64],
+    map: &mut [u16],
+    exclusion: &[u8],
+    numbers: &mut [u64],
+) -> u64
+    ensures { λ r. ⌜ ((t : Tables) → returned r (now (state .entry)) (now (numbers .exit)) (withThree (now (shadow .exit)) (now (map .exit)) (now (exclusion .entry)) t)
+        ≡ callAt (now (state .entry)) (now (numbers .entry)) (withThree (now (shadow .entry)) (now (map .entry)) (now (exclusion .entry)) t)
+        (syncAllTree (treeOf (now (tables .entry)) root depth))) ⌝ }
+{
+    boundary::sync_all_tree(state, tables, root, depth, shadow, map, exclusion, numbers)
 }
 
 #[no_mangle]

@@ -9,7 +9,8 @@ use borrow.Author.Tests.{ltb-true, not-true}
 use Rattle.model.specs.Basics.{both, either}
 use Rattle.model.specs.Edges.{pageBytes, lastByte, lastPage}
 use Rattle.model.specs.Bits.{present, noExecute, frameOf}
-use Rattle.model.specs.Questions.{View, firstNo, syncPageQuestions, fetchPermitted, fetchQuestions, free, everyTouched, writeQuestions, enterQuestions, leaveQuestions, deviceWriteQuestions}
+use Rattle.model.specs.Tree.{Tree}
+use Rattle.model.specs.Questions.{View, firstNo, syncPageQuestions, syncPageTreeQuestions, fetchPermitted, fetchQuestions, free, everyTouched, writeQuestions, enterQuestions, leaveQuestions, deviceWriteQuestions}
 use Rattle.model.proofs.QuestionLaws.{asked, numbered, all-yes, both-first, both-second, within-low}
 use Rattle.model.proofs.TouchLaws.{touched-at}
 
@@ -24,6 +25,10 @@ module _ (v : View) where
   pub syncPage-page : (n page : ℕ) → firstNo (syncPageQuestions v n page) ≡ 0 → page < v .pages
   unfolding syncPageQuestions asked numbered both either
   syncPage-page n page h = ltb-true page (v .pages) (both-first _ _ (all-yes 9 (syncPageQuestions v n page) refl h))
+
+  pub syncPageTree-page : (tree : Tree) (page : ℕ) → firstNo (syncPageTreeQuestions v tree page) ≡ 0 → page < v .pages
+  unfolding syncPageTreeQuestions asked numbered both either
+  syncPageTree-page tree page h = ltb-true page (v .pages) (both-first _ _ (all-yes 9 (syncPageTreeQuestions v tree page) refl h))
 
   pub fetch-page : (page : ℕ) → firstNo (fetchQuestions v page) ≡ 0 → page < v .pages
   unfolding fetchQuestions asked numbered both either

@@ -39,7 +39,7 @@ bit-above k x l =
     bit-off k x (omega arith)
 
 -- Two numbers that are the same below bit n agree at each bit there.
-bits-below : (n x y : ℕ) → x % 2 ^ n ≡ y % 2 ^ n → (k : ℕ) → k < n → bit k x ≡ bit k y
+pub bits-below : (n x y : ℕ) → x % 2 ^ n ≡ y % 2 ^ n → (k : ℕ) → k < n → bit k x ≡ bit k y
 unfolding bit
 bits-below n x y e k l = by (n - suc k) (omega arith)
   where

@@ -9,8 +9,8 @@ use borrow.Author.Tests.{not-true, not-false}
 use Rattle.model.specs.declared.Answer.the-variants.{Refused}
 use Rattle.model.specs.declared.Called.{Called}
 use Rattle.model.specs.Keeps.{Guard, running, inMode}
-use Rattle.model.specs.Questions.{Question, question, firstNo, View, seen, stateInOrder, syncPageQuestions, syncAllQuestions, fetchQuestions, writeQuestions, enterQuestions, leaveQuestions, deviceWriteQuestions}
-use Rattle.model.specs.Calls.{replyOf, settle, Outcome, outcomeBy, refusedOf, Call, syncPage, syncAll, fetch, write, enter, leave, deviceWrite, broughtBy, questionsOf, pageSynced, allSynced, switchTo, effectOf, answer}
+use Rattle.model.specs.Questions.{Question, question, firstNo, View, seen, stateInOrder, syncPageQuestions, syncAllQuestions, syncPageTreeQuestions, syncAllTreeQuestions, fetchQuestions, writeQuestions, enterQuestions, leaveQuestions, deviceWriteQuestions}
+use Rattle.model.specs.Calls.{replyOf, settle, Outcome, outcomeBy, refusedOf, Call, syncPage, syncAll, syncPageTree, syncAllTree, fetch, write, enter, leave, deviceWrite, broughtBy, questionsOf, pageSynced, allSynced, pageFrom, allFrom, switchTo, effectOf, answer}
 use Rattle.model.proofs.QuestionLaws.{firstNo-yes, firstNo-no, settle-accepted}
 use Rattle.model.proofs.StateLaws.{running-modeOf, state-no}
 use Rattle.model.proofs.AcceptedLaws.{fetch-page, enter-page, leave-page}
@@ -49,9 +49,11 @@ module _ (g : Guard) (call : Call) where
 
 -- A state that is not in order: every call refuses it with 7, whatever else it asks.
 pub state-refused : (v : View) (call : Call) → v .stateFits ≡ false → firstNo (questionsOf v call) ≡ 7
-unfolding questionsOf syncPageQuestions syncAllQuestions fetchQuestions writeQuestions enterQuestions leaveQuestions deviceWriteQuestions
+unfolding questionsOf syncPageQuestions syncAllQuestions syncPageTreeQuestions syncAllTreeQuestions fetchQuestions writeQuestions enterQuestions leaveQuestions deviceWriteQuestions
 state-refused v (syncPage kernel page) p = firstNo-no 7 _ (state-no _ _ p)
 state-refused v (syncAll kernel) p = firstNo-no 7 _ (state-no _ _ p)
+state-refused v (syncPageTree tree page) p = firstNo-no 7 _ (state-no _ _ p)
+state-refused v (syncAllTree tree) p = firstNo-no 7 _ (state-no _ _ p)
 state-refused v (fetch page) p = firstNo-no 7 _ (state-no _ _ p)
 state-refused v (write address length) p = firstNo-no 7 _ (state-no _ _ p)
 state-refused v (enter index) p = firstNo-no 7 _ (state-no _ _ p)
@@ -60,9 +62,11 @@ state-refused v (deviceWrite address length) p = firstNo-no 7 _ (state-no _ _ p)
 
 -- An accepted call has no number, and says that it is allowed.
 pub effect-reply : (g : Guard) (call : Call) → ((effectOf g call) .reply .number ≡ 0) × ((effectOf g call) .reply .allowed ≡ true)
-unfolding effectOf pageSynced allSynced switchTo
+unfolding effectOf pageFrom allFrom pageSynced allSynced switchTo
 effect-reply g (syncPage kernel page) = (refl, refl)
 effect-reply g (syncAll kernel) = (refl, refl)
+effect-reply g (syncPageTree tree page) = (refl, refl)
+effect-reply g (syncAllTree tree) = (refl, refl)
 effect-reply g (fetch page) = (refl, refl)
 effect-reply g (write address length) = (refl, refl)
 effect-reply g (enter index) = (refl, refl)
@@ -71,9 +75,11 @@ effect-reply g (deviceWrite address length) = (refl, refl)
 
 -- An accepted call changes the mode of the state alone, and a page that runs then is below V, where one ran below V before.
 pub effect-state : (g : Guard) (call : Call) → effectOf g call .guard .state ≡ inMode (g .state) (effectOf g call .guard .state .mode)
-unfolding effectOf pageSynced allSynced switchTo inMode
+unfolding effectOf pageFrom allFrom pageSynced allSynced switchTo inMode
 effect-state g (syncPage kernel page) = refl
 effect-state g (syncAll kernel) = refl
+effect-state g (syncPageTree tree page) = refl
+effect-state g (syncAllTree tree) = refl
 effect-state g (fetch page) = refl
 effect-state g (write address length) = refl
 effect-state g (enter index) = refl
@@ -82,9 +88,11 @@ effect-state g (deviceWrite address length) = refl
 
 pub effect-runs : (g : Guard) (call : Call) (limit : ℕ) → g .state .pages ≤ limit → running (g .state .mode) < limit
     → firstNo (questionsOf (seen g) call) ≡ 0 → running (effectOf g call .guard .state .mode) < limit
-unfolding questionsOf effectOf pageSynced allSynced switchTo inMode running
+unfolding questionsOf effectOf pageFrom allFrom pageSynced allSynced switchTo inMode running
 effect-runs g (syncPage kernel page) limit few now passed = now
 effect-runs g (syncAll kernel) limit few now passed = now
+effect-runs g (syncPageTree tree page) limit few now passed = now
+effect-runs g (syncAllTree tree) limit few now passed = now
 effect-runs g (fetch page) limit few now passed = rw running-modeOf (let b : page < g .state .pages = fetch-page (seen g) page passed in omega arith)
 effect-runs g (write address length) limit few now passed = now
 effect-runs g (enter index) limit few now passed = let b : getD (g .state .«entry_pages») index 0 < g .state .pages = enter-page (seen g) index passed in omega arith

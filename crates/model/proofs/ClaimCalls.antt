@@ -13,16 +13,17 @@ use Rattle.model.specs.declared.Mode.{Mode}
 use Rattle.model.specs.declared.Mode.the-variants.{Kernel, User}
 use Rattle.model.specs.Keeps.{none, withShadow, withMap, Guard, guardOf, inUser, running, modeOf, inMode}
 use Rattle.model.specs.Policy.{Policy}
+use Rattle.model.specs.Tree.{flatAt}
 use Rattle.model.specs.Sync.{Slot, step, entryIn, stepFrom, Sweep, sweepFrom}
 use Rattle.model.specs.Switch.{switchedAll}
-use Rattle.model.specs.Calls.{Call, syncPage, syncAll, fetch, write, enter, leave, deviceWrite, questionsOf, rulesOf, pageSynced, allSynced, switchTo, effectOf}
-use Rattle.model.specs.OnePage.{synchronised, nothing, seenBy, settled, stepped, switchedPage, told, news}
+use Rattle.model.specs.Calls.{Call, syncPage, syncAll, syncPageTree, syncAllTree, fetch, write, enter, leave, deviceWrite, questionsOf, rulesOf, pageSynced, allSynced, pageFrom, allFrom, switchTo, effectOf}
+use Rattle.model.specs.OnePage.{synchronised, nothing, seenBy, settled, stepped, switchedPage, told, newsOfOne, newsOfAll, news}
 use Rattle.model.specs.Claim.{Carried, carriedAfter}
 use Rattle.model.proofs.StateLaws.{inUser-modeOf, running-modeOf, state-parts, frames-few, mode-fits}
 use Rattle.model.proofs.ClaimPages.{Good, told-good}
 use Rattle.model.proofs.SweepLaws.{sweep-shadow-length, sweep-map-length, sweep-at}
 use Rattle.model.proofs.SwitchLaws.{length-switched, switched-at}
-use Rattle.model.proofs.AcceptedLaws.{syncPage-page, fetch-page, enter-page, leave-page}
+use Rattle.model.proofs.AcceptedLaws.{syncPage-page, syncPageTree-page, fetch-page, enter-page, leave-page}
 use Rattle.model.proofs.ClaimKept.{Kept, pageOf}
 
 module _ (policy : Policy) (carried : Carried) (g : Guard) (h : Kept policy carried g) where
@@ -44,55 +45,56 @@ module _ (policy : Policy) (carried : Carried) (g : Guard) (h : Kept policy carr
       let approval′ : getD map p none ≡ none = List·getD-eq-default map none (omega arith) in
       rw (entry, approval, entry′, approval′) refl
 
-  -- The page of a synchronise, and every other page.
-  syncPage-here : (kernel : List ℕ) (page : ℕ) → page < policy .pages
-      → stepped policy (pageOf g page) (entryIn kernel page) ≡ pageOf ((effectOf g (syncPage kernel page)) .guard) page
-  unfolding effectOf pageSynced stepFrom
-  syncPage-here kernel page below =
-      let after : Guard = (effectOf g (syncPage kernel page)) .guard in
-      stepped-at (after .tables .shadow) (after .tables .map) page (entryIn kernel page) (getD-set-same (g .tables .shadow) page _ 0 (omega (arith, h .shadowLength)))
-      (getD-set-same (g .tables .map) page _ none (omega (arith, h .mapLength)))
+  -- Of what gives each page its kernel entry: the page of a synchronise, and every other page.
+  module _ (kernel : ℕ → ℕ) where
+    one-here : (page : ℕ) → page < policy .pages → stepped policy (pageOf g page) (kernel page) ≡ pageOf ((pageFrom g kernel page) .guard) page
+    unfolding pageFrom pageSynced stepFrom
+    one-here page below =
+        let after : Guard = (pageFrom g kernel page) .guard in
+        stepped-at (after .tables .shadow) (after .tables .map) page (kernel page) (getD-set-same (g .tables .shadow) page _ 0 (omega (arith, h .shadowLength)))
+        (getD-set-same (g .tables .map) page _ none (omega (arith, h .mapLength)))
 
-  syncPage-other : (kernel : List ℕ) (page p : ℕ) → (p ≡ page → ⊥) → pageOf g p ≡ pageOf ((effectOf g (syncPage kernel page)) .guard) p
-  unfolding effectOf pageSynced stepFrom
-  syncPage-other kernel page p other = rw (getD-set-other (g .tables .shadow) page p _ 0 other, getD-set-other (g .tables .map) page p _ none other)
+    one-other : (page p : ℕ) → (p ≡ page → ⊥) → pageOf g p ≡ pageOf ((pageFrom g kernel page) .guard) p
+    unfolding pageFrom pageSynced stepFrom
+    one-other page p other = rw (getD-set-other (g .tables .shadow) page p _ 0 other, getD-set-other (g .tables .map) page p _ none other)
 
-  syncPage-commutes : (kernel : List ℕ) (page : ℕ) → page < policy .pages → (p : ℕ)
-      → told policy (pageOf g p) (news policy p (syncPage kernel page)) ≡ pageOf ((effectOf g (syncPage kernel page)) .guard) p
-  unfolding news told
-  syncPage-commutes kernel page below p = at (eqb p page) refl
-    where
-      at : (b : Bool) → eqb p page ≡ b
-          → told policy (pageOf g p) (cond b (synchronised (entryIn kernel p)) nothing) ≡ pageOf ((effectOf g (syncPage kernel page)) .guard) p
-      at true e = rw (eqb-true p page e) (syncPage-here kernel page below)
-      at false e = syncPage-other kernel page p (eqb-false p page e)
+    one-commutes : (page : ℕ) → page < policy .pages → (p : ℕ)
+        → told policy (pageOf g p) (newsOfOne p kernel page) ≡ pageOf ((pageFrom g kernel page) .guard) p
+    unfolding newsOfOne told
+    one-commutes page below p = at (eqb p page) refl
+      where
+        at : (b : Bool) → eqb p page ≡ b
+            → told policy (pageOf g p) (cond b (synchronised (kernel p)) nothing) ≡ pageOf ((pageFrom g kernel page) .guard) p
+        at true e = rw (eqb-true p page e) (one-here page below)
+        at false e = one-other page p (eqb-false p page e)
 
-  syncAll-commutes : (kernel : List ℕ) (p : ℕ)
-      → told policy (pageOf g p) (news policy p (syncAll kernel)) ≡ pageOf ((effectOf g (syncAll kernel)) .guard) p
-  unfolding news told effectOf allSynced stepFrom
-  syncAll-commutes kernel p = at (ltb p (policy .pages)) refl
-    where
-      f : ℕ → ℕ → ℕ → Slot
-      f = stepFrom (rulesOf (g .state) (g .tables .exclusion)) (entryIn kernel)
+    all-commutes : (p : ℕ) → told policy (pageOf g p) (newsOfAll policy p kernel) ≡ pageOf ((allFrom g kernel) .guard) p
+    unfolding newsOfAll told allFrom allSynced stepFrom
+    all-commutes p = at (ltb p (policy .pages)) refl
+      where
+        f : ℕ → ℕ → ℕ → Slot
+        f = stepFrom (rulesOf (g .state) (g .tables .exclusion)) kernel
 
-      after : Sweep
-      after = sweepFrom f 0 (g .tables .shadow) (g .tables .map)
+        after : Sweep
+        after = sweepFrom f 0 (g .tables .shadow) (g .tables .map)
 
-      at : (b : Bool) → ltb p (policy .pages) ≡ b
-          → told policy (pageOf g p) (cond b (synchronised (entryIn kernel p)) nothing) ≡ pageOf ((effectOf g (syncAll kernel)) .guard) p
-      at true e =
-          let below : p < policy .pages = ltb-true p (policy .pages) e in
-          let there = rw add-zero at (sweep-at f 0 (g .tables .shadow) (g .tables .map) p 0 none (omega (arith, h .shadowLength)) (omega (arith, h .mapLength))) in
-          stepped-at (after .shadow) (after .map) p (entryIn kernel p) (there .0) (there .1)
-      at false e =
-          past-kept (after .shadow) (after .map) p (ltb-false p (policy .pages) e) (sweep-shadow-length f 0 (g .tables .shadow) (g .tables .map) ∙ h .shadowLength) (sweep-map-length f 0 (g .tables .shadow) (g .tables .map) ∙ h .mapLength)
+        at : (b : Bool) → ltb p (policy .pages) ≡ b
+            → told policy (pageOf g p) (cond b (synchronised (kernel p)) nothing) ≡ pageOf ((allFrom g kernel) .guard) p
+        at true e =
+            let below : p < policy .pages = ltb-true p (policy .pages) e in
+            let there = rw add-zero at (sweep-at f 0 (g .tables .shadow) (g .tables .map) p 0 none (omega (arith, h .shadowLength)) (omega (arith, h .mapLength))) in
+            stepped-at (after .shadow) (after .map) p (kernel p) (there .0) (there .1)
+        at false e =
+            past-kept (after .shadow) (after .map) p (ltb-false p (policy .pages) e) (sweep-shadow-length f 0 (g .tables .shadow) (g .tables .map) ∙ h .shadowLength) (sweep-map-length f 0 (g .tables .shadow) (g .tables .map) ∙ h .mapLength)
 
   -- Each accepted call, as the one-page guards are told of it.
   pub commutes : (call : Call) → settled policy (pageOf g) g call ≡ 0 → (p : ℕ)
       → told policy (pageOf g p) (news policy p call) ≡ pageOf ((effectOf g call) .guard) p
   unfolding news told settled questionsOf effectOf switchTo inMode inUser switchedPage
-  commutes (syncPage kernel page) passed p = syncPage-commutes kernel page (syncPage-page (seenBy policy (pageOf g) g) (length kernel) page passed) p
-  commutes (syncAll kernel) passed p = syncAll-commutes kernel p
+  commutes (syncPage kernel page) passed p = one-commutes (entryIn kernel) page (syncPage-page (seenBy policy (pageOf g) g) (length kernel) page passed) p
+  commutes (syncAll kernel) passed p = all-commutes (entryIn kernel) p
+  commutes (syncPageTree tree page) passed p = one-commutes (flatAt tree) page (syncPageTree-page (seenBy policy (pageOf g) g) tree page passed) p
+  commutes (syncAllTree tree) passed p = all-commutes (flatAt tree) p
   commutes (fetch page) passed p = rw inUser-modeOf
   commutes (write address size) passed p = refl
   commutes (enter index) passed p = rw switched-at
@@ -130,15 +132,26 @@ module _ (policy : Policy) (carried : Carried) (g : Guard) (h : Kept policy carr
   now-runs : running (g .state .mode) < policy .pages
   now-runs = rw (h .pages) at (state-parts (g .state) (h .fits) .running-below)
 
+  -- A synchronisation keeps it.
+  one-kept : (kernel : ℕ → ℕ) (page : ℕ) → ((p : ℕ) → Good (carried .code) (pageOf ((pageFrom g kernel page) .guard) p))
+      → Kept policy carried ((pageFrom g kernel page) .guard)
+  unfolding pageFrom pageSynced inMode
+  one-kept kernel page good =
+      kept-with (g .state .mode) _ _ now-runs (length-set (g .tables .shadow) page _ ∙ h .shadowLength) (length-set (g .tables .map) page _ ∙ h .mapLength) good
+
+  all-kept : (kernel : ℕ → ℕ) → ((p : ℕ) → Good (carried .code) (pageOf ((allFrom g kernel) .guard) p)) → Kept policy carried ((allFrom g kernel) .guard)
+  unfolding allFrom allSynced inMode
+  all-kept kernel good =
+      kept-with (g .state .mode) _ _ now-runs (sweep-shadow-length _ 0 (g .tables .shadow) (g .tables .map) ∙ h .shadowLength)
+      (sweep-map-length _ 0 (g .tables .shadow) (g .tables .map) ∙ h .mapLength) good
+
   -- Every accepted call keeps what always holds.
   pub kept : (call : Call) → settled policy (pageOf g) g call ≡ 0 → Kept policy (carriedAfter 0 call (pageOf g) carried) ((effectOf g call) .guard)
-  unfolding carriedAfter settled questionsOf effectOf pageSynced allSynced switchTo inMode running inUser
-  kept (syncPage kernel page) passed =
-      kept-with (g .state .mode) _ _ now-runs (length-set (g .tables .shadow) page _ ∙ h .shadowLength) (length-set (g .tables .map) page _ ∙ h .mapLength)
-      (good-after (syncPage kernel page) passed)
-  kept (syncAll kernel) passed =
-      kept-with (g .state .mode) _ _ now-runs (sweep-shadow-length _ 0 (g .tables .shadow) (g .tables .map) ∙ h .shadowLength)
-      (sweep-map-length _ 0 (g .tables .shadow) (g .tables .map) ∙ h .mapLength) (good-after (syncAll kernel) passed)
+  unfolding carriedAfter settled questionsOf effectOf pageFrom allFrom pageSynced allSynced switchTo inMode running inUser
+  kept (syncPage kernel page) passed = one-kept (entryIn kernel) page (good-after (syncPage kernel page) passed)
+  kept (syncAll kernel) passed = all-kept (entryIn kernel) (good-after (syncAll kernel) passed)
+  kept (syncPageTree tree page) passed = one-kept (flatAt tree) page (good-after (syncPageTree tree page) passed)
+  kept (syncAllTree tree) passed = all-kept (flatAt tree) (good-after (syncAllTree tree) passed)
   kept (fetch page) passed =
       kept-with (modeOf (inUser (g .state .mode)) page) (g .tables .shadow) (g .tables .map)
       (rw running-modeOf (fetch-page (seenBy policy (pageOf g) g) page passed)) (h .shadowLength) (h .mapLength) (good-after (fetch page) passed)

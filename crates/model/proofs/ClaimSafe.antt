@@ -11,7 +11,7 @@ use Rattle.model.specs.Keeps.{Guard, excludedIn}
 use Rattle.model.specs.Policy.{Policy}
 use Rattle.model.specs.Bits.{frameOf}
 use Rattle.model.specs.Questions.{free}
-use Rattle.model.specs.Calls.{Call, syncPage, syncAll, fetch, write, enter, leave, deviceWrite, questionsOf, effectOf}
+use Rattle.model.specs.Calls.{Call, syncPage, syncAll, syncPageTree, syncAllTree, fetch, write, enter, leave, deviceWrite, questionsOf, effectOf}
 use Rattle.model.specs.OnePage.{seenBy, settled}
 use Rattle.model.specs.Claim.{Carried, Clear, coveredBy, Safe}
 use Rattle.model.proofs.QuestionLaws.{both-first, both-second}
@@ -35,6 +35,8 @@ module _ (policy : Policy) (carried : Carried) (g : Guard) (h : Kept policy carr
   unfolding settled questionsOf effectOf coveredBy lastPage lastByte
   safe (syncPage kernel page) passed = tt
   safe (syncAll kernel) passed = tt
+  safe (syncPageTree tree page) passed = tt
+  safe (syncAllTree tree) passed = tt
   safe (fetch page) passed =
       record {
         first = refl;

@@ -14,6 +14,7 @@ pub mod TouchLaws
 pub mod AcceptedLaws
 pub mod SweepLaws
 pub mod SwitchLaws
+pub mod TreeLaws
 pub mod ClaimPages
 mod CacheLaws
 pub mod ClaimKept

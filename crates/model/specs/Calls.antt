@@ -14,9 +14,10 @@ use Rattle.model.specs.Edges.{pageBytes, lastPage}
 use Rattle.model.specs.Keeps.{none, Tables, withShadow, withMap, Guard, guardOf, excludedIn, inUser, modeOf, inMode}
 use Rattle.model.specs.Policy.{Givens, Policy, policyOf, startGuard, zeroState}
 use Rattle.model.specs.Bits.{frameOf}
+use Rattle.model.specs.Tree.{Tree, flatAt}
 use Rattle.model.specs.Sync.{Rules, rules, Slot, Sweep, sweepFrom, entryIn, stepFrom}
 use Rattle.model.specs.Switch.{switchedAll, changes}
-use Rattle.model.specs.Questions.{Question, firstNo, View, seen, lengthsOf, startQuestions, syncPageQuestions, syncAllQuestions, fetchQuestions, writeQuestions, enterQuestions, leaveQuestions, deviceWriteQuestions}
+use Rattle.model.specs.Questions.{Question, firstNo, View, seen, lengthsOf, startQuestions, syncPageQuestions, syncAllQuestions, syncPageTreeQuestions, syncAllTreeQuestions, fetchQuestions, writeQuestions, enterQuestions, leaveQuestions, deviceWriteQuestions}
 
 -- Whether a call was accepted; the number of the question that refused it, or 0; and the call's two numbers.
 pub record Reply : Type 0 where
@@ -78,10 +79,12 @@ startOf given bytes t =
     (refusedOf (guardOf zeroState t) nothingBrought)
 
 -- The other calls. "A list has synchronise one, synchronise all, fetch, write, enter, leave and device write calls [..] with any arguments".
--- "Each synchronising call brings a kernel table of any contents and length."
+-- "Each synchronising call brings a kernel table of any contents and length." K4 adds both synchronising calls from a tree, of any run, root and depth.
 pub data Call : Type 0 where
   syncPage : (kernel : List ℕ) (page : ℕ) → Call
   syncAll : (kernel : List ℕ) → Call
+  syncPageTree : (tree : Tree) (page : ℕ) → Call
+  syncAllTree : (tree : Tree) → Call
   fetch : (page : ℕ) → Call
   write : (address length : ℕ) → Call
   enter : (index : ℕ) → Call
@@ -96,6 +99,8 @@ broughtBy call = nothingBrought
 unfoldable pub questionsOf : View → Call → List Question
 questionsOf v (syncPage kernel page) = syncPageQuestions v (length kernel) page
 questionsOf v (syncAll kernel) = syncAllQuestions v (length kernel)
+questionsOf v (syncPageTree tree page) = syncPageTreeQuestions v tree page
+questionsOf v (syncAllTree tree) = syncAllTreeQuestions v tree
 questionsOf v (fetch page) = fetchQuestions v page
 questionsOf v (write address length) = writeQuestions v address length
 questionsOf v (enter index) = enterQuestions v index
@@ -118,21 +123,30 @@ unfoldable pub allSynced : Guard → Sweep → Outcome
 allSynced g r =
     outcome (accepted (r .changed) (r .joined)) (guardOf (g .state) (withShadow (r .shadow) (withMap (r .map) (g .tables))))
 
+-- Both, of what gives each page its kernel entry.
+unfoldable pub pageFrom : Guard → (ℕ → ℕ) → ℕ → Outcome
+pageFrom g kernel page =
+    pageSynced g page
+    (stepFrom (rulesOf (g .state) (g .tables .exclusion)) kernel page (getD (g .tables .shadow) page 0) (getD (g .tables .map) page none))
+
+unfoldable pub allFrom : Guard → (ℕ → ℕ) → Outcome
+allFrom g kernel =
+    allSynced g (sweepFrom (stepFrom (rulesOf (g .state) (g .tables .exclusion)) kernel) 0 (g .tables .shadow) (g .tables .map))
+
 -- "Both switch the mode, run that page, and give the count of changed shadow entries and 0."
 unfoldable pub switchTo : Guard → Mode → Outcome
 switchTo g mode =
     let after : List ℕ = switchedAll (inUser mode) (g .tables .shadow) in
     outcome (accepted (changes (g .tables .shadow) after) 0) (guardOf (inMode (g .state) mode) (withShadow after (g .tables)))
 
--- What each call gives where no question refuses it.
+-- What each call gives where no question refuses it. A tree gives each page the flat entry of its walk.
 -- "Fetch a page: its frame, twice; that page is now running." The mode stays.
 -- "Write at an address, 1 to 16 bytes: first and last frame." "Device write at an address, 1 to 1,048,576 bytes: first and last frame."
 unfoldable pub effectOf : Guard → Call → Outcome
-effectOf g (syncPage kernel page) =
-    pageSynced g page
-    (stepFrom (rulesOf (g .state) (g .tables .exclusion)) (entryIn kernel) page (getD (g .tables .shadow) page 0) (getD (g .tables .map) page none))
-effectOf g (syncAll kernel) =
-    allSynced g (sweepFrom (stepFrom (rulesOf (g .state) (g .tables .exclusion)) (entryIn kernel)) 0 (g .tables .shadow) (g .tables .map))
+effectOf g (syncPage kernel page) = pageFrom g (entryIn kernel) page
+effectOf g (syncAll kernel) = allFrom g (entryIn kernel)
+effectOf g (syncPageTree tree page) = pageFrom g (flatAt tree) page
+effectOf g (syncAllTree tree) = allFrom g (flatAt tree)
 effectOf g (fetch page) =
     let frame : ℕ = frameOf (getD (g .tables .shadow) page 0) in
     outcome (accepted frame frame) (guardOf (inMode (g .state) (modeOf (inUser (g .state .mode)) page)) (g .tables))

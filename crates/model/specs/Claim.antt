@@ -9,7 +9,7 @@ use Rattle.model.specs.Edges.{pageBytes}
 use Rattle.model.specs.Keeps.{none, Tables, Guard, vectorBytes, inUser}
 use Rattle.model.specs.Policy.{Givens, Policy, policyOf, named}
 use Rattle.model.specs.Bits.{frameOf}
-use Rattle.model.specs.Calls.{Reply, Outcome, startOf, Call, syncPage, syncAll, fetch, write, enter, leave, deviceWrite, answer}
+use Rattle.model.specs.Calls.{Reply, Outcome, startOf, Call, syncPage, syncAll, syncPageTree, syncAllTree, fetch, write, enter, leave, deviceWrite, answer}
 use Rattle.model.specs.OnePage.{Page, firstPage, settled, pagesAfter}
 
 -- After the start and after every call: the tables have their lengths, "the state agrees on kernel or user", and each page's shadow entry
@@ -67,6 +67,8 @@ pub record DeviceWriteSafe (policy : Policy) (carried : Carried) (address size :
 abbrev pub Safe : Policy → Carried → (ℕ → Page) → Call → Reply → Type 0
 Safe policy carried ps (syncPage kernel page) reply = Unit {0}
 Safe policy carried ps (syncAll kernel) reply = Unit {0}
+Safe policy carried ps (syncPageTree tree page) reply = Unit {0}
+Safe policy carried ps (syncAllTree tree) reply = Unit {0}
 Safe policy carried ps (fetch page) reply = FetchSafe carried ps page reply
 Safe policy carried ps (write address size) reply = WriteSafe policy carried ps address size reply
 Safe policy carried ps (enter index) reply = Unit {0}

@@ -5,11 +5,13 @@ pub mod Edges
 pub mod Keeps
 pub mod Policy
 pub mod Bits
+pub mod Tree
 pub mod Sync
 pub mod Switch
 pub mod Calls
 pub mod Questions
 pub mod Record
+pub mod Walks
 pub mod Cache
 pub mod OnePage
 pub mod Claim
@@ -18,5 +20,6 @@ pub mod Cases
 pub mod Further
 pub mod Orders
 pub mod RecordCases
+pub mod TreeCases
 pub mod Worked
 pub mod DrillCases

@@ -9,10 +9,11 @@ use Rattle.model.specs.Basics.{member}
 use Rattle.model.specs.Keeps.{none, Guard}
 use Rattle.model.specs.Policy.{Policy, named, entryPages}
 use Rattle.model.specs.Bits.{approved}
+use Rattle.model.specs.Tree.{flatAt}
 use Rattle.model.specs.Sync.{rules, Slot, step, entryIn}
 use Rattle.model.specs.Switch.{switched}
 use Rattle.model.specs.Questions.{View, firstNo}
-use Rattle.model.specs.Calls.{settle, Call, syncPage, syncAll, fetch, write, enter, leave, deviceWrite, questionsOf}
+use Rattle.model.specs.Calls.{settle, Call, syncPage, syncAll, syncPageTree, syncAllTree, fetch, write, enter, leave, deviceWrite, questionsOf}
 
 -- "The one-page guard of a page p holds a mode (kernel or user alone, with no running page), an entry and an approval." It keeps its own
 -- set of excluded frames, which are the policy's in the base.
@@ -68,11 +69,20 @@ told policy page entered = switchedPage false page
 told policy page exited = switchedPage true page
 told policy page nothing = page
 
--- What an accepted call tells the one-page guard of p. "Synchronising another page only, fetch, write, device write [..]: no change." All pages
--- are those below V.
+-- What a synchronisation of one page and one of all tell it, of what gives each page its kernel entry. All pages are those below V.
+unfoldable pub newsOfOne : ℕ → (ℕ → ℕ) → ℕ → News
+newsOfOne p kernel page = cond (eqb p page) (synchronised (kernel p)) nothing
+
+unfoldable pub newsOfAll : Policy → ℕ → (ℕ → ℕ) → News
+newsOfAll policy p kernel = cond (ltb p (policy .pages)) (synchronised (kernel p)) nothing
+
+-- What an accepted call tells the one-page guard of p. "Synchronising another page only, fetch, write, device write [..]: no change." K4: a tree
+-- tells it the flat entry of its own walk.
 unfoldable pub news : Policy → ℕ → Call → News
-news policy p (syncPage kernel page) = cond (eqb p page) (synchronised (entryIn kernel p)) nothing
-news policy p (syncAll kernel) = cond (ltb p (policy .pages)) (synchronised (entryIn kernel p)) nothing
+news policy p (syncPage kernel page) = newsOfOne p (entryIn kernel) page
+news policy p (syncAll kernel) = newsOfAll policy p (entryIn kernel)
+news policy p (syncPageTree tree page) = newsOfOne p (flatAt tree) page
+news policy p (syncAllTree tree) = newsOfAll policy p (flatAt tree)
 news policy p (fetch page) = nothing
 news policy p (write address length) = nothing
 news policy p (enter index) = entered

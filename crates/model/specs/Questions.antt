@@ -9,6 +9,7 @@ use Rattle.model.specs.Basics.{both, either, within, everyFrom}
 use Rattle.model.specs.Edges.{pageBytes, pagesInRange, framesInRange, lastByte, lastPage, touched}
 use Rattle.model.specs.Keeps.{none, Tables, Guard, vectorBytes, excludedIn, inUser, running}
 use Rattle.model.specs.Policy.{Policy, Givens}
+use Rattle.model.specs.Tree.{Tree, treeInOrder}
 use Rattle.model.specs.Bits.{present, writable, userBit, noExecute, kernelNoExecute, approvedMark, frameOf}
 
 -- A question with its number, and whether its answer is yes.
@@ -141,6 +142,20 @@ syncAllQuestions v kernelLength =
 unfoldable pub syncPageQuestions : View → ℕ → ℕ → List Question
 syncPageQuestions v kernelLength page =
     question 7 (inOrder (v .stateFits) (eqb kernelLength (v .pages) ∷ v .shadowFits ∷ v .mapFits ∷ v .exclusionFits ∷ []))
+    ∷ question 9 (ltb page (v .pages))
+    ∷ []
+
+-- The same from a tree (K4). No kernel table is lent; "17, after question 7".
+unfoldable pub syncAllTreeQuestions : View → Tree → List Question
+syncAllTreeQuestions v tree =
+    question 7 (inOrder (v .stateFits) (v .shadowFits ∷ v .mapFits ∷ v .exclusionFits ∷ []))
+    ∷ question 17 (treeInOrder tree)
+    ∷ []
+
+unfoldable pub syncPageTreeQuestions : View → Tree → ℕ → List Question
+syncPageTreeQuestions v tree page =
+    question 7 (inOrder (v .stateFits) (v .shadowFits ∷ v .mapFits ∷ v .exclusionFits ∷ []))
+    ∷ question 17 (treeInOrder tree)
     ∷ question 9 (ltb page (v .pages))
     ∷ []
 

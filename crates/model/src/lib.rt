@@ -12,6 +12,8 @@ ghost use Rattle.model.specs.Further.{startCases, syncCases, orderCases,
 ghost use Rattle.model.specs.Orders.{startOrder, callOrder};
 ghost use Rattle.model.specs.Record.{WrittenStarts, WrittenAgain};
 ghost use Rattle.model.specs.RecordCases.{recordCases};
+ghost use Rattle.model.specs.TreeCases.{walkCases, walkRefusals, treeCases};
+ghost use Rattle.model.specs.Walks.{ReadsWithin, TreeAsFlat, TreeRefused};
 ghost use Rattle.model.specs.Worked.{workedInput, workedOutput};
 
 // Document 01, "The guard and its edges": the size of a page in bytes, and the most that V and F may be.
@@ -117,6 +119,21 @@ pub fn written_again()
 // switch keeps them.
 pub fn cache_bits()
     ensures { λ _. ⌜ ApartYields × OrdinaryCarries × StepCarries × SwitchKeeps ⌝ }
+{}
+
+// Document 02, K4: what walks give, and what synchronising from a tree gives.
+pub fn tree_cases()
+    ensures { λ _. ⌜ Hold walkCases × Hold walkRefusals × Hold treeCases ⌝ }
+{}
+
+// Document 02, K4: "the count of entries read, never above the depth".
+pub fn reads_within_depth()
+    ensures { λ _. ⌜ ReadsWithin ⌝ }
+{}
+
+// Document 02, K4: "synchronising from a tree equals doing so from the flat table of its walks", or it refuses with 7 or 17.
+pub fn tree_as_flat()
+    ensures { λ _. ⌜ TreeAsFlat × TreeRefused ⌝ }
 {}
 
 // Document 01, the worked example: every byte of its output follows from the drill's definitions.

@@ -161,17 +161,24 @@ pub fn start_in_order(pages: u16, frames: u16, shadow: usize, map: usize, exclus
     )
 }
 
+// Question 7 of a synchronisation from a tree, which is lent no kernel table.
+pub fn tree_sync_in_order(s: State, shadow: usize, map: usize, exclusion: usize) -> bool
+    ensures { λ r. ⌜ r ≡ inOrder (stateInOrder s) (eqb shadow (s .pages) ∷ eqb map (s .pages) ∷ eqb exclusion (vectorBytes (s .frames)) ∷ []) ⌝ }
+{
+    let tables = both(vector_fits(exclusion, s.frames), state_in_order(s));
+    both(
+        entries_fit(shadow, s.pages),
+        both(entries_fit(map, s.pages), tables),
+    )
+}
+
 // Question 7 of synchronise one and all.
 pub fn sync_in_order(s: State, kernel: usize, shadow: usize, map: usize, exclusion: usize) -> bool
     ensures { λ r. ⌜ r ≡ inOrder (stateInOrder s) (eqb kernel (s .pages) ∷ eqb shadow (s .pages) ∷ eqb map (s .pages) ∷ eqb exclusion (vectorBytes (s .frames)) ∷ []) ⌝ }
 {
-    let tables = both(vector_fits(exclusion, s.frames), state_in_order(s));
     both(
         entries_fit(kernel, s.pages),
-        both(
-            entries_fit(shadow, s.pages),
-            both(entries_fit(map, s.pages), tables),
-        ),
+        tree_sync_in_order(s, shadow, map, exclusion),
     )
 }
 

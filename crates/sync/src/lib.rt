@@ -1,19 +1,26 @@
 // Document 01, "Synchronising one page", and the same for all pages.
-// One page's step reads an entry and no table, and the loop goes over parts of equal length, so that both serve further calls.
+// One page's step reads an entry and no table, and the loop goes over tables of equal length, so that both serve further calls.
+// Document 02, K4: both calls from a tree differ from those from a flat table in where an entry is read, and in their questions.
 
 use model::Answer;
 use model::Entry;
 use model::NONE;
 use model::State;
+use tree::Below;
+use tree::Part;
 ghost use mathlib.Core.Path.{_≡_};
-ghost use Prim.Native.Nat.{_+_, _<_, _≤_};
+ghost use Prim.Native.Nat.{_+_, _%_, _<_, _≤_};
 ghost use lib.ListN.{length, getD, set};
 ghost use Rattle.model.specs.Basics.{differs};
 ghost use Rattle.model.specs.Keeps.{Tables, withThree, guardOf, vectorBytes};
 ghost use Rattle.model.specs.Sync;
-ghost use Rattle.model.specs.Sync.{slot, sweep, sweepFrom, entryIn, stepFrom};
-ghost use Rattle.model.specs.Calls.{keptBy, syncPage, syncAll, answer};
-ghost use Rattle.sync.specs.Steps.{rulesBy, stored};
+ghost use Rattle.model.specs.Tree.{treeOf};
+ghost use Rattle.model.specs.Sync.{slot, sweep, sweepFrom, stepFrom};
+ghost use Rattle.model.specs.Calls.{keptBy, syncPage, syncAll, syncPageTree, syncAllTree, answer};
+ghost use Rattle.sync.specs.Steps.{rulesBy, stored, kernelBy, Readable, Covers, Serves};
+
+// The pages that share every entry of a tree above level 1.
+const PART: usize = 512;
 
 // A page's shadow entry and its number in the map.
 struct Slot {
@@ -110,30 +117,130 @@ fn sync_at(
     Counts { changed, joined }
 }
 
-// Every page of parts of one length, in rising order. The lengths are asked for since question 7 has settled them in every caller.
+// Where kernel entries are read: in a flat table, or down a tree with this root and depth.
+enum Source {
+    Flat,
+    Tree(u64, u64),
+}
+
+// How a tree goes on for the 512 pages around this one. A flat table needs no part.
+fn part_at(source: Source, words: &[u64], page: usize) -> Part
+    requires { ⌜ Readable source (now words) page ⌝ }
+    ensures { λ r. ⌜ Serves source (now (words .entry)) r page ⌝ }
+{
+    match source {
+        Source::Flat => Part {
+            below: Below::Nowhere,
+            all: 0,
+            any: 0,
+            reads: 0,
+        },
+        Source::Tree(root, depth) => tree::part_of(words, root, depth, page as u64),
+    }
+}
+
+// That for a page of a loop: the part so far serves up to the next page whose low nine bits are 0.
+fn part_now(source: Source, words: &[u64], part: Part, page: usize) -> Part
+    requires { ⌜ Readable source (now words) page × ((page % 512 ≡ 0 → ⊥) → Serves source (now words) part page) ⌝ }
+    ensures { λ r. ⌜ Serves source (now (words .entry)) r page ⌝ }
+{
+    if page % PART == 0 {
+        return part_at(source, words, page);
+    }
+    part
+}
+
+// The kernel entry of a page that the part serves.
+fn kernel_entry(source: Source, words: &[u64], part: Part, page: usize) -> u64
+    requires { ⌜ Readable source (now words) page × Serves source (now words) part page ⌝ }
+    ensures { λ r. ⌜ r ≡ kernelBy source (now (words .entry)) page ⌝ }
+{
+    match source {
+        Source::Flat => words[page],
+        Source::Tree(root, depth) => tree::flat_in(words, part, page as u64),
+    }
+}
+
+// Every page, in rising order. What is asked for question 7, and of a tree question 17, have settled in every caller.
 fn sync_pages(
     user: bool,
     frames: u16,
     exclusion: &[u8],
-    kernel: &[u64],
+    source: Source,
+    words: &[u64],
     shadow: &mut [u64],
     map: &mut [u16],
 ) -> Counts
-    requires { ⌜ (length (now shadow) ≡ length (now kernel)) × (length (now map) ≡ length (now kernel))
+    requires { ⌜ Covers source (now words) (length (now shadow)) × (length (now map) ≡ length (now shadow))
         × (length (now exclusion) ≡ vectorBytes frames) ⌝ }
     ensures { λ r. ⌜ sweep (now (shadow .exit)) (now (map .exit)) (r .changed) (r .joined)
-        ≡ sweepFrom (stepFrom (rulesBy user frames (now (exclusion .entry))) (entryIn (now (kernel .entry)))) 0 (now (shadow .entry)) (now (map .entry)) ⌝ }
+        ≡ sweepFrom (stepFrom (rulesBy user frames (now (exclusion .entry))) (kernelBy source (now (words .entry)))) 0 (now (shadow .entry)) (now (map .entry)) ⌝ }
 {
     let mut counts = Counts {
         changed: 0,
         joined: 0,
     };
+    let mut part = Part {
+        below: Below::Nowhere,
+        all: 0,
+        any: 0,
+        reads: 0,
+    };
     let mut i = 0;
-    while i < kernel.len() {
-        counts = sync_at(user, frames, exclusion, kernel[i], shadow, map, i, counts);
+    while i < shadow.len() {
+        part = part_now(source, words, part, i);
+        let entry = kernel_entry(source, words, part, i);
+        counts = sync_at(user, frames, exclusion, entry, shadow, map, i, counts);
         i += 1;
     }
     counts
+}
+
+// Each mode has its own loop, which then asks nothing of the mode.
+fn sync_each(
+    user: bool,
+    frames: u16,
+    exclusion: &[u8],
+    source: Source,
+    words: &[u64],
+    shadow: &mut [u64],
+    map: &mut [u16],
+) -> Counts
+    requires { ⌜ Covers source (now words) (length (now shadow)) × (length (now map) ≡ length (now shadow))
+        × (length (now exclusion) ≡ vectorBytes frames) ⌝ }
+    ensures { λ r. ⌜ sweep (now (shadow .exit)) (now (map .exit)) (r .changed) (r .joined)
+        ≡ sweepFrom (stepFrom (rulesBy user frames (now (exclusion .entry))) (kernelBy source (now (words .entry)))) 0 (now (shadow .entry)) (now (map .entry)) ⌝ }
+{
+    if user {
+        return sync_pages(true, frames, exclusion, source, words, shadow, map);
+    }
+    sync_pages(false, frames, exclusion, source, words, shadow, map)
+}
+
+// One page. It asks that both tables have it.
+fn sync_one(
+    user: bool,
+    frames: u16,
+    exclusion: &[u8],
+    source: Source,
+    words: &[u64],
+    shadow: &mut [u64],
+    map: &mut [u16],
+    page: usize,
+) -> Counts
+    requires { ⌜ Readable source (now words) page × (page < length (now shadow)) × (page < length (now map))
+        × (length (now exclusion) ≡ vectorBytes frames) ⌝ }
+    ensures { λ r. ⌜ sweep (now (shadow .exit)) (now (map .exit)) (r .changed) (r .joined)
+        ≡ stored page (sweep (now (shadow .entry)) (now (map .entry)) 0 0)
+        (Sync.step (rulesBy user frames (now (exclusion .entry))) (kernelBy source (now (words .entry)) page) (getD (now (map .entry)) page 0)) ⌝ }
+{
+    let part = part_at(source, words, page);
+    let entry = kernel_entry(source, words, part, page);
+    let none = Counts {
+        changed: 0,
+        joined: 0,
+    };
+    sync_at(user, frames, exclusion, entry, shadow, map, page, none)
 }
 
 // Synchronise one page.
@@ -155,21 +262,17 @@ pub fn sync_page(
     if !questions::page_exists(page, s.pages) {
         return Answer::Refused(9);
     }
-    let i = page as usize;
     let mode = s.mode;
-    let none = Counts {
-        changed: 0,
-        joined: 0,
-    };
-    let one = sync_at(
-        questions::in_user(mode),
+    let user = questions::in_user(mode);
+    let one = sync_one(
+        user,
         s.frames,
         exclusion,
-        kernel[i],
+        Source::Flat,
+        kernel,
         shadow,
         map,
-        i,
-        none,
+        page as usize,
     );
     Answer::Done(one.changed, one.joined)
 }
@@ -190,11 +293,80 @@ pub fn sync_all(
         return Answer::Refused(7);
     }
     let mode = s.mode;
-    // Each mode has its own loop, which then asks nothing of the mode.
-    if questions::in_user(mode) {
-        let all = sync_pages(true, s.frames, exclusion, kernel, shadow, map);
-        return Answer::Done(all.changed, all.joined);
+    let user = questions::in_user(mode);
+    let all = sync_each(user, s.frames, exclusion, Source::Flat, kernel, shadow, map);
+    Answer::Done(all.changed, all.joined)
+}
+
+// Synchronise one page from a tree.
+pub fn sync_page_tree(
+    s: State,
+    words: &[u64],
+    root: u64,
+    depth: u64,
+    shadow: &mut [u64],
+    map: &mut [u16],
+    exclusion: &[u8],
+    page: u64,
+) -> Answer
+    ensures { λ r. ⌜ ((t : Tables) → keptBy r s (withThree (now (shadow .exit)) (now (map .exit)) (now (exclusion .entry)) t)
+        ≡ answer (guardOf s (withThree (now (shadow .entry)) (now (map .entry)) (now (exclusion .entry)) t))
+        (syncPageTree (treeOf (now (words .entry)) root depth) page)) ⌝ }
+{
+    if !questions::tree_sync_in_order(s, shadow.len(), map.len(), exclusion.len()) {
+        return Answer::Refused(7);
     }
-    let all = sync_pages(false, s.frames, exclusion, kernel, shadow, map);
+    if !tree::in_order(words, root, depth) {
+        return Answer::Refused(17);
+    }
+    if !questions::page_exists(page, s.pages) {
+        return Answer::Refused(9);
+    }
+    let mode = s.mode;
+    let user = questions::in_user(mode);
+    let one = sync_one(
+        user,
+        s.frames,
+        exclusion,
+        Source::Tree(root, depth),
+        words,
+        shadow,
+        map,
+        page as usize,
+    );
+    Answer::Done(one.changed, one.joined)
+}
+
+// Synchronise all pages from a tree.
+pub fn sync_all_tree(
+    s: State,
+    words: &[u64],
+    root: u64,
+    depth: u64,
+    shadow: &mut [u64],
+    map: &mut [u16],
+    exclusion: &[u8],
+) -> Answer
+    ensures { λ r. ⌜ ((t : Tables) → keptBy r s (withThree (now (shadow .exit)) (now (map .exit)) (now (exclusion .entry)) t)
+        ≡ answer (guardOf s (withThree (now (shadow .entry)) (now (map .entry)) (now (exclusion .entry)) t))
+        (syncAllTree (treeOf (now (words .entry)) root depth))) ⌝ }
+{
+    if !questions::tree_sync_in_order(s, shadow.len(), map.len(), exclusion.len()) {
+        return Answer::Refused(7);
+    }
+    if !tree::in_order(words, root, depth) {
+        return Answer::Refused(17);
+    }
+    let mode = s.mode;
+    let user = questions::in_user(mode);
+    let all = sync_each(
+        user,
+        s.frames,
+        exclusion,
+        Source::Tree(root, depth),
+        words,
+        shadow,
+        map,
+    );
     Answer::Done(all.changed, all.joined)
 }

@@ -11,7 +11,7 @@ use Rattle.model.specs.declared.Mode.{Mode}
 use Rattle.model.specs.Basics.{both, table, member}
 use Rattle.model.specs.Keeps.{inUser, running, modeOf, stateOf}
 use Rattle.model.specs.Questions.{stateInOrder}
-use Rattle.model.specs.Calls.{Reply, settle, Call, syncPage, syncAll, fetch, write, enter, leave, deviceWrite}
+use Rattle.model.specs.Calls.{Reply, settle, Call, syncPage, syncAll, syncPageTree, syncAllTree, fetch, write, enter, leave, deviceWrite}
 
 -- The layout of a state run: V, F and e, the sixteen entry pages, kernel or user, the page now running.
 -- The proofs speak of a place by its name.
@@ -99,6 +99,8 @@ modePlaces = modeAt ∷ runningAt ∷ []
 abbrev pub changedBy : Call → List ℕ
 changedBy (syncPage kernel page) = []
 changedBy (syncAll kernel) = []
+changedBy (syncPageTree tree page) = []
+changedBy (syncAllTree tree) = []
 changedBy (fetch page) = pagePlaces
 changedBy (write address length) = []
 changedBy (enter index) = modePlaces

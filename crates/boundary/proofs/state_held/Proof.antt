@@ -10,7 +10,7 @@ use native.Mathlib.Omega.{arith}
 use Rattle.model.specs.declared.State.{State}
 use Rattle.model.specs.Keeps.{Tables, Guard, guardOf, running, modeOf, inMode}
 use Rattle.model.specs.Questions.{firstNo, seen}
-use Rattle.model.specs.Calls.{settle, Outcome, refusedOf, Call, syncPage, syncAll, fetch, write, enter, leave, deviceWrite, broughtBy, questionsOf, effectOf, answer, pageSynced, allSynced}
+use Rattle.model.specs.Calls.{settle, Outcome, refusedOf, Call, syncPage, syncAll, syncPageTree, syncAllTree, fetch, write, enter, leave, deviceWrite, broughtBy, questionsOf, effectOf, answer, pageSynced, allSynced, pageFrom, allFrom}
 use Rattle.model.proofs.StateLaws.{inUser-modeOf, running-modeOf}
 use Rattle.model.proofs.CallLaws.{effect-reply, effect-state, effect-runs}
 use Rattle.model.proofs.TableLaws.{length-table}
@@ -51,9 +51,11 @@ module _ (run : List ℕ) (t : Tables) where
     switched call small = mode-decoded run (after call) size (entries-long call) small ∙ sym (effect-state g call)
 
     words-hold : (call : Call) → running (after call .mode) < 65536 → stateIn (withWords run (after call) (changedBy call)) ≡ after call
-    unfolding withWords effectOf pageSynced allSynced
+    unfolding withWords effectOf pageFrom allFrom pageSynced allSynced
     words-hold (syncPage kernel page) small = refl
     words-hold (syncAll kernel) small = refl
+    words-hold (syncPageTree tree page) small = refl
+    words-hold (syncAllTree tree) small = refl
     words-hold (fetch page) small =
         page-decoded run (after (fetch page)) size (entries-long (fetch page)) small
         ∙ (ap (inMode (stateIn run)) (mode-stays page) ∙ sym (effect-state g (fetch page)))

@@ -1,4 +1,4 @@
--- `questions::sync_in_order` meets its contract.
+-- The same, of the kernel table too.
 use Rattle.model.specs.Questions.{inOrder}
 use borrow.Author.Needs.{needs}
 use Rattle.questions.proofs.sync_in_order.Statement.{statement}
@@ -11,6 +11,4 @@ returns c = cc
 pub sync-in-order-spec : {M : Type 1} → statement M
 sync-in-order-spec =
     tie.close
-    (tie.spec (λ c κs. search needs) (λ c κs. search needs) (λ c κs. search needs) (λ c κs. search needs)
-    (λ c κs. search needs) (λ c κs. search needs) (λ c κs. search needs) (λ c κs. search needs) (λ c κs. search needs)
-    returns)
+    (tie.spec (λ c κs. search needs) (λ c κs. search needs) (λ c κs. search needs) returns)

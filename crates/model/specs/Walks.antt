@@ -1,0 +1,43 @@
+-- Document 02, K4: the call that walks a page, and what ties a tree's calls to the walk and to the flat table.
+use Prim.Native.Nat.{ℕ, _≤_}
+use mathlib.Core.Bool.{Bool, true, false}
+use mathlib.Core.List.{List, [], _∷_}
+use mathlib.Core.Logic.{_⊎_}
+use mathlib.Core.Path.{_≡_}
+use Rattle.model.specs.Basics.{table}
+use Rattle.model.specs.Keeps.{Guard}
+use Rattle.model.specs.Tree.{Tree, treeInOrder, flatAt, readsAt}
+use Rattle.model.specs.Questions.{Question, question, firstNo}
+use Rattle.model.specs.Calls.{Reply, accepted, refused, settle, refusedOf, syncPage, syncAll, syncPageTree, syncAllTree, broughtBy, answer}
+
+-- The walk as a call is lent no state and no guard table: 7 asks whether the run for its numbers has its length, and is answered yes where it is lent
+-- none. There is no 9: a page past the depth's bits is absent.
+unfoldable pub walkQuestions : Bool → Tree → List Question
+walkQuestions numbersFit tree = question 7 numbersFit ∷ question 17 (treeInOrder tree) ∷ []
+
+-- "A page's walk gives its flat entry [..] and the count of entries read".
+unfoldable pub walkReply : Bool → Tree → ℕ → Reply
+walkReply numbersFit tree page = settle (firstNo (walkQuestions numbersFit tree)) (accepted (flatAt tree page) (readsAt tree page)) refused
+
+-- "the count of entries read, never above the depth".
+abbrev pub ReadsWithin : Type 0
+ReadsWithin = (tree : Tree) (page : ℕ) → readsAt tree page ≤ tree .depth
+
+-- "the flat table of its walks", of so many pages.
+unfoldable pub flatTable : Tree → ℕ → List ℕ
+flatTable tree pages = table pages (flatAt tree)
+
+-- "For every depth, synchronising from a tree equals doing so from the flat table of its walks": answer, both counts, state and tables, of one page
+-- and of all, where 17 is answered yes.
+abbrev pub TreeAsFlat : Type 0
+TreeAsFlat =
+    (g : Guard) (tree : Tree) → treeInOrder tree ≡ true
+    → ((page : ℕ) → answer g (syncPageTree tree page) ≡ answer g (syncPage (flatTable tree (g .state .pages)) page))
+    × (answer g (syncAllTree tree) ≡ answer g (syncAll (flatTable tree (g .state .pages))))
+
+-- And else 7 or 17, and nothing is changed.
+abbrev pub TreeRefused : Type 0
+TreeRefused =
+    (g : Guard) (tree : Tree) → treeInOrder tree ≡ false
+    → ((page : ℕ) → let call = syncPageTree tree page in (answer g call ≡ refusedOf g (broughtBy call) 7) ⊎ (answer g call ≡ refusedOf g (broughtBy call) 17))
+    × (let call = syncAllTree tree in (answer g call ≡ refusedOf g (broughtBy call) 7) ⊎ (answer g call ≡ refusedOf g (broughtBy call) 17))

@@ -1,0 +1,23 @@
+-- Questions 7 and 17 refuse, or the tree can be walked, the tables have one length and the vector its own.
+use Rattle.sync.proofs.SyncLaws.{all-tree-7, all-tree-17, tree-yes, tree-map, tree-vector, all-tree-accepted}
+use borrow.Author.Needs.{needs}
+use Rattle.sync.proofs.sync_all_tree.Statement.{statement}
+use Rattle.sync.proofs.sync_all_tree.Tie as tie
+
+returns : tie.Need-returns
+returns c = search (needs, all-tree-7)
+
+returns-2 : tie.Need-returns-2
+returns-2 c = search (needs, all-tree-17)
+
+sync-each-requires : tie.Need-sync-each-requires
+sync-each-requires c κs = (tree-yes _ _ _ _ (c .before .before .before .before .in-order .ensures) (c .before .before .before .if2 .left), search tree-map, search tree-vector)
+
+returns-3 : tie.Need-returns-3
+returns-3 c = search (needs, all-tree-accepted)
+
+pub sync-all-tree-spec : {M : Type 1} → statement M
+sync-all-tree-spec =
+    tie.close
+    (tie.spec (λ c κs. search needs) returns (λ c κs. search needs) returns-2 (λ c κs. search needs) sync-each-requires
+    (λ c. search needs) (λ c. search needs) returns-3)

@@ -1,0 +1,88 @@
+-- The walk's recursion, whose measure is the level: a law for each way out of a level.
+use Prim.Native.Nat.{ℕ, _+_, _-_, _*_, _/_, _%_, _^_, _<_}
+use native.Mathlib.Omega.{arith}
+use lib.ListN.{length}
+use Rattle.tree.proofs.WalkLaws.{gives-outside, gives-table, level-absent, level-3, level-2, level-misaligned, level-large, large-low, table-sound, met-in}
+use borrow.Author.Needs.{needs}
+use borrow.Fn.Kinds.{In}
+use borrow.Fn.PlainCycle.{Measures, is, falls, and}
+use Rattle.entry.proofs.take_apart.Reads as take-apart
+use Rattle.tree.proofs.part_from.Reads as part-from
+use Rattle.tree.proofs.part_from.Kinds as part-from-kinds
+use Rattle.tree.proofs.+part_from.Lts-part_from as lts
+use Rattle.tree.proofs.+part_from.{statement}
+use Rattle.tree.proofs.+part_from.Tie.{close}
+
+abbrev level : Measures 1 part-from-kinds.ps ℕ
+level κs a = a .1 .1 .0
+
+-- What a call is given at the level t, and what it asks of the call below.
+abbrev at : ℕ → In 1 part-from-kinds.ps
+at t = and 1 part-from-kinds.ps (is 1 part-from-kinds.ps level t) part-from.Pre
+
+abbrev below : ℕ → In 1 part-from-kinds.ps
+below t = and 1 part-from-kinds.ps (falls 1 part-from-kinds.ps _<_ level t) part-from.Pre
+
+module _ (t : ℕ) where
+  returns : lts.Need-returns (take-apart.Asked, take-apart.Learnt, below t, part-from.Post) (at t) part-from.Post
+  returns c = ((tt, omega arith), gives-outside _ _ _ _ _ _ _ (omega arith) (c .if1 .taken))
+
+  returns-2 : lts.Need-returns-2 (take-apart.Asked, take-apart.Learnt, below t, part-from.Post) (at t) part-from.Post
+  returns-2 c = ((table-sound _ _ (c .before .if1 .left), omega arith), gives-table _ _ _ _ _ _ _ (c .if2 .taken) (c .before .if1 .left))
+
+  mul-place : lts.Need-mul-place (take-apart.Asked, take-apart.Learnt, below t, part-from.Post) (at t) part-from.Post
+  mul-place c = omega arith
+
+  cast-place : lts.Need-cast-place (take-apart.Asked, take-apart.Learnt, below t, part-from.Post) (at t) part-from.Post
+  cast-place c = omega arith
+
+  shr-place : lts.Need-shr-place (take-apart.Asked, take-apart.Learnt, below t, part-from.Post) (at t) part-from.Post
+  shr-place c = omega arith
+
+  mul-entry : lts.Need-mul-entry (take-apart.Asked, take-apart.Learnt, below t, part-from.Post) (at t) part-from.Post
+  mul-entry c = omega arith
+
+  add-entry : lts.Need-add-entry (take-apart.Asked, take-apart.Learnt, below t, part-from.Post) (at t) part-from.Post
+  add-entry c =
+      let inside : c .before .before .before .args .number * 512 + c .before .before .before .args .page / 2 ^ (9 * (c .before .before .before .args .level - 1)) % 512 < length (c .before .before .before .args .words .now) = met-in _ _ (c .before .before .before .args .page / 2 ^ (9 * (c .before .before .before .args .level - 1))) (c .before .if1 .left) in
+      omega arith
+
+  mul-entry-2 : lts.Need-mul-entry-2 (take-apart.Asked, take-apart.Learnt, below t, part-from.Post) (at t) part-from.Post
+  mul-entry-2 c =
+      let inside : c .before .before .before .args .number * 512 + c .before .before .before .args .page / 2 ^ (9 * (c .before .before .before .args .level - 1)) % 512 < length (c .before .before .before .args .words .now) = met-in _ _ (c .before .before .before .args .page / 2 ^ (9 * (c .before .before .before .args .level - 1))) (c .before .if1 .left) in
+      omega arith
+
+  shared-slice-read-entry : lts.Need-shared-slice-read-entry (take-apart.Asked, take-apart.Learnt, below t, part-from.Post) (at t) part-from.Post
+  shared-slice-read-entry c = met-in _ _ (c .before .before .before .before .args .page / 2 ^ (9 * (c .before .before .before .before .args .level - 1))) (c .before .before .if1 .left)
+
+  add-reads : lts.Need-add-reads (take-apart.Asked, take-apart.Learnt, below t, part-from.Post) (at t) part-from.Post
+  add-reads c = omega arith
+
+  returns-3 : lts.Need-returns-3 (take-apart.Asked, take-apart.Learnt, below t, part-from.Post) (at t) part-from.Post
+  returns-3 c = ((tt, omega arith), level-absent _ _ _ _ _ _ _ _ (c .before .before .take-apart .ensures) (search needs) (omega arith) (omega arith) (search needs) (search needs))
+
+  part-from-requires : lts.Need-part-from-requires (take-apart.Asked, take-apart.Learnt, below t, part-from.Post) (at t) part-from.Post
+  part-from-requires c κs = (omega arith, omega arith)
+
+  returns-4 : lts.Need-returns-4 (take-apart.Asked, take-apart.Learnt, below t, part-from.Post) (at t) part-from.Post
+  returns-4 c = (search needs, level-3 _ _ _ _ _ _ _ _ (c .before .before .before .before .before .take-apart .ensures) (search needs) (c .before .before .before .x .given .0 .0) (search needs) _ (search needs) (c .part-from .ensures .1))
+
+  part-from-requires-2 : lts.Need-part-from-requires-2 (take-apart.Asked, take-apart.Learnt, below t, part-from.Post) (at t) part-from.Post
+  part-from-requires-2 c κs = (omega arith, omega arith)
+
+  returns-5 : lts.Need-returns-5 (take-apart.Asked, take-apart.Learnt, below t, part-from.Post) (at t) part-from.Post
+  returns-5 c = (search needs, level-2 _ _ _ _ _ _ _ _ (c .before .before .before .before .before .before .take-apart .ensures) (search needs) (c .before .before .before .before .x .given .0 .0) (search needs) (omega arith) _ (search needs) (c .part-from2 .ensures .1))
+
+  returns-6 : lts.Need-returns-6 (take-apart.Asked, take-apart.Learnt, below t, part-from.Post) (at t) part-from.Post
+  returns-6 c = ((tt, omega arith), level-misaligned _ _ _ _ _ _ _ _ (c .before .before .before .before .before .before .before .take-apart .ensures) (search needs) (c .before .before .before .before .before .x .given .0 .0) (search needs) (omega arith) (omega arith) (search needs))
+
+  returns-7 : lts.Need-returns-7 (take-apart.Asked, take-apart.Learnt, below t, part-from.Post) (at t) part-from.Post
+  returns-7 c = ((large-low _ _ (c .before .before .before .before .before .x .given .0 .0) (c .before .before .before .before .before .before .before .take-apart .ensures) (search needs) (search needs), omega arith), level-large _ _ _ _ _ _ _ _ (c .before .before .before .before .before .before .before .take-apart .ensures) (search needs) (c .before .before .before .before .before .x .given .0 .0) (search needs) (omega arith) (omega arith) (search needs))
+
+pub +part-from-spec : {M : Type 1} → statement M
++part-from-spec =
+    close level
+    (λ t. lts.spec (take-apart.Asked, take-apart.Learnt, below t, part-from.Post) (at t) part-from.Post (returns t) (returns-2 t)
+    (λ c. search needs) (mul-place t) (cast-place t) (shr-place t) (mul-entry t) (add-entry t) (mul-entry-2 t) (shared-slice-read-entry t)
+    (add-reads t) (λ c κs. search needs) (λ c. search needs) (λ c. search needs) (returns-3 t) (part-from-requires t) (returns-4 t)
+    (part-from-requires-2 t) (returns-5 t) (returns-6 t) (returns-7 t))

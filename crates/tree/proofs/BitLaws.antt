@@ -1,0 +1,161 @@
+-- The bits of rights gathered in words, of a flat entry and of a large page's entry.
+use Prim.Native.Nat.{ℕ, zero, suc, _+_, _*_, _/_, _%_, _^_, _<_, _≤_}
+use mathlib.Core.Bool.{Bool, true, false, cond}
+use mathlib.Core.Path.{_≡_, refl, sym, ap, ap₂, _∙_}
+use native.Mathlib.Omega.{arith}
+use lib.Bits.{bitAnd, bitOr, and-shr, or-shr, and-mod, or-mod, or-lt}
+use lib.Dec.{eqb}
+use Rattle.model.specs.declared.Entry.{Entry}
+use Rattle.model.specs.declared.Entry.the-variants.{Absent, Present}
+use Rattle.model.specs.declared.Fields.{Fields}
+use Rattle.model.specs.Basics.{both, either, bit, flag}
+use Rattle.model.specs.Bits.{present, writable, userBit, writeThrough, cacheDisable, noExecute, frameOf, fieldsOf, reserved, valid, takenApart}
+use Rattle.model.specs.Tree.{Rights, gathered, flatEntry}
+use Rattle.model.proofs.VectorLaws.{flag-weight, flag-bit}
+use Rattle.model.proofs.BitLaws.{bits-below, fields-apart}
+use Rattle.tree.specs.Parts.{rightsBy, lastFlat}
+
+-- A bit of what two words have together, and of what either has.
+bit-both : (k a b : ℕ) → bit k (bitAnd a b) ≡ both (bit k a) (bit k b)
+unfolding bit both
+bit-both k a b =
+    ap (λ (d : ℕ). eqb d 1) (ap (λ (x : ℕ). x % 2) (and-shr a b k) ∙ and-mod (a / 2 ^ k) (b / 2 ^ k) 1)
+    ∙ digits (a / 2 ^ k % 2) (b / 2 ^ k % 2) (omega arith) (omega arith)
+  where
+    digits : (x y : ℕ) → x < 2 → y < 2 → eqb (bitAnd x y) 1 ≡ both (eqb x 1) (eqb y 1)
+    digits zero zero p q = refl
+    digits zero (suc zero) p q = refl
+    digits (suc zero) zero p q = refl
+    digits (suc zero) (suc zero) p q = refl
+    digits (suc (suc x)) y p q = absurd (omega arith)
+    digits zero (suc (suc y)) p q = absurd (omega arith)
+    digits (suc zero) (suc (suc y)) p q = absurd (omega arith)
+
+bit-either : (k a b : ℕ) → bit k (bitOr a b) ≡ either (bit k a) (bit k b)
+unfolding bit either
+bit-either k a b =
+    ap (λ (d : ℕ). eqb d 1) (ap (λ (x : ℕ). x % 2) (or-shr a b k) ∙ or-mod (a / 2 ^ k) (b / 2 ^ k) 1)
+    ∙ digits (a / 2 ^ k % 2) (b / 2 ^ k % 2) (omega arith) (omega arith)
+  where
+    digits : (x y : ℕ) → x < 2 → y < 2 → eqb (bitOr x y) 1 ≡ either (eqb x 1) (eqb y 1)
+    digits zero zero p q = refl
+    digits zero (suc zero) p q = refl
+    digits (suc zero) zero p q = refl
+    digits (suc zero) (suc zero) p q = refl
+    digits (suc (suc x)) y p q = absurd (omega arith)
+    digits zero (suc (suc y)) p q = absurd (omega arith)
+    digits (suc zero) (suc (suc y)) p q = absurd (omega arith)
+
+-- The rights that an entry of level 1 or 2 leaves, gathered in words.
+pub gathered-by : (level all any entry : ℕ) → eqb level 3 ≡ false → gathered level (rightsBy all any) (fieldsOf entry) ≡ rightsBy (bitAnd all entry) (bitOr any entry)
+unfolding gathered rightsBy fieldsOf writable userBit noExecute
+gathered-by level all any entry e = rw (e, bit-both 1 all entry, bit-both 2 all entry, bit-either 63 any entry)
+
+-- A bit's weight where it is set, as a digit of the word.
+weight : (k x : ℕ) → flag (bit k x) k ≡ x / 2 ^ k % 2 * 2 ^ k
+weight k x = flag-weight (bit k x) k ∙ ap (λ (d : ℕ). d * 2 ^ k) (flag-bit k x)
+
+-- A flat entry's bits: those of an entry, of what all entries have, and of what any has.
+sums : (a o entry : ℕ) → o < 2 ^ 64
+    → frameOf entry * 2 ^ 12 + entry / 2 ^ 3 % 4 * 2 ^ 3 + a / 2 % 4 * 2 + 1 + o / 2 ^ 63 * 2 ^ 63
+    ≡ flatEntry (rightsBy a o) (fieldsOf entry) (fieldsOf entry .frame)
+unfolding flatEntry rightsBy fieldsOf writeThrough cacheDisable
+sums a o entry h =
+    let caches : entry / 2 ^ 3 % 4 * 2 ^ 3 ≡ entry / 2 ^ 3 % 2 * 2 ^ 3 + entry / 2 ^ 4 % 2 * 2 ^ 4 = omega arith in
+    let rights : a / 2 % 4 * 2 ≡ a / 2 ^ 1 % 2 * 2 ^ 1 + a / 2 ^ 2 % 2 * 2 ^ 2 = omega arith in
+    let top : o / 2 ^ 63 * 2 ^ 63 ≡ o / 2 ^ 63 % 2 * 2 ^ 63 = omega arith in
+    rw (weight 1 a, weight 2 a, weight 3 entry, weight 4 entry, weight 63 o, caches, rights, top)
+    (total (frameOf entry * 2 ^ 12) (entry / 2 ^ 3 % 2 * 2 ^ 3) (entry / 2 ^ 4 % 2 * 2 ^ 4) (a / 2 ^ 1 % 2 * 2 ^ 1) (a / 2 ^ 2 % 2 * 2 ^ 2) (o / 2 ^ 63 % 2 * 2 ^ 63))
+  where
+    total : (f t c w u n : ℕ) → f + (t + c) + (w + u) + 1 + n ≡ 2 ^ 0 + w + u + t + c + f + n
+    total f t c w u n = omega arith
+
+-- Each part of the sum fits 64 bits beside those before it.
+pub frame-small : (entry : ℕ) (e : Entry) (x : Fields) → e ≡ takenApart entry → e ≡ Present x → x .frame < 2 ^ 40
+unfolding fieldsOf frameOf
+frame-small entry e x apart p = rw (← (fields-apart entry x (sym apart ∙ p))) (omega arith)
+
+pub frame-fits : (f : ℕ) → f < 2 ^ 40 → f * 2 ^ 12 < 2 ^ 64
+frame-fits f h = omega arith
+
+pub caches-fit : (f t : ℕ) → f < 2 ^ 40 → f * 2 ^ 12 + t % 4 * 2 ^ 3 < 2 ^ 64
+caches-fit f t h = omega arith
+
+pub rights-fit : (f t r : ℕ) → f < 2 ^ 40 → f * 2 ^ 12 + t % 4 * 2 ^ 3 + r % 4 * 2 < 2 ^ 64
+rights-fit f t r h = omega arith
+
+pub present-fits : (f t r : ℕ) → f < 2 ^ 40 → f * 2 ^ 12 + t % 4 * 2 ^ 3 + r % 4 * 2 + 1 < 2 ^ 64
+present-fits f t r h = omega arith
+
+pub top-fits : (any entry : ℕ) → any < 2 ^ 64 → entry < 2 ^ 64 → bitOr any entry / 2 ^ 63 * 2 ^ 63 < 2 ^ 64
+top-fits any entry h l = let o : bitOr any entry < 2 ^ 64 = or-lt 64 any entry h l in omega arith
+
+pub whole-fits : (f t r any entry : ℕ) → f < 2 ^ 40 → any < 2 ^ 64 → entry < 2 ^ 64
+    → f * 2 ^ 12 + t % 4 * 2 ^ 3 + r % 4 * 2 + 1 + bitOr any entry / 2 ^ 63 * 2 ^ 63 < 2 ^ 64
+whole-fits f t r any entry k h l =
+    let o : bitOr any entry < 2 ^ 64 = or-lt 64 any entry h l in
+    let top : bitOr any entry / 2 ^ 63 ≤ 1 = omega arith in
+    omega arith
+
+-- The flat entry of a last entry that is present, and of one that is not.
+module _ (all any entry : ℕ) (e : Entry) (apart : e ≡ takenApart entry) where
+  pub flat-absent : e ≡ Absent → 0 ≡ lastFlat (rightsBy all any) (takenApart entry)
+  unfolding lastFlat
+  flat-absent p = rw (← apart, p)
+
+  pub flat-present : (x : Fields) → any < 2 ^ 64 → entry < 2 ^ 64 → e ≡ Present x
+      → x .frame * 2 ^ 12 + entry / 2 ^ 3 % 4 * 2 ^ 3 + bitAnd all entry / 2 % 4 * 2 + 1 + bitOr any entry / 2 ^ 63 * 2 ^ 63
+      ≡ lastFlat (rightsBy all any) (takenApart entry)
+  unfolding lastFlat fieldsOf
+  flat-present x l m p =
+      let same : fieldsOf entry ≡ x = fields-apart entry x (sym apart ∙ p) in
+      let top : bitOr any entry < 2 ^ 64 = or-lt 64 any entry l m in
+      rw (← apart, p, ← same, gathered-by 1 all any entry refl) (sums (bitAnd all entry) (bitOr any entry) entry top)
+
+-- A large page's entry with a page's low nine bits added to its frame, whose own low nine bits are 0.
+module _ (entry q : ℕ) (aligned : entry % 2 ^ 21 < 2 ^ 12) (small : q < 512) where
+  abbrev added : ℕ
+  added = entry + q * 2 ^ 12
+
+  added-low : (k : ℕ) → k < 12 → bit k added ≡ bit k entry
+  added-low k l = bits-below 12 added entry (omega arith) k l
+
+  added-high : added / 2 ^ 21 ≡ entry / 2 ^ 21
+  added-high = omega arith
+
+  added-52 : added / 2 ^ 52 ≡ entry / 2 ^ 52
+  added-52 =
+      let a : added / 2 ^ 52 ≡ added / 2 ^ 21 / 2 ^ 31 = omega arith in
+      let b : entry / 2 ^ 52 ≡ entry / 2 ^ 21 / 2 ^ 31 = omega arith in
+      a ∙ ap (λ (x : ℕ). x / 2 ^ 31) added-high ∙ sym b
+
+  added-63 : added / 2 ^ 63 ≡ entry / 2 ^ 63
+  added-63 =
+      let a : added / 2 ^ 63 ≡ added / 2 ^ 52 / 2 ^ 11 = omega arith in
+      let b : entry / 2 ^ 63 ≡ entry / 2 ^ 52 / 2 ^ 11 = omega arith in
+      a ∙ ap (λ (x : ℕ). x / 2 ^ 11) added-52 ∙ sym b
+
+  added-top : bit 63 added ≡ bit 63 entry
+  unfolding bit
+  added-top = rw added-63
+
+  added-frame : frameOf added ≡ frameOf entry + q
+  unfolding frameOf
+  added-frame =
+      let a : added / 2 ^ 12 ≡ entry / 2 ^ 21 * 2 ^ 9 + q = omega arith in
+      let b : entry / 2 ^ 12 ≡ entry / 2 ^ 21 * 2 ^ 9 = omega arith in
+      rw (a, b) (place (entry / 2 ^ 21))
+    where
+      place : (z : ℕ) → (z * 2 ^ 9 + q) % 2 ^ 40 ≡ z * 2 ^ 9 % 2 ^ 40 + q
+      place z = omega arith
+
+  added-valid : valid added ≡ valid entry
+  unfolding valid present reserved
+  added-valid = rw (added-low 0 (omega arith), added-52)
+
+  pub added-last : (rights : Rights) → valid entry ≡ true
+      → lastFlat rights (takenApart added) ≡ flatEntry (gathered 1 rights (fieldsOf entry)) (fieldsOf entry) (fieldsOf entry .frame + q)
+  unfolding lastFlat takenApart fieldsOf flatEntry gathered writable userBit writeThrough cacheDisable noExecute
+  added-last rights p =
+      rw (added-valid, p)
+      (rw (added-low 1 (omega arith), added-low 2 (omega arith), added-low 3 (omega arith), added-low 4 (omega arith), added-frame, added-top))

@@ -1,0 +1,5 @@
+-- Laws of this crate's proofs.
+mod OrderLaws
+mod BitLaws
+mod PartLaws
+mod WalkLaws

@@ -1,0 +1,62 @@
+-- Question 17: each of its tests answered, and what a yes says.
+use Prim.Native.Nat.{ℕ, _/_, _%_, _≤_, _<_}
+use mathlib.Core.Bool.{Bool, true, false, not}
+use mathlib.Core.List.{List, [], _∷_}
+use mathlib.Core.Path.{_≡_, refl, sym, _∙_}
+use lib.Dec.{ltb}
+use lib.ListN.{length}
+use borrow.Author.Tests.{eq-eqb, ne-eqb, lt-leb, not-false}
+use Rattle.model.specs.Basics.{both, within}
+use Rattle.model.specs.declared.Answer.the-variants.{Done, Refused}
+use Rattle.model.specs.Tree.{Tree, treeOf, tablesIn, treeInOrder, flatAt, readsAt}
+use Rattle.model.specs.Questions.{question}
+use Rattle.model.specs.Calls.{replyOf, settle}
+use Rattle.model.specs.Walks.{walkQuestions, walkReply}
+use Rattle.model.proofs.CallLaws.{passed, stopped, none-left}
+use Rattle.model.proofs.QuestionLaws.{both-no, both-no-after, both-first, both-second, within-yes, within-low, within-high}
+
+module _ (words : List ℕ) (root depth : ℕ) where
+  pub not-whole : (length words % 512 ≡ 0 → ⊥) → false ≡ treeInOrder (treeOf words root depth)
+  unfolding treeInOrder
+  not-whole h = sym (both-no _ (ne-eqb (length words % 512) 0 h))
+
+  pub too-shallow : depth < 1 → false ≡ treeInOrder (treeOf words root depth)
+  unfolding treeInOrder within
+  too-shallow h = sym (both-no-after _ (both-no _ (both-no _ (lt-leb 1 depth h))))
+
+  pub too-deep : 3 < depth → false ≡ treeInOrder (treeOf words root depth)
+  unfolding treeInOrder within
+  too-deep h = sym (both-no-after _ (both-no _ (both-no-after _ (lt-leb depth 3 h))))
+
+  pub root-asked : length words % 512 ≡ 0 → 1 ≤ depth → depth ≤ 3 → ltb root (length words / 512) ≡ treeInOrder (treeOf words root depth)
+  unfolding treeInOrder tablesIn both
+  root-asked whole low high = rw (eq-eqb (length words % 512) 0 whole, within-yes 1 3 depth low high)
+
+  -- A tree in order.
+  module _ (fits : treeInOrder (treeOf words root depth) ≡ true) where
+    pub depth-least : 1 ≤ depth
+    unfolding treeInOrder
+    depth-least = within-low 1 3 depth (both-first _ _ (both-second _ _ fits))
+
+    pub depth-most : depth ≤ 3
+    unfolding treeInOrder
+    depth-most = within-high 1 3 depth (both-first _ _ (both-second _ _ fits))
+
+-- The walk as a call: refused with 7, with 17, and accepted.
+module _ (fit : Bool) (tree : Tree) (page : ℕ) where
+  pub walk-7 : not fit ≡ true → replyOf (Refused 7) ≡ walkReply fit tree page
+  unfolding replyOf walkReply walkQuestions settle
+  walk-7 p = rw (sym (stopped 7 fit fit (question 17 (treeInOrder tree) ∷ []) refl p))
+
+  module _ (r : Bool) (fits : not fit ≡ false) (asked : r ≡ treeInOrder tree) where
+    pub walk-17 : not r ≡ true → replyOf (Refused 17) ≡ walkReply fit tree page
+    unfolding replyOf walkReply walkQuestions settle
+    walk-17 p = rw (sym (passed 7 17 fit fit (question 17 (treeInOrder tree) ∷ []) refl fits (stopped 17 r (treeInOrder tree) [] asked p)))
+
+    pub tree-yes : not r ≡ false → treeInOrder tree ≡ true
+    tree-yes p = sym asked ∙ not-false r p
+
+    pub walk-done : (x y : ℕ) → not r ≡ false → x ≡ flatAt tree page → y ≡ readsAt tree page → replyOf (Done x y) ≡ walkReply fit tree page
+    unfolding replyOf walkReply walkQuestions settle
+    walk-done x y p q s =
+        rw (sym (passed 7 0 fit fit (question 17 (treeInOrder tree) ∷ []) refl fits (passed 17 0 r (treeInOrder tree) [] asked p none-left)), q, s)

@@ -1,0 +1,2 @@
+-- What this crate's contracts cite beside the model's definitions.
+pub mod Parts

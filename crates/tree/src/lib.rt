@@ -1,0 +1,212 @@
+// Document 02, K4: the walk of a page down a tree of tables.
+// The 512 pages that differ in page bits 0 to 8 alone share every entry above level 1: the walk down to there serves them all.
+
+use model::Answer;
+use model::Entry;
+ghost use mathlib.Core.Path.{_≡_};
+ghost use mathlib.Core.Bool.{true};
+ghost use Prim.Native.Nat.{ℕ, _+_, _/_, _≤_, _<_};
+ghost use lib.ListN.{length};
+ghost use Rattle.model.specs.Bits.{takenApart};
+ghost use Rattle.model.specs.Calls.{replyOf};
+ghost use Rattle.model.specs.Tree.{treeOf, treeInOrder, walkFrom, flatAt, readsAt};
+ghost use Rattle.model.specs.Walks.{walkReply};
+ghost use Rattle.tree.specs.Parts.{rightsBy, lastFlat, flatIn, readsIn, Sound};
+
+// "tables of 512 entries": nine page bits choose one of them.
+const ENTRIES: u64 = 512;
+
+const CHOOSING: u32 = 9;
+
+const LEAST_DEPTH: u64 = 1;
+
+const MOST_DEPTH: u64 = 3;
+
+// The weights of bits. Division and remainder by them are shifts and masks.
+const WRITABLE: u64 = 0x2;
+
+const WRITE_THROUGH: u64 = 0x8;
+
+const LARGE: u64 = 0x80;
+
+const FRAME: u64 = 0x1000;
+
+// One above the largest number that the 40 bits of a frame hold.
+const FRAMES: u64 = 0x100_0000_0000;
+
+const EVERY_BIT: u64 = 0xffff_ffff_ffff_ffff;
+
+// Where the walk of 512 pages goes on below the entries that they share: in the table of level 1 with this number, in the large page with this
+// entry, or nowhere, as they are absent.
+pub enum Below {
+    Table(u64),
+    Large(u64),
+    Nowhere,
+}
+
+// That, with the bits that all entries gathered so far have, those that any of them has, and how many entries were read.
+pub struct Part {
+    pub below: Below,
+    pub all: u64,
+    pub any: u64,
+    pub reads: u64,
+}
+
+// Question 17.
+pub fn in_order(words: &[u64], root: u64, depth: u64) -> bool
+    ensures { λ r. ⌜ r ≡ treeInOrder (treeOf (now (words .entry)) root depth) ⌝ }
+{
+    let length = words.len() as u64;
+    if length % ENTRIES != 0 {
+        return false;
+    }
+    if depth < LEAST_DEPTH {
+        return false;
+    }
+    if MOST_DEPTH < depth {
+        return false;
+    }
+    root < length / ENTRIES
+}
+
+// The flat entry of a last entry: its present, cache bits and frame, writable and user where all have them, no-execute where any has it.
+fn flat(all: u64, any: u64, entry: u64) -> u64
+    ensures { λ r. ⌜ r ≡ lastFlat (rightsBy all any) (takenApart entry) ⌝ }
+{
+    let Entry::Present(x) = entry::take_apart(entry) else {
+        return 0;
+    };
+    x.frame * FRAME
+        + entry / WRITE_THROUGH % 4 * WRITE_THROUGH
+        + (all & entry) / WRITABLE % 4 * WRITABLE
+        + 1
+        + (any | entry) / entry::NO_EXECUTE * entry::NO_EXECUTE
+}
+
+// The walk from a level down to level 1, in the table with this number, by the rights gathered above it.
+fn part_from(
+    words: &[u64],
+    page: u64,
+    level: u32,
+    all: u64,
+    any: u64,
+    number: u64,
+    reads: u64,
+) -> Part
+    requires { ⌜ (1 ≤ level) × (reads + level ≤ 3) ⌝ }
+    ensures { λ r. ⌜ Sound (now (words .entry)) r × ((p : ℕ) → p / 512 ≡ page / 512
+        → (walkFrom (now (words .entry)) p level (rightsBy all any) number .flat ≡ flatIn (now (words .entry)) r p)
+        × (reads + length (walkFrom (now (words .entry)) p level (rightsBy all any) number .met) ≡ readsIn r)) ⌝ }
+{
+    if words.len() as u64 / ENTRIES <= number {
+        return Part {
+            below: Below::Nowhere,
+            all,
+            any,
+            reads,
+        };
+    }
+    if level == 1 {
+        return Part {
+            below: Below::Table(number),
+            all,
+            any,
+            reads,
+        };
+    }
+    let place = (page >> CHOOSING * (level - 1)) % ENTRIES;
+    let entry = words[(number * ENTRIES + place) as usize];
+    let reads = reads + 1;
+    let Entry::Present(x) = entry::take_apart(entry) else {
+        return Part {
+            below: Below::Nowhere,
+            all,
+            any,
+            reads,
+        };
+    };
+    // "at level 3 these three bits do not count"
+    if level == 3 {
+        return part_from(words, page, 2, all, any, x.frame, reads);
+    }
+    if entry / LARGE % 2 == 0 {
+        return part_from(words, page, 1, all & entry, any | entry, x.frame, reads);
+    }
+    if x.frame % ENTRIES != 0 {
+        return Part {
+            below: Below::Nowhere,
+            all,
+            any,
+            reads,
+        };
+    }
+    Part {
+        below: Below::Large(entry),
+        all,
+        any,
+        reads,
+    }
+}
+
+// The part of a page. It asks for a tree that question 17 has let pass.
+pub fn part_of(words: &[u64], root: u64, depth: u64, page: u64) -> Part
+    requires { ⌜ treeInOrder (treeOf (now words) root depth) ≡ true ⌝ }
+    ensures { λ r. ⌜ Sound (now (words .entry)) r × ((p : ℕ) → p / 512 ≡ page / 512
+        → (flatAt (treeOf (now (words .entry)) root depth) p ≡ flatIn (now (words .entry)) r p)
+        × (readsAt (treeOf (now (words .entry)) root depth) p ≡ readsIn r)) ⌝ }
+{
+    let level = depth as u32;
+    if page >> CHOOSING * level != 0 {
+        return Part {
+            below: Below::Nowhere,
+            all: EVERY_BIT,
+            any: 0,
+            reads: 0,
+        };
+    }
+    part_from(words, page, level, EVERY_BIT, 0, root, 0)
+}
+
+// The flat entry of a page of the part.
+pub fn flat_in(words: &[u64], part: Part, page: u64) -> u64
+    requires { ⌜ Sound (now words) part ⌝ }
+    ensures { λ r. ⌜ r ≡ flatIn (now (words .entry)) part page ⌝ }
+{
+    let below = part.below;
+    match below {
+        Below::Table(number) => flat(
+            part.all,
+            part.any,
+            words[(number * ENTRIES + page % ENTRIES) as usize],
+        ),
+        Below::Large(entry) => flat(part.all, part.any, entry + page % ENTRIES * FRAME),
+        Below::Nowhere => 0,
+    }
+}
+
+// How many entries the walk of a page of the part reads.
+fn reads_in(part: Part) -> u64
+    requires { ⌜ part .reads ≤ 3 ⌝ }
+    ensures { λ r. ⌜ r ≡ readsIn part ⌝ }
+{
+    let below = part.below;
+    match below {
+        Below::Table(number) => part.reads + 1,
+        Below::Large(entry) => part.reads,
+        Below::Nowhere => part.reads,
+    }
+}
+
+// Walks a page. `numbers_fit`: the run for the call's numbers, where it is lent one, has its length.
+pub fn walk(words: &[u64], root: u64, depth: u64, page: u64, numbers_fit: bool) -> Answer
+    ensures { λ r. ⌜ replyOf r ≡ walkReply «numbers_fit» (treeOf (now (words .entry)) root depth) page ⌝ }
+{
+    if !numbers_fit {
+        return Answer::Refused(7);
+    }
+    if !in_order(words, root, depth) {
+        return Answer::Refused(17);
+    }
+    let part = part_of(words, root, depth, page);
+    Answer::Done(flat_in(words, part, page), reads_in(part))
+}
