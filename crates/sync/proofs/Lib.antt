@@ -1,3 +1,4 @@
 -- Laws of this crate's proofs.
+mod RunLaws
 mod SourceLaws
 mod SyncLaws

@@ -1,54 +1,144 @@
--- Where kernel entries are read: a flat table and a tree, and the part of a tree that serves a page.
-use Prim.Native.Nat.{ℕ, _+_, _/_, _%_, _<_}
-use mathlib.Core.Bool.{true}
+-- The kernel entries of a run of pages: that each is there, and what each way of reading them gives.
+use Prim.Native.Nat.{ℕ, _+_, _-_, _*_, _/_, _%_, _^_, _≤_, _<_}
+use mathlib.Core.Bool.{Bool, true, false}
 use mathlib.Core.List.{List}
-use mathlib.Core.Path.{_≡_, refl, sym, _∙_}
-use lib.ListN.{length, getD}
+use mathlib.Core.Path.{_≡_, refl, sym, ap, _∙_}
 use native.Mathlib.Omega.{arith}
-use Rattle.model.specs.Tree.{treeOf, treeInOrder, flatAt, readsAt}
+use lib.ListN.{length, getD}
+use Rattle.model.specs.Basics.{both, bit}
+use Rattle.model.specs.Bits.{present, valid, takenApart}
+use Rattle.model.specs.Tree.{Tree, tablesIn, Rights, flatAt, readsAt}
+use Rattle.model.specs.Sync.{Rules, Slot, Sweep, sweep, sweepFrom, stepOf, step, stepFrom}
+use Rattle.tree.specs.declared.Below.the-variants.{Table, Large, Nowhere}
 use Rattle.tree.specs.declared.Part.{Part}
-use Rattle.tree.specs.Parts.{Sound, flatIn, readsIn}
+use Rattle.tree.specs.Parts.{rightsBy, lastFlat, flatBelow, flatIn, readsIn, Sound}
 use Rattle.sync.specs.declared.Source.{Source}
-use Rattle.sync.specs.declared.Source.the-variants.{Flat, Tree}
-use Rattle.sync.specs.Steps.{kernelBy, Readable, Covers, Serves}
+use Rattle.sync.specs.Steps.{stored, sweptFrom, Holds, wordBy, flatBy, entryBy}
+use Rattle.sync.proofs.RunLaws.{swept-more, swept-over, swept-same, swept-append, all-swept}
 
--- What covers all pages can be read for each, of tables that are still as long.
-pub covered : (source : Source) (words : List ℕ) (pages long page : ℕ) → Covers source words pages → long ≡ pages → page < long → Readable source words page
-covered Flat words pages long page covers same l = rw (← covers, ← same) l
-covered (Tree root depth) words pages long page covers same l = covers
+module _ (words : List ℕ) (source : Source) (large : Bool) where
+  pub fewer : (n m : ℕ) → Holds large words source n → m ≤ n → Holds large words source m
+  fewer n m h l = at large h
+    where
+      at : (b : Bool) → Holds b words source n → Holds b words source m
+      at true h = (h .0, omega (arith, h .1))
+      at false h = omega arith
 
--- A part serves the next page, unless that one's low nine bits are 0.
-pub serves-next : (source : Source) (words : List ℕ) (part : Part) (page : ℕ) → Serves source words part page
-    → ((page + 1) % 512 ≡ 0 → ⊥) → Serves source words part (page + 1)
-serves-next Flat words part page serves other = tt
-serves-next (Tree root depth) words part page serves other =
-    (serves .0, λ p same. let near : p / 512 ≡ page / 512 = omega arith in serves .1 p near)
+  module _ (before : ℕ) (h : Holds large words source (before + 1)) where
+    -- A large page's frames fit its entry.
+    pub large-fits : large ≡ true → source .entry < 2 ^ 64 → source .entry + before * 2 ^ 12 < 2 ^ 64
+    large-fits e l = let holds : (source .entry % 2 ^ 21 < 2 ^ 12) × (before + 1 ≤ 512) = rw e at h in omega (arith, holds .0, holds .1)
 
-module _ (source : Source) (words : List ℕ) (page : ℕ) where
-  -- A flat table.
-  pub flat-inside : source ≡ Flat → Readable source words page → page < length words
-  flat-inside e readable = rw e at readable
+    pub few : large ≡ true → before < 512
+    few e = let holds : (source .entry % 2 ^ 21 < 2 ^ 12) × (before + 1 ≤ 512) = rw e at h in omega (arith, holds .1)
 
-  pub flat-serves : (part : Part) → source ≡ Flat → Serves source words part page
-  flat-serves part e = rw e tt
+    -- An entry among the words is there.
+    pub word-in : large ≡ false → source .at + before < length words
+    word-in e = let holds : source .at + (before + 1) ≤ length words = rw e at h in omega arith
 
-  pub flat-read : source ≡ Flat → getD words page 0 ≡ kernelBy source words page
-  unfolding kernelBy
-  flat-read e = rw e
+  pub word-large : (before : ℕ) → large ≡ true → source .entry + before * 2 ^ 12 ≡ wordBy large words source before
+  unfolding wordBy
+  word-large before e = rw e
 
-  -- A tree.
-  module _ (root depth : ℕ) (e : source ≡ Tree root depth) where
-    pub tree-readable : Readable source words page → treeInOrder (treeOf words root depth) ≡ true
-    tree-readable readable = rw e at readable
+  pub word-table : (before : ℕ) → large ≡ false → getD words (source .at + before) 0 ≡ wordBy large words source before
+  unfolding wordBy
+  word-table before e = rw e
 
-    pub tree-serves : (part : Part) → Sound words part
-        × ((p : ℕ) → p / 512 ≡ page / 512 → (flatAt (treeOf words root depth) p ≡ flatIn words part p) × (readsAt (treeOf words root depth) p ≡ readsIn part))
-        → Serves source words part page
-    tree-serves part gives = rw e (gives .0, λ p same. gives .1 p same .0)
+-- Below the rights above it.
+pub walked-to : (source : Source) (w k r : ℕ) → k ≡ w → takenApart r ≡ takenApart (lastFlat (rightsBy (source .all) (source .any)) (takenApart k))
+    → takenApart r ≡ takenApart (flatBy source w)
+unfolding flatBy
+walked-to source w k r same p = rw (← same) p
 
-    pub tree-sound : (part : Part) → Serves source words part page → Sound words part
-    tree-sound part serves = (rw e at serves) .0
+-- A step reads an entry as it is taken apart.
+pub step-same : (r : Rules) (k k′ a : ℕ) → takenApart k ≡ takenApart k′ → step r k a ≡ step r k′ a
+unfolding step
+step-same r k k′ a e = rw e
 
-    pub tree-read : (part : Part) (r : ℕ) → Serves source words part page → r ≡ flatIn words part page → r ≡ kernelBy source words page
-    unfolding kernelBy
-    tree-read part r serves p = rw e (p ∙ sym ((rw e at serves) .1 page refl))
+-- After page i of a run.
+pub run-more : (r : Rules) (large : Bool) (words : List ℕ) (source : Source) (first end i k : ℕ) (shadow map shadow′ map′ : List ℕ)
+    (changed joined x y : ℕ) (all : Sweep)
+    → let f : ℕ → ℕ → ℕ → Slot = stepFrom r (entryBy large words source first) in
+    sweptFrom f i (end - i) (sweep shadow map changed joined) ≡ all → i < end
+    → takenApart k ≡ takenApart (flatBy source (wordBy large words source (i - first)))
+    → sweep shadow′ map′ x y ≡ stored i (sweep shadow map changed joined) (step r k (getD map i 0))
+    → sweptFrom f (i + 1) (end - (i + 1)) (sweep shadow′ map′ x y) ≡ all
+unfolding stepFrom entryBy
+run-more r large words source first end i k shadow map shadow′ map′ changed joined x y all inv l apart p =
+    swept-more (stepFrom r (entryBy large words source first)) i end (sweep shadow map changed joined) (sweep shadow′ map′ x y) all inv l
+    (p ∙ ap (stored i (sweep shadow map changed joined)) (step-same r k _ (getD map i 0) apart))
+
+-- An even entry has no flat entry.
+absent-flat : (rights : Rights) (entry : ℕ) → entry % 2 ≡ 0 → lastFlat rights (takenApart entry) ≡ 0
+unfolding lastFlat takenApart valid present bit both
+absent-flat rights entry even =
+    let odd : entry / 2 ^ 0 % 2 ≡ 0 = omega arith in
+    rw odd
+
+-- The pages of a part: each way in which it goes on gives them what the part does.
+module _ (r : Rules) (words : List ℕ) (part : Part) (source : Source) (first end : ℕ) (before after : Sweep) (begins : first % 512 ≡ 0)
+    (few-pages : end - first ≤ 512) (all : source .all ≡ part .all) (any : source .any ≡ part .any) where
+  abbrev gives : Bool → Type 0
+  gives large =
+      after ≡ sweptFrom (stepFrom r (entryBy large words source first)) first (end - first) before
+      → after ≡ sweptFrom (stepFrom r (flatIn words part)) first (end - first) before
+
+  -- The low nine bits of a page are its place in the part.
+  low-bits : (p : ℕ) → first ≤ p → p < first + (end - first) → p - first ≡ p % 512
+  low-bits p a b = omega arith
+
+  by-entries : (large : Bool) → ((p : ℕ) → first ≤ p → p < first + (end - first) → entryBy large words source first p ≡ flatIn words part p) → gives large
+  unfolding stepFrom
+  by-entries large h e =
+      e ∙ swept-same (stepFrom r (entryBy large words source first)) (stepFrom r (flatIn words part)) first (end - first) before (λ p s m a b.
+      ap (λ (k : ℕ). step r k m) (h p a b))
+
+  pub part-table : (number : ℕ) → part .below ≡ Table number → source .at ≡ number * 512 → gives false
+  unfolding entryBy flatBy wordBy flatIn flatBelow
+  part-table number below at =
+      by-entries false (λ p a b. rw (below, at, all, any, low-bits p a b))
+
+  pub part-large : (entry : ℕ) → part .below ≡ Large entry → source .entry ≡ entry → gives true
+  unfolding entryBy flatBy wordBy flatIn flatBelow
+  part-large entry below at = by-entries true (λ p a b. rw (below, at, all, any, low-bits p a b))
+
+  -- An entry 0, whatever frame is added, is absent.
+  pub part-nowhere : part .below ≡ Nowhere → source .entry ≡ 0 → gives true
+  unfolding entryBy flatBy wordBy flatIn flatBelow
+  part-nowhere below at = by-entries true (λ p a b. rw (below, at) (absent-flat _ (0 + (p - first) * 2 ^ 12) (omega arith)))
+
+-- What a part's pages read is there.
+module _ (words : List ℕ) (part : Part) (n : ℕ) (sound : Sound words part) (few-pages : n ≤ 512) where
+  pub table-holds : (number : ℕ) → part .below ≡ Table number → number * 512 + n ≤ length words
+  unfolding tablesIn
+  table-holds number below = let inside : number < length words / 512 = rw below at (sound .0) in omega arith
+
+  pub large-holds : (entry : ℕ) → part .below ≡ Large entry → (entry % 2 ^ 21 < 2 ^ 12) × (n ≤ 512)
+  large-holds entry below = (rw below at (sound .0), few-pages)
+
+-- After a part: the tree gives its pages what the part does.
+pub parts-more : (r : Rules) (words : List ℕ) (tree : Tree) (part : Part) (first end pages : ℕ) (before after all : Sweep)
+    → sweptFrom (stepFrom r (flatAt tree)) first (pages - first) before ≡ all → first ≤ end → end ≤ pages → end - first ≤ 512 → first % 512 ≡ 0
+    → ((p : ℕ) → p / 512 ≡ first / 512 → (flatAt tree p ≡ flatIn words part p) × (readsAt tree p ≡ readsIn part))
+    → after ≡ sweptFrom (stepFrom r (flatIn words part)) first (end - first) before
+    → sweptFrom (stepFrom r (flatAt tree)) end (pages - end) after ≡ all
+unfolding stepFrom
+parts-more r words tree part first end pages before after all inv low high few-pages begins gives e =
+    let split : pages - first ≡ (end - first) + (pages - end) = omega arith in
+    let place : first + (end - first) ≡ end = omega arith in
+    let same : sweptFrom (stepFrom r (flatIn words part)) first (end - first) before ≡ sweptFrom (stepFrom r (flatAt tree)) first (end - first) before =
+    swept-same (stepFrom r (flatIn words part)) (stepFrom r (flatAt tree)) first (end - first) before (λ p s m a b.
+    ap (λ (k : ℕ). step r k m) (sym (gives p (near p a b) .0))) in
+    rw (e ∙ same) (rw place at (sym (swept-append (stepFrom r (flatAt tree)) first (end - first) (pages - end) before)) ∙ (rw split at inv))
+  where
+    near : (p : ℕ) → first ≤ p → p < first + (end - first) → p / 512 ≡ first / 512
+    near p a b = omega arith
+
+pub parts-over : (r : Rules) (tree : Tree) (first : ℕ) (shadow map shadow₀ map₀ : List ℕ) (changed joined : ℕ)
+    → sweptFrom (stepFrom r (flatAt tree)) first (length shadow₀ - first) (sweep shadow map changed joined)
+    ≡ sweptFrom (stepFrom r (flatAt tree)) 0 (length shadow₀ - 0) (sweep shadow₀ map₀ 0 0)
+    → length shadow₀ ≤ first → length map₀ ≡ length shadow₀ → sweep shadow map changed joined ≡ sweepFrom (stepFrom r (flatAt tree)) 0 shadow₀ map₀
+parts-over r tree first shadow map shadow₀ map₀ changed joined inv past e =
+    let n : length shadow₀ - 0 ≡ length shadow₀ = omega arith in
+    all-swept (stepFrom r (flatAt tree)) shadow₀ map₀ (sweep shadow map changed joined) e
+    (rw n at (swept-over (stepFrom r (flatAt tree)) first (length shadow₀) (sweep shadow map changed joined) _ inv past))

@@ -18,17 +18,15 @@ use Rattle.model.specs.Basics.{differs}
 use Rattle.model.specs.Keeps.{none, Tables, withThree, Guard, guardOf, vectorBytes, inUser}
 use Rattle.model.specs.Bits.{fieldsOf, valid, takenApart, approved, ordinary}
 use Rattle.model.specs.Sync.{Rules, Slot, slot, stepOf, step, Sweep, sweep, sweepFrom, entryIn, stepFrom}
-use Rattle.model.specs.Tree as Model
-use Rattle.model.specs.Tree.{treeOf, treeInOrder, flatAt}
+use Rattle.model.specs.Tree.{Tree, treeOf, treeInOrder, flatAt}
 use Rattle.model.specs.Questions.{stateInOrder, inOrder, syncAllQuestions, syncPageQuestions, syncAllTreeQuestions, syncPageTreeQuestions}
 use Rattle.model.specs.Calls.{replyOf, outcomeBy, keptBy, rulesOf, pageSynced, allSynced, pageFrom, allFrom, syncPage, syncAll, syncPageTree, syncAllTree, questionsOf, effectOf, answer}
 use Rattle.model.proofs.BitLaws.{fields-apart, present-valid}
 use Rattle.model.proofs.StateLaws.{Fit, in-order}
 use Rattle.model.proofs.CallLaws.{passed, stopped, none-left, refused-by, accepted-by}
 use Rattle.model.proofs.SweepLaws.{getD-inside, whole, whole-more, whole-over}
-use Rattle.sync.specs.declared.Source.{Source}
-use Rattle.sync.specs.declared.Source.the-variants.{Flat, Tree}
-use Rattle.sync.specs.Steps.{rulesBy, stored, kernelBy}
+use Rattle.sync.specs.Steps.{rulesBy, stored}
+use Rattle.sync.proofs.SourceLaws.{step-same}
 
 -- Steps 1 to 5.
 module _ (r : Rules) (k a : ℕ) (e : Entry) (apart : e ≡ takenApart k) where
@@ -82,35 +80,20 @@ pub stored-step : (p : Slot) (i e a changed joined x y : ℕ) (shadow map shadow
 unfolding stored
 stored-step p i e a changed joined x y shadow map shadow′ map′ q ps pm px py = rw (← q, ps, pm, px, py)
 
--- A sweep page by page, on the kernel entries of a source: after page i, and after the last.
-module _ (r : Rules) (source : Source) (words : List ℕ) where
-  abbrev slots : ℕ → ℕ → ℕ → Slot
-  slots = stepFrom r (kernelBy source words)
+-- A sweep page by page: after page i, and after the last.
+pub sweep-more : (r : Rules) (kernel : List ℕ) (i : ℕ) (shadow map shadow′ map′ : List ℕ) (changed joined x y : ℕ) (all : Sweep)
+    → whole (stepFrom r (entryIn kernel)) i (sweep shadow map changed joined) ≡ all → i < length kernel → length shadow ≡ length kernel
+    → length map ≡ length kernel → sweep shadow′ map′ x y ≡ stored i (sweep shadow map changed joined) (step r (getD kernel i 0) (getD map i 0))
+    → whole (stepFrom r (entryIn kernel)) (i + 1) (sweep shadow′ map′ x y) ≡ all
+unfolding stored stepFrom
+sweep-more r kernel i shadow map shadow′ map′ changed joined x y all inv l ls lm p =
+    let q : Slot = step r (getD kernel i 0) (getD map i 0) in
+    rw p (whole-more (stepFrom r (entryIn kernel)) i shadow map changed joined (q .entry) (q .approval) _ _ all inv (omega arith) (omega arith) refl refl refl)
 
-  pub sweep-more : (i k pages : ℕ) (shadow map shadow′ map′ : List ℕ) (changed joined x y : ℕ) (all : Sweep)
-      → whole slots i (sweep shadow map changed joined) ≡ all → k ≡ kernelBy source words i → i < length shadow → length shadow ≡ pages
-      → length map ≡ pages → sweep shadow′ map′ x y ≡ stored i (sweep shadow map changed joined) (step r k (getD map i 0))
-      → whole slots (i + 1) (sweep shadow′ map′ x y) ≡ all
-  unfolding stored stepFrom
-  sweep-more i k pages shadow map shadow′ map′ changed joined x y all inv here l ls lm p =
-      let q : Slot = step r (kernelBy source words i) (getD map i 0) in
-      rw (p, here) (whole-more slots i shadow map changed joined (q .entry) (q .approval) _ _ all inv l (omega arith) refl refl refl)
-
-  pub sweep-over : (i : ℕ) (shadow map : List ℕ) (changed joined : ℕ) (all : Sweep)
-      → whole slots i (sweep shadow map changed joined) ≡ all → length shadow ≤ i → sweep shadow map changed joined ≡ all
-  sweep-over i shadow map changed joined all inv past = whole-over slots i shadow map changed joined all inv past
-
-  -- One page's step on its own kernel entry.
-  pub one-stored : (i k a : ℕ) (shadow map shadow′ map′ : List ℕ) (x y : ℕ) → k ≡ kernelBy source words i
-      → sweep shadow′ map′ x y ≡ stored i (sweep shadow map 0 0) (step r k a)
-      → sweep shadow′ map′ x y ≡ stored i (sweep shadow map 0 0) (step r (kernelBy source words i) a)
-  one-stored i k a shadow map shadow′ map′ x y here p = rw (← here) p
-
--- The sweep of each mode is that of the mode that is given.
-pub by-mode : (u v : Bool) (frames : ℕ) (exclusion : List ℕ) (source : Source) (words shadow map shadow′ map′ : List ℕ) (x y : ℕ) → u ≡ v
-    → sweep shadow′ map′ x y ≡ sweepFrom (stepFrom (rulesBy v frames exclusion) (kernelBy source words)) 0 shadow map
-    → sweep shadow′ map′ x y ≡ sweepFrom (stepFrom (rulesBy u frames exclusion) (kernelBy source words)) 0 shadow map
-by-mode u v frames exclusion source words shadow map shadow′ map′ x y i p = rw i p
+pub sweep-over : (r : Rules) (kernel : List ℕ) (i : ℕ) (shadow map : List ℕ) (changed joined : ℕ) (all : Sweep)
+    → whole (stepFrom r (entryIn kernel)) i (sweep shadow map changed joined) ≡ all → length shadow ≡ length kernel → length kernel ≤ i
+    → sweep shadow map changed joined ≡ all
+sweep-over r kernel i shadow map changed joined all inv ls past = whole-over (stepFrom r (entryIn kernel)) i shadow map changed joined all inv (omega arith)
 
 -- The answers to question 7 of the guard's tables, of lengths that may be any numbers, and of a kernel table besides.
 abbrev guardFit : State → ℕ → ℕ → ℕ → List Bool
@@ -147,8 +130,8 @@ module _ (s : State) (kernel shadow map exclusion : ℕ) (r : Bool) (asked : r �
   pub flat-covers : shadow ≡ kernel
   flat-covers = eqb-true _ _ (fit-flat .1 .0) ∙ sym (eqb-true _ _ (fit-flat .0))
 
-  pub flat-map : map ≡ shadow
-  flat-map = map-matches s shadow map exclusion (fit-flat .1)
+  pub flat-map : map ≡ kernel
+  flat-map = map-matches s shadow map exclusion (fit-flat .1) ∙ flat-covers
 
   pub flat-vector : exclusion ≡ vectorBytes (s .frames)
   flat-vector = vector-fits s shadow map exclusion (fit-flat .1)
@@ -221,12 +204,13 @@ module _ (s : State) (kernel shadow map exclusion : List ℕ) (r : Bool)
   page-refused page p t = refused-by (before t) (syncPage kernel page) _ 7 (sym (stopped 7 r _ _ asked p)) (λ z. omega arith) refl refl
 
   module _ (yes7 : not r ≡ false) where
-    pub all-accepted : (u : Bool) (shadow′ map′ : List ℕ) (x y : ℕ) → u ≡ inUser (s .mode)
-        → sweep shadow′ map′ x y ≡ sweepFrom (stepFrom (rulesBy u (s .frames) exclusion) (kernelBy Flat kernel)) 0 shadow map → (t : Tables)
+    pub all-accepted : (u v : Bool) (shadow′ map′ : List ℕ) (x y : ℕ) → u ≡ inUser (s .mode) → u ≡ v
+        → sweep shadow′ map′ x y ≡ sweepFrom (stepFrom (rulesBy v (s .frames) exclusion) (entryIn kernel)) 0 shadow map → (t : Tables)
         → keptBy (Done x y) s (withThree shadow′ map′ exclusion t) ≡ answer (before t) (syncAll kernel)
-    unfolding questionsOf syncAllQuestions effectOf kernelBy
-    all-accepted u shadow′ map′ x y q p t =
-        accepted-by (before t) (syncAll kernel) _ (sym (passed 7 0 r _ _ asked yes7 none-left)) (all-given s shadow map exclusion (entryIn kernel) u shadow′ map′ x y q p t)
+    unfolding questionsOf syncAllQuestions effectOf
+    all-accepted u v shadow′ map′ x y q i p t =
+        accepted-by (before t) (syncAll kernel) _ (sym (passed 7 0 r _ _ asked yes7 none-left))
+        (all-given s shadow map exclusion (entryIn kernel) v shadow′ map′ x y (sym i ∙ q) p t)
 
     module _ (page : ℕ) (b : Bool) (exists : b ≡ ltb page (s .pages)) where
       pub page-absent : not b ≡ true → (t : Tables)
@@ -236,9 +220,9 @@ module _ (s : State) (kernel shadow map exclusion : List ℕ) (r : Bool)
           refused-by (before t) (syncPage kernel page) _ 9 (sym (passed 7 9 r _ _ asked yes7 (stopped 9 b _ _ exists p))) (λ z. omega arith) refl refl
 
       pub page-accepted : (u : Bool) (shadow′ map′ : List ℕ) (x y : ℕ) → not b ≡ false → u ≡ inUser (s .mode)
-          → sweep shadow′ map′ x y ≡ stored page (sweep shadow map 0 0) (step (rulesBy u (s .frames) exclusion) (kernelBy Flat kernel page) (getD map page 0)) → (t : Tables)
+          → sweep shadow′ map′ x y ≡ stored page (sweep shadow map 0 0) (step (rulesBy u (s .frames) exclusion) (getD kernel page 0) (getD map page 0)) → (t : Tables)
           → keptBy (Done x y) s (withThree shadow′ map′ exclusion t) ≡ answer (before t) (syncPage kernel page)
-      unfolding questionsOf syncPageQuestions effectOf kernelBy
+      unfolding questionsOf syncPageQuestions effectOf
       page-accepted u shadow′ map′ x y there q p t =
           let inside : page < length map = flat-page-map s (length kernel) (length shadow) (length map) (length exclusion) r asked yes7 page b exists there in
           accepted-by (before t) (syncPage kernel page) _ (sym (passed 7 0 r _ _ asked yes7 (passed 9 0 b _ _ exists there none-left)))
@@ -252,7 +236,7 @@ tree-yes words root depth w walks yes17 = sym walks ∙ not-false w yes17
 -- The calls from a tree: 7, 17 and 9 in this order.
 module _ (s : State) (words : List ℕ) (root depth : ℕ) (shadow map exclusion : List ℕ) (r : Bool)
     (asked : r ≡ inOrder (stateInOrder s) (guardFit s (length shadow) (length map) (length exclusion))) where
-  abbrev tree : Model.Tree
+  abbrev tree : Tree
   tree = treeOf words root depth
 
   abbrev before-tree : Tables → Guard
@@ -283,9 +267,9 @@ module _ (s : State) (words : List ℕ) (root depth : ℕ) (shadow map exclusion
 
     module _ (yes17 : not w ≡ false) where
       pub all-tree-accepted : (u : Bool) (shadow′ map′ : List ℕ) (x y : ℕ) → u ≡ inUser (s .mode)
-          → sweep shadow′ map′ x y ≡ sweepFrom (stepFrom (rulesBy u (s .frames) exclusion) (kernelBy (Tree root depth) words)) 0 shadow map → (t : Tables)
+          → sweep shadow′ map′ x y ≡ sweepFrom (stepFrom (rulesBy u (s .frames) exclusion) (flatAt tree)) 0 shadow map → (t : Tables)
           → keptBy (Done x y) s (withThree shadow′ map′ exclusion t) ≡ answer (before-tree t) (syncAllTree tree)
-      unfolding questionsOf syncAllTreeQuestions effectOf kernelBy
+      unfolding questionsOf syncAllTreeQuestions effectOf
       all-tree-accepted u shadow′ map′ x y q p t =
           accepted-by (before-tree t) (syncAllTree tree) _ (sym (passed 7 0 r _ _ asked yes7 (passed 17 0 w _ _ walks yes17 none-left)))
           (all-given s shadow map exclusion (flatAt tree) u shadow′ map′ x y q p t)
@@ -297,12 +281,14 @@ module _ (s : State) (words : List ℕ) (root depth : ℕ) (shadow map exclusion
         page-tree-9 p t =
             refused-by (before-tree t) (syncPageTree tree page) _ 9 (sym (passed 7 9 r _ _ asked yes7 (passed 17 9 w _ _ walks yes17 (stopped 9 b _ _ exists p)))) (λ z. omega arith) refl refl
 
-        pub page-tree-accepted : (u : Bool) (shadow′ map′ : List ℕ) (x y : ℕ) → not b ≡ false → u ≡ inUser (s .mode)
-            → sweep shadow′ map′ x y ≡ stored page (sweep shadow map 0 0) (step (rulesBy u (s .frames) exclusion) (kernelBy (Tree root depth) words page) (getD map page 0)) → (t : Tables)
+        pub page-tree-accepted : (u : Bool) (k : ℕ) (shadow′ map′ : List ℕ) (x y : ℕ) → not b ≡ false → u ≡ inUser (s .mode)
+            → takenApart k ≡ takenApart (flatAt tree page)
+            → sweep shadow′ map′ x y ≡ stored page (sweep shadow map 0 0) (step (rulesBy u (s .frames) exclusion) k (getD map page 0)) → (t : Tables)
             → keptBy (Done x y) s (withThree shadow′ map′ exclusion t) ≡ answer (before-tree t) (syncPageTree tree page)
-        unfolding questionsOf syncPageTreeQuestions effectOf kernelBy
-        page-tree-accepted u shadow′ map′ x y there q p t =
+        unfolding questionsOf syncPageTreeQuestions effectOf
+        page-tree-accepted u k shadow′ map′ x y there q apart p t =
             let inside : page < length map = tree-page-map s (length shadow) (length map) (length exclusion) r asked yes7 page b exists there in
             accepted-by (before-tree t) (syncPageTree tree page) _
             (sym (passed 7 0 r _ _ asked yes7 (passed 17 0 w _ _ walks yes17 (passed 9 0 b _ _ exists there none-left))))
-            (one-given s shadow map exclusion (flatAt tree) u page shadow′ map′ x y inside q p t)
+            (one-given s shadow map exclusion (flatAt tree) u page shadow′ map′ x y inside q
+            (p ∙ ap (stored page (sweep shadow map 0 0)) (step-same _ k (flatAt tree page) (getD map page 0) apart)) t)

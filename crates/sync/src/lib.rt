@@ -1,6 +1,6 @@
 // Document 01, "Synchronising one page", and the same for all pages.
-// One page's step reads an entry and no table, and the loop goes over tables of equal length, so that both serve further calls.
-// Document 02, K4: both calls from a tree differ from those from a flat table in where an entry is read, and in their questions.
+// One page's step reads an entry and no table, and the loop goes over a run of pages, so that both serve further calls.
+// Document 02, K4: from a tree, a run is the 512 pages that share every entry above level 1.
 
 use model::Answer;
 use model::Entry;
@@ -9,18 +9,23 @@ use model::State;
 use tree::Below;
 use tree::Part;
 ghost use mathlib.Core.Path.{_≡_};
-ghost use Prim.Native.Nat.{_+_, _%_, _<_, _≤_};
+ghost use mathlib.Core.Bool.{true};
+ghost use Prim.Native.Nat.{_+_, _-_, _%_, _<_, _≤_};
 ghost use lib.ListN.{length, getD, set};
 ghost use Rattle.model.specs.Basics.{differs};
+ghost use Rattle.model.specs.Bits.{takenApart};
 ghost use Rattle.model.specs.Keeps.{Tables, withThree, guardOf, vectorBytes};
 ghost use Rattle.model.specs.Sync;
-ghost use Rattle.model.specs.Tree.{treeOf};
-ghost use Rattle.model.specs.Sync.{slot, sweep, sweepFrom, stepFrom};
+ghost use Rattle.model.specs.Tree.{treeOf, treeInOrder, flatAt};
+ghost use Rattle.model.specs.Sync.{slot, sweep, sweepFrom, entryIn, stepFrom};
 ghost use Rattle.model.specs.Calls.{keptBy, syncPage, syncAll, syncPageTree, syncAllTree, answer};
-ghost use Rattle.sync.specs.Steps.{rulesBy, stored, kernelBy, Readable, Covers, Serves};
+ghost use Rattle.tree.specs.Parts.{flatIn, Sound};
+ghost use Rattle.sync.specs.Steps.{rulesBy, stored, sweptFrom, Holds, wordBy, flatBy, entryBy};
 
-// The pages that share every entry of a tree above level 1.
+// The pages that share every entry of a tree above level 1, and the weight of a frame in an entry.
 const PART: usize = 512;
+
+const FRAME: u64 = 0x1000;
 
 // A page's shadow entry and its number in the map.
 struct Slot {
@@ -117,130 +122,238 @@ fn sync_at(
     Counts { changed, joined }
 }
 
-// Where kernel entries are read: in a flat table, or down a tree with this root and depth.
-enum Source {
-    Flat,
-    Tree(u64, u64),
-}
-
-// How a tree goes on for the 512 pages around this one. A flat table needs no part.
-fn part_at(source: Source, words: &[u64], page: usize) -> Part
-    requires { ⌜ Readable source (now words) page ⌝ }
-    ensures { λ r. ⌜ Serves source (now (words .entry)) r page ⌝ }
-{
-    match source {
-        Source::Flat => Part {
-            below: Below::Nowhere,
-            all: 0,
-            any: 0,
-            reads: 0,
-        },
-        Source::Tree(root, depth) => tree::part_of(words, root, depth, page as u64),
-    }
-}
-
-// That for a page of a loop: the part so far serves up to the next page whose low nine bits are 0.
-fn part_now(source: Source, words: &[u64], part: Part, page: usize) -> Part
-    requires { ⌜ Readable source (now words) page × ((page % 512 ≡ 0 → ⊥) → Serves source (now words) part page) ⌝ }
-    ensures { λ r. ⌜ Serves source (now (words .entry)) r page ⌝ }
-{
-    if page % PART == 0 {
-        return part_at(source, words, page);
-    }
-    part
-}
-
-// The kernel entry of a page that the part serves.
-fn kernel_entry(source: Source, words: &[u64], part: Part, page: usize) -> u64
-    requires { ⌜ Readable source (now words) page × Serves source (now words) part page ⌝ }
-    ensures { λ r. ⌜ r ≡ kernelBy source (now (words .entry)) page ⌝ }
-{
-    match source {
-        Source::Flat => words[page],
-        Source::Tree(root, depth) => tree::flat_in(words, part, page as u64),
-    }
-}
-
-// Every page, in rising order. What is asked for question 7, and of a tree question 17, have settled in every caller.
+// Every page of parts of one length, in rising order. The lengths are asked for since question 7 has settled them in every caller.
 fn sync_pages(
     user: bool,
     frames: u16,
     exclusion: &[u8],
-    source: Source,
-    words: &[u64],
+    kernel: &[u64],
     shadow: &mut [u64],
     map: &mut [u16],
 ) -> Counts
-    requires { ⌜ Covers source (now words) (length (now shadow)) × (length (now map) ≡ length (now shadow))
+    requires { ⌜ (length (now shadow) ≡ length (now kernel)) × (length (now map) ≡ length (now kernel))
         × (length (now exclusion) ≡ vectorBytes frames) ⌝ }
     ensures { λ r. ⌜ sweep (now (shadow .exit)) (now (map .exit)) (r .changed) (r .joined)
-        ≡ sweepFrom (stepFrom (rulesBy user frames (now (exclusion .entry))) (kernelBy source (now (words .entry)))) 0 (now (shadow .entry)) (now (map .entry)) ⌝ }
+        ≡ sweepFrom (stepFrom (rulesBy user frames (now (exclusion .entry))) (entryIn (now (kernel .entry)))) 0 (now (shadow .entry)) (now (map .entry)) ⌝ }
 {
     let mut counts = Counts {
         changed: 0,
         joined: 0,
     };
-    let mut part = Part {
-        below: Below::Nowhere,
-        all: 0,
-        any: 0,
-        reads: 0,
-    };
     let mut i = 0;
-    while i < shadow.len() {
-        part = part_now(source, words, part, i);
-        let entry = kernel_entry(source, words, part, i);
+    while i < kernel.len() {
+        counts = sync_at(user, frames, exclusion, kernel[i], shadow, map, i, counts);
+        i += 1;
+    }
+    counts
+}
+
+// The pages from `first` up to, but not with, `end`.
+struct Pages {
+    first: usize,
+    end: usize,
+}
+
+// The kernel entries of a run of pages: those in the words from a place on, or that of a large page with the frames after its own; and the rights above
+// them, by the bits that all entries have and those that any has.
+struct Source {
+    at: usize,
+    entry: u64,
+    all: u64,
+    any: u64,
+}
+
+// The entry of a page of the run, by how many pages lie before it.
+fn entry_of(large: bool, words: &[u64], source: Source, before: usize) -> u64
+    requires { ⌜ Holds large (now words) source (before + 1) ⌝ }
+    ensures { λ r. ⌜ r ≡ wordBy large (now (words .entry)) source before ⌝ }
+{
+    if large {
+        return source.entry + before as u64 * FRAME;
+    }
+    let at = source.at + before;
+    words[at]
+}
+
+// That narrowed to the rights above it: an entry that is taken apart as its flat entry is.
+fn kernel_entry(large: bool, words: &[u64], source: Source, before: usize) -> u64
+    requires { ⌜ Holds large (now words) source (before + 1) ⌝ }
+    ensures { λ r. ⌜ takenApart r ≡ takenApart (flatBy source (wordBy large (now (words .entry)) source before)) ⌝ }
+{
+    tree::narrow(
+        source.all,
+        source.any,
+        entry_of(large, words, source, before),
+    )
+}
+
+// Every page of a run, in rising order. No more pages were counted than lie before it. Callers name `large` as a constant, so that each has a loop of
+// its own, which does not ask it.
+fn sync_run(
+    user: bool,
+    large: bool,
+    frames: u16,
+    exclusion: &[u8],
+    words: &[u64],
+    source: Source,
+    shadow: &mut [u64],
+    map: &mut [u16],
+    pages: Pages,
+    counts: Counts,
+) -> Counts
+    requires { ⌜ (pages .first ≤ pages .end) × (pages .end ≤ length (now shadow)) × (length (now map) ≡ length (now shadow)) × (counts .changed ≤ pages .first)
+        × (counts .joined ≤ pages .first) × (length (now exclusion) ≡ vectorBytes frames) × Holds large (now words) source (pages .end - pages .first) ⌝ }
+    ensures { λ r. ⌜ (sweep (now (shadow .exit)) (now (map .exit)) (r .changed) (r .joined)
+        ≡ sweptFrom (stepFrom (rulesBy user frames (now (exclusion .entry))) (entryBy large (now (words .entry)) source (pages .first))) (pages .first)
+        (pages .end - pages .first) (sweep (now (shadow .entry)) (now (map .entry)) (counts .changed) (counts .joined)))
+        × (r .changed ≤ pages .end) × (r .joined ≤ pages .end) ⌝ }
+{
+    let first = pages.first;
+    let end = pages.end;
+    let mut counts = counts;
+    let mut i = first;
+    while i < end {
+        let entry = kernel_entry(large, words, source, i - first);
         counts = sync_at(user, frames, exclusion, entry, shadow, map, i, counts);
         i += 1;
     }
     counts
 }
 
-// Each mode has its own loop, which then asks nothing of the mode.
-fn sync_each(
+// The pages of a tree's part. It begins with a page whose low nine bits are 0.
+fn sync_part(
     user: bool,
     frames: u16,
     exclusion: &[u8],
-    source: Source,
     words: &[u64],
+    part: Part,
     shadow: &mut [u64],
     map: &mut [u16],
+    pages: Pages,
+    counts: Counts,
 ) -> Counts
-    requires { ⌜ Covers source (now words) (length (now shadow)) × (length (now map) ≡ length (now shadow))
-        × (length (now exclusion) ≡ vectorBytes frames) ⌝ }
-    ensures { λ r. ⌜ sweep (now (shadow .exit)) (now (map .exit)) (r .changed) (r .joined)
-        ≡ sweepFrom (stepFrom (rulesBy user frames (now (exclusion .entry))) (kernelBy source (now (words .entry)))) 0 (now (shadow .entry)) (now (map .entry)) ⌝ }
+    requires { ⌜ (pages .first ≤ pages .end) × (pages .end ≤ length (now shadow)) × (length (now map) ≡ length (now shadow)) × (counts .changed ≤ pages .first)
+        × (counts .joined ≤ pages .first) × (length (now exclusion) ≡ vectorBytes frames) × (pages .first % 512 ≡ 0) × (pages .end - pages .first ≤ 512)
+        × Sound (now words) part ⌝ }
+    ensures { λ r. ⌜ (sweep (now (shadow .exit)) (now (map .exit)) (r .changed) (r .joined)
+        ≡ sweptFrom (stepFrom (rulesBy user frames (now (exclusion .entry))) (flatIn (now (words .entry)) part)) (pages .first) (pages .end - pages .first)
+        (sweep (now (shadow .entry)) (now (map .entry)) (counts .changed) (counts .joined)))
+        × (r .changed ≤ pages .end) × (r .joined ≤ pages .end) ⌝ }
 {
-    if user {
-        return sync_pages(true, frames, exclusion, source, words, shadow, map);
+    let below = part.below;
+    match below {
+        Below::Table(number) => {
+            let table = Source {
+                at: number as usize * PART,
+                entry: 0,
+                all: part.all,
+                any: part.any,
+            };
+            sync_run(
+                user,
+                false,
+                frames,
+                exclusion,
+                words,
+                table,
+                shadow,
+                map,
+                pages,
+                counts,
+            )
+        }
+        Below::Large(entry) => {
+            let large = Source {
+                at: 0,
+                entry,
+                all: part.all,
+                any: part.any,
+            };
+            sync_run(
+                user,
+                true,
+                frames,
+                exclusion,
+                words,
+                large,
+                shadow,
+                map,
+                pages,
+                counts,
+            )
+        }
+        Below::Nowhere => {
+            let absent = Source {
+                at: 0,
+                entry: 0,
+                all: part.all,
+                any: part.any,
+            };
+            sync_run(
+                user,
+                true,
+                frames,
+                exclusion,
+                words,
+                absent,
+                shadow,
+                map,
+                pages,
+                counts,
+            )
+        }
     }
-    sync_pages(false, frames, exclusion, source, words, shadow, map)
 }
 
-// One page. It asks that both tables have it.
-fn sync_one(
+// Where the part that begins at a page ends, of so many pages.
+fn part_end(first: usize, pages: usize) -> usize
+    requires { ⌜ first < pages ⌝ }
+    ensures { λ r. ⌜ (first < r) × (r ≤ pages) × (r - first ≤ 512) × (r < pages → r ≡ first + 512) ⌝ }
+{
+    if pages - first < PART {
+        pages
+    } else {
+        first + PART
+    }
+}
+
+// Every page from a tree, part by part.
+fn sync_parts(
     user: bool,
     frames: u16,
     exclusion: &[u8],
-    source: Source,
     words: &[u64],
+    root: u64,
+    depth: u64,
     shadow: &mut [u64],
     map: &mut [u16],
-    page: usize,
 ) -> Counts
-    requires { ⌜ Readable source (now words) page × (page < length (now shadow)) × (page < length (now map))
-        × (length (now exclusion) ≡ vectorBytes frames) ⌝ }
+    requires { ⌜ (treeInOrder (treeOf (now words) root depth) ≡ true) × (length (now map) ≡ length (now shadow)) × (length (now exclusion) ≡ vectorBytes frames) ⌝ }
     ensures { λ r. ⌜ sweep (now (shadow .exit)) (now (map .exit)) (r .changed) (r .joined)
-        ≡ stored page (sweep (now (shadow .entry)) (now (map .entry)) 0 0)
-        (Sync.step (rulesBy user frames (now (exclusion .entry))) (kernelBy source (now (words .entry)) page) (getD (now (map .entry)) page 0)) ⌝ }
+        ≡ sweepFrom (stepFrom (rulesBy user frames (now (exclusion .entry))) (flatAt (treeOf (now (words .entry)) root depth))) 0 (now (shadow .entry)) (now (map .entry)) ⌝ }
 {
-    let part = part_at(source, words, page);
-    let entry = kernel_entry(source, words, part, page);
-    let none = Counts {
+    let mut counts = Counts {
         changed: 0,
         joined: 0,
     };
-    sync_at(user, frames, exclusion, entry, shadow, map, page, none)
+    let mut first = 0;
+    while first < shadow.len() {
+        let end = part_end(first, shadow.len());
+        let part = tree::part_of(words, root, depth, first as u64);
+        counts = sync_part(
+            user,
+            frames,
+            exclusion,
+            words,
+            part,
+            shadow,
+            map,
+            Pages { first, end },
+            counts,
+        );
+        first = end;
+    }
+    counts
 }
 
 // Synchronise one page.
@@ -262,17 +375,21 @@ pub fn sync_page(
     if !questions::page_exists(page, s.pages) {
         return Answer::Refused(9);
     }
+    let i = page as usize;
     let mode = s.mode;
-    let user = questions::in_user(mode);
-    let one = sync_one(
-        user,
+    let none = Counts {
+        changed: 0,
+        joined: 0,
+    };
+    let one = sync_at(
+        questions::in_user(mode),
         s.frames,
         exclusion,
-        Source::Flat,
-        kernel,
+        kernel[i],
         shadow,
         map,
-        page as usize,
+        i,
+        none,
     );
     Answer::Done(one.changed, one.joined)
 }
@@ -293,8 +410,12 @@ pub fn sync_all(
         return Answer::Refused(7);
     }
     let mode = s.mode;
-    let user = questions::in_user(mode);
-    let all = sync_each(user, s.frames, exclusion, Source::Flat, kernel, shadow, map);
+    // Each mode has its own loop, which then asks nothing of the mode.
+    if questions::in_user(mode) {
+        let all = sync_pages(true, s.frames, exclusion, kernel, shadow, map);
+        return Answer::Done(all.changed, all.joined);
+    }
+    let all = sync_pages(false, s.frames, exclusion, kernel, shadow, map);
     Answer::Done(all.changed, all.joined)
 }
 
@@ -322,17 +443,23 @@ pub fn sync_page_tree(
     if !questions::page_exists(page, s.pages) {
         return Answer::Refused(9);
     }
+    let part = tree::part_of(words, root, depth, page);
+    let last = tree::last_in(words, part, page);
+    let i = page as usize;
     let mode = s.mode;
-    let user = questions::in_user(mode);
-    let one = sync_one(
-        user,
+    let none = Counts {
+        changed: 0,
+        joined: 0,
+    };
+    let one = sync_at(
+        questions::in_user(mode),
         s.frames,
         exclusion,
-        Source::Tree(root, depth),
-        words,
+        tree::narrow(part.all, part.any, last),
         shadow,
         map,
-        page as usize,
+        i,
+        none,
     );
     Answer::Done(one.changed, one.joined)
 }
@@ -358,13 +485,13 @@ pub fn sync_all_tree(
         return Answer::Refused(17);
     }
     let mode = s.mode;
-    let user = questions::in_user(mode);
-    let all = sync_each(
-        user,
+    let all = sync_parts(
+        questions::in_user(mode),
         s.frames,
         exclusion,
-        Source::Tree(root, depth),
         words,
+        root,
+        depth,
         shadow,
         map,
     );

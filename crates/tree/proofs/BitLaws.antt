@@ -1,9 +1,10 @@
 -- The bits of rights gathered in words, of a flat entry and of a large page's entry.
 use Prim.Native.Nat.{ℕ, zero, suc, _+_, _*_, _/_, _%_, _^_, _<_, _≤_}
 use mathlib.Core.Bool.{Bool, true, false, cond}
+use mathlib.Core.Logic.{_⊎_, inl, inr}
 use mathlib.Core.Path.{_≡_, refl, sym, ap, ap₂, _∙_}
 use native.Mathlib.Omega.{arith}
-use lib.Bits.{bitAnd, bitOr, and-shr, or-shr, and-mod, or-mod, or-lt}
+use lib.Bits.{bitAnd, bitOr, and-shr, or-shr, and-mod, or-mod, or-lt, or-comm, or-zero-r}
 use lib.Dec.{eqb}
 use Rattle.model.specs.declared.Entry.{Entry}
 use Rattle.model.specs.declared.Entry.the-variants.{Absent, Present}
@@ -12,7 +13,7 @@ use Rattle.model.specs.Basics.{both, either, bit, flag}
 use Rattle.model.specs.Bits.{present, writable, userBit, writeThrough, cacheDisable, noExecute, frameOf, fieldsOf, reserved, valid, takenApart}
 use Rattle.model.specs.Tree.{Rights, gathered, flatEntry}
 use Rattle.model.proofs.VectorLaws.{flag-weight, flag-bit}
-use Rattle.model.proofs.BitLaws.{bits-below, fields-apart}
+use Rattle.model.proofs.BitLaws.{bits-below, taken-apart, present-valid, valid-parts, fields-apart}
 use Rattle.tree.specs.Parts.{rightsBy, lastFlat}
 
 -- A bit of what two words have together, and of what either has.
@@ -159,3 +160,133 @@ module _ (entry q : ℕ) (aligned : entry % 2 ^ 21 < 2 ^ 12) (small : q < 512) w
   added-last rights p =
       rw (added-valid, p)
       (rw (added-low 1 (omega arith), added-low 2 (omega arith), added-low 3 (omega arith), added-low 4 (omega arith), added-frame, added-top))
+
+bit-63 : (x y : ℕ) → x / 2 ^ 63 ≡ y / 2 ^ 63 → bit 63 x ≡ bit 63 y
+unfolding bit
+bit-63 x y e = ap (λ (d : ℕ). eqb (d % 2) 1) e
+
+-- Two entries with the same bits 0 to 4, 52 to 63 and frame are taken apart alike.
+apart-same : (x y : ℕ) → x % 2 ^ 5 ≡ y % 2 ^ 5 → x / 2 ^ 12 % 2 ^ 40 ≡ y / 2 ^ 12 % 2 ^ 40 → x / 2 ^ 52 % 2 ^ 11 ≡ y / 2 ^ 52 % 2 ^ 11
+    → x / 2 ^ 63 ≡ y / 2 ^ 63 → takenApart x ≡ takenApart y
+unfolding takenApart valid present reserved fieldsOf writable userBit writeThrough cacheDisable noExecute frameOf
+apart-same x y low frame high top =
+    let top-bit : bit 63 x ≡ bit 63 y = bit-63 x y top in
+    rw (
+      bits-below 5 x y low 0 (omega arith),
+      bits-below 5 x y low 1 (omega arith),
+      bits-below 5 x y low 2 (omega arith),
+      bits-below 5 x y low 3 (omega arith),
+      bits-below 5 x y low 4 (omega arith),
+      frame,
+      high,
+      top-bit,
+    )
+
+-- What stands below bit 63, and what from bit 3 on, of a number.
+module _ (x : ℕ) where
+  frame-below : x % 2 ^ 63 / 2 ^ 12 % 2 ^ 40 ≡ x / 2 ^ 12 % 2 ^ 40
+  frame-below = omega arith
+
+  reserved-below : x % 2 ^ 63 / 2 ^ 52 % 2 ^ 11 ≡ x / 2 ^ 52 % 2 ^ 11
+  reserved-below = omega arith
+
+  low-below : x % 2 ^ 63 % 2 ^ 5 ≡ x % 2 ^ 5
+  low-below = omega arith
+
+  frame-from : x / 2 ^ 12 % 2 ^ 40 ≡ x / 2 ^ 3 / 2 ^ 9 % 2 ^ 40
+  frame-from = omega arith
+
+  reserved-from : x / 2 ^ 52 % 2 ^ 11 ≡ x / 2 ^ 3 / 2 ^ 49 % 2 ^ 11
+  reserved-from = omega arith
+
+  top-from : x / 2 ^ 63 ≡ x / 2 ^ 3 / 2 ^ 60
+  top-from = omega arith
+
+-- The digits of a flat entry.
+flat-digits : (f t r o : ℕ) → f < 2 ^ 40 → t < 4 → r < 4 → o < 2
+    → let flat : ℕ = f * 2 ^ 12 + t * 2 ^ 3 + r * 2 + 1 + o * 2 ^ 63 in
+    (flat % 2 ^ 5 ≡ t * 2 ^ 3 + r * 2 + 1) × (flat / 2 ^ 12 % 2 ^ 40 ≡ f) × (flat / 2 ^ 52 % 2 ^ 11 ≡ 0) × (flat / 2 ^ 63 ≡ o)
+flat-digits f t r o a b c d = (omega arith, omega arith, omega arith, omega arith)
+
+-- An entry that is valid where an absent one is, is absent.
+there : Entry → Bool
+there Absent = false
+there (Present x) = true
+
+absent-same : (x y : ℕ) → valid x ≡ valid y → takenApart y ≡ Absent → takenApart x ≡ takenApart 0
+unfolding takenApart valid present reserved bit both there
+absent-same x y e p = rw (e ∙ by (valid y) ∙ ap there p)
+  where
+    by : (b : Bool) → b ≡ there (cond b (Present (fieldsOf y)) Absent)
+    by true = refl
+    by false = refl
+
+-- An entry narrowed to the rights from above.
+module _ (all any entry : ℕ) (l : any < 2 ^ 64) (m : entry < 2 ^ 64) where
+  abbrev kept : ℕ
+  kept = entry / 2 ^ 3 * 2 ^ 3 + bitAnd all entry / 2 % 4 * 2 + entry % 2
+
+  abbrev narrowed : ℕ
+  narrowed = bitOr kept (any / 2 ^ 63 * 2 ^ 63)
+
+  -- Below bit 63 it is what is kept, and bit 63 is set beside what it was.
+  kept-high : kept / 2 ^ 3 ≡ entry / 2 ^ 3
+  kept-high = omega arith
+
+  below-63 : narrowed % 2 ^ 63 ≡ kept % 2 ^ 63
+  below-63 =
+      let none : any / 2 ^ 63 * 2 ^ 63 % 2 ^ 63 ≡ 0 = omega arith in
+      or-mod kept (any / 2 ^ 63 * 2 ^ 63) 63 ∙ ap (bitOr (kept % 2 ^ 63)) none ∙ or-zero-r (kept % 2 ^ 63)
+
+  at-63 : narrowed / 2 ^ 63 ≡ bitOr any entry / 2 ^ 63
+  at-63 =
+      let a : kept / 2 ^ 63 ≡ entry / 2 ^ 63 = top-from kept ∙ ap (λ (x : ℕ). x / 2 ^ 60) kept-high ∙ sym (top-from entry) in
+      let b : any / 2 ^ 63 * 2 ^ 63 / 2 ^ 63 ≡ any / 2 ^ 63 = omega arith in
+      or-shr kept (any / 2 ^ 63 * 2 ^ 63) 63 ∙ ap₂ bitOr a b ∙ or-comm (entry / 2 ^ 63) (any / 2 ^ 63) ∙ sym (or-shr any entry 63)
+
+  narrowed-frame : narrowed / 2 ^ 12 % 2 ^ 40 ≡ entry / 2 ^ 12 % 2 ^ 40
+  narrowed-frame =
+      sym (frame-below narrowed) ∙ ap (λ (x : ℕ). x / 2 ^ 12 % 2 ^ 40) below-63 ∙ frame-below kept
+      ∙ frame-from kept ∙ ap (λ (x : ℕ). x / 2 ^ 9 % 2 ^ 40) kept-high ∙ sym (frame-from entry)
+
+  narrowed-reserved : narrowed / 2 ^ 52 % 2 ^ 11 ≡ entry / 2 ^ 52 % 2 ^ 11
+  narrowed-reserved =
+      sym (reserved-below narrowed) ∙ ap (λ (x : ℕ). x / 2 ^ 52 % 2 ^ 11) below-63 ∙ reserved-below kept
+      ∙ reserved-from kept ∙ ap (λ (x : ℕ). x / 2 ^ 49 % 2 ^ 11) kept-high ∙ sym (reserved-from entry)
+
+  abbrev lowest-kept : ℕ
+  lowest-kept = entry / 2 ^ 3 % 4 * 2 ^ 3 + bitAnd all entry / 2 % 4 * 2 + entry % 2
+
+  narrowed-low : narrowed % 2 ^ 5 ≡ lowest-kept
+  narrowed-low =
+      let low : kept % 2 ^ 5 ≡ lowest-kept = omega arith in
+      sym (low-below narrowed) ∙ ap (λ (x : ℕ). x % 2 ^ 5) below-63 ∙ low-below kept ∙ low
+
+  -- A present entry: the flat entry has the same bits 0 to 4 and 63 and frame, and neither has a reserved bit.
+  narrowed-present : takenApart entry ≡ Present (fieldsOf entry) → takenApart narrowed ≡ takenApart (lastFlat (rightsBy all any) (takenApart entry))
+  unfolding fieldsOf frameOf
+  narrowed-present there =
+      let parts : (entry % 2 ≡ 1) × (entry / 2 ^ 52 % 2 ^ 11 ≡ 0) = valid-parts entry (present-valid entry (fieldsOf entry) there) in
+      let flat : ℕ = frameOf entry * 2 ^ 12 + entry / 2 ^ 3 % 4 * 2 ^ 3 + bitAnd all entry / 2 % 4 * 2 + 1 + bitOr any entry / 2 ^ 63 * 2 ^ 63 in
+      let o : bitOr any entry < 2 ^ 64 = or-lt 64 any entry l m in
+      let same : flat ≡ lastFlat (rightsBy all any) (takenApart entry) = flat-present all any entry (takenApart entry) refl (fieldsOf entry) l m there in
+      let d = flat-digits (frameOf entry) (entry / 2 ^ 3 % 4) (bitAnd all entry / 2 % 4) (bitOr any entry / 2 ^ 63) (omega arith) (omega arith) (omega arith) (omega arith) in
+      apart-same narrowed flat (narrowed-low ∙ ap (λ (x : ℕ). entry / 2 ^ 3 % 4 * 2 ^ 3 + bitAnd all entry / 2 % 4 * 2 + x) (parts .0) ∙ sym (d .0))
+      (narrowed-frame ∙ sym (d .1)) (narrowed-reserved ∙ parts .1 ∙ sym (d .2)) (at-63 ∙ sym (d .3))
+      ∙ ap takenApart same
+
+  -- An absent one: it has the same bit 0 and the same reserved bits.
+  narrowed-valid : valid narrowed ≡ valid entry
+  unfolding valid present reserved
+  narrowed-valid =
+      let low : narrowed % 2 ^ 1 ≡ entry % 2 ^ 1 = omega (arith, narrowed-low) in
+      rw (bits-below 1 narrowed entry low 0 (omega arith), narrowed-reserved)
+
+  pub narrowed-apart : takenApart narrowed ≡ takenApart (lastFlat (rightsBy all any) (takenApart entry))
+  unfolding lastFlat
+  narrowed-apart = by (taken-apart entry)
+    where
+      by : (takenApart entry ≡ Absent) ⊎ (takenApart entry ≡ Present (fieldsOf entry))
+          → takenApart narrowed ≡ takenApart (lastFlat (rightsBy all any) (takenApart entry))
+      by (inl absent) = rw absent (absent-same narrowed entry narrowed-valid absent)
+      by (inr there) = narrowed-present there

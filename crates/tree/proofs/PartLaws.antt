@@ -4,7 +4,8 @@ use mathlib.Core.List.{List}
 use mathlib.Core.Path.{_≡_, sym, _∙_}
 use native.Mathlib.Omega.{arith}
 use lib.ListN.{length, getD}
-use Rattle.model.specs.Bits.{takenApart}
+use Rattle.model.specs.Basics.{both, bit}
+use Rattle.model.specs.Bits.{present, valid, takenApart}
 use Rattle.model.specs.Tree.{tablesIn}
 use Rattle.tree.specs.declared.Below.{Below}
 use Rattle.tree.specs.declared.Below.the-variants.{Table, Large, Nowhere}
@@ -21,19 +22,20 @@ module _ (words : List ℕ) (part : Part) (sound : Sound words part) where
   large-fits entry page p h = let low : entry % 2 ^ 21 < 2 ^ 12 = rw p at (sound .0) in omega arith
 
 module _ (words : List ℕ) (part : Part) (page : ℕ) where
-  pub flat-table : (number r : ℕ) → part .below ≡ Table number
-      → r ≡ lastFlat (rightsBy (part .all) (part .any)) (takenApart (getD words (number * 512 + page % 512) 0)) → r ≡ flatIn words part page
-  unfolding flatIn flatBelow
-  flat-table number r p e = rw p e
+  abbrev flat-of : ℕ → ℕ
+  flat-of entry = lastFlat (rightsBy (part .all) (part .any)) (takenApart entry)
 
-  pub flat-large : (entry r : ℕ) → part .below ≡ Large entry
-      → r ≡ lastFlat (rightsBy (part .all) (part .any)) (takenApart (entry + page % 512 * 2 ^ 12)) → r ≡ flatIn words part page
+  pub last-table : (number : ℕ) → part .below ≡ Table number → flat-of (getD words (number * 512 + page % 512) 0) ≡ flatIn words part page
   unfolding flatIn flatBelow
-  flat-large entry r p e = rw p e
+  last-table number p = rw p
 
-  pub flat-nowhere : part .below ≡ Nowhere → 0 ≡ flatIn words part page
+  pub last-large : (entry : ℕ) → part .below ≡ Large entry → flat-of (entry + page % 512 * 2 ^ 12) ≡ flatIn words part page
   unfolding flatIn flatBelow
-  flat-nowhere p = rw p
+  last-large entry p = rw p
+
+  pub last-nowhere : part .below ≡ Nowhere → flat-of 0 ≡ flatIn words part page
+  unfolding flatIn flatBelow lastFlat takenApart valid present bit both
+  last-nowhere p = rw p
 
 module _ (part : Part) where
   pub reads-table : (number : ℕ) → part .below ≡ Table number → part .reads + 1 ≡ readsIn part

@@ -251,9 +251,10 @@ module _ (words : List ℕ) (root depth page : ℕ) (low : 1 ≤ depth) (high : 
       let none = walk-many p (many-bits p depth low high (λ e. many (sym (bits-same p page depth low high same) ∙ e))) in
       (ap (λ (w : Walk). w .flat) none, ap (λ (w : Walk). length (w .met)) none)
 
-  pub from-root : (r : Part) → page / 2 ^ (9 * depth) ≡ 0 → Gives words page depth (2 ^ 64 - 1) 0 root 0 r → RootGives r
+  pub from-root : (r : Part) (level : ℕ) → depth ≡ level → page / 2 ^ (9 * depth) ≡ 0 → Gives words page level (2 ^ 64 - 1) 0 root 0 r → RootGives r
   unfolding flatAt readsAt
-  from-root r few gives p same =
+  from-root r level at few walked p same =
+      let gives : Gives words page depth (2 ^ 64 - 1) 0 root 0 r = rw at walked in
       let whole = walk-few p (few-bits p depth low high (bits-same p page depth low high same ∙ few)) in
       let n : 0 + length (walkFrom words p depth (rightsBy (2 ^ 64 - 1) 0) root .met) ≡ readsIn r = gives p same .1 in
       (ap (λ (w : Walk). w .flat) whole ∙ gives p same .0, ap (λ (w : Walk). length (w .met)) whole ∙ omega (arith, n))

@@ -31,9 +31,6 @@ const LARGE: u64 = 0x80;
 
 const FRAME: u64 = 0x1000;
 
-// One above the largest number that the 40 bits of a frame hold.
-const FRAMES: u64 = 0x100_0000_0000;
-
 const EVERY_BIT: u64 = 0xffff_ffff_ffff_ffff;
 
 // Where the walk of 512 pages goes on below the entries that they share: in the table of level 1 with this number, in the large page with this
@@ -83,6 +80,15 @@ fn flat(all: u64, any: u64, entry: u64) -> u64
         + (any | entry) / entry::NO_EXECUTE * entry::NO_EXECUTE
 }
 
+// A last entry narrowed to the rights that the entries above leave: the same entry with other bits 1, 2 and 63. It is taken apart as the flat entry is,
+// and absent where that is 0. A synchronisation asks no more, and asks itself whether it is absent.
+pub fn narrow(all: u64, any: u64, entry: u64) -> u64
+    ensures { λ r. ⌜ takenApart r ≡ takenApart (lastFlat (rightsBy all any) (takenApart entry)) ⌝ }
+{
+    entry / WRITE_THROUGH * WRITE_THROUGH + (all & entry) / WRITABLE % 4 * WRITABLE + entry % 2
+        | any / entry::NO_EXECUTE * entry::NO_EXECUTE
+}
+
 // The walk from a level down to level 1, in the table with this number, by the rights gathered above it.
 fn part_from(
     words: &[u64],
@@ -125,27 +131,27 @@ fn part_from(
             reads,
         };
     };
-    // "at level 3 these three bits do not count"
-    if level == 3 {
-        return part_from(words, page, 2, all, any, x.frame, reads);
-    }
-    if entry / LARGE % 2 == 0 {
-        return part_from(words, page, 1, all & entry, any | entry, x.frame, reads);
-    }
-    if x.frame % ENTRIES != 0 {
+    if level == 2 {
+        if entry / LARGE % 2 == 0 {
+            return part_from(words, page, 1, all & entry, any | entry, x.frame, reads);
+        }
+        if x.frame % ENTRIES != 0 {
+            return Part {
+                below: Below::Nowhere,
+                all,
+                any,
+                reads,
+            };
+        }
         return Part {
-            below: Below::Nowhere,
+            below: Below::Large(entry),
             all,
             any,
             reads,
         };
     }
-    Part {
-        below: Below::Large(entry),
-        all,
-        any,
-        reads,
-    }
+    // "at level 3 these three bits do not count"
+    part_from(words, page, 2, all, any, x.frame, reads)
 }
 
 // The part of a page. It asks for a tree that question 17 has let pass.
@@ -164,22 +170,25 @@ pub fn part_of(words: &[u64], root: u64, depth: u64, page: u64) -> Part
             reads: 0,
         };
     }
-    part_from(words, page, level, EVERY_BIT, 0, root, 0)
+    if level == 1 {
+        return part_from(words, page, 1, EVERY_BIT, 0, root, 0);
+    }
+    if level == 2 {
+        return part_from(words, page, 2, EVERY_BIT, 0, root, 0);
+    }
+    part_from(words, page, 3, EVERY_BIT, 0, root, 0)
 }
 
-// The flat entry of a page of the part.
-pub fn flat_in(words: &[u64], part: Part, page: u64) -> u64
+// The last entry of a page of the part, below the rights that the part has, and 0 where the page is absent above it. "the page number's low nine are
+// added" to the frame of a large page.
+pub fn last_in(words: &[u64], part: Part, page: u64) -> u64
     requires { ⌜ Sound (now words) part ⌝ }
-    ensures { λ r. ⌜ r ≡ flatIn (now (words .entry)) part page ⌝ }
+    ensures { λ r. ⌜ lastFlat (rightsBy (part .all) (part .any)) (takenApart r) ≡ flatIn (now (words .entry)) part page ⌝ }
 {
     let below = part.below;
     match below {
-        Below::Table(number) => flat(
-            part.all,
-            part.any,
-            words[(number * ENTRIES + page % ENTRIES) as usize],
-        ),
-        Below::Large(entry) => flat(part.all, part.any, entry + page % ENTRIES * FRAME),
+        Below::Table(number) => words[(number * ENTRIES + page % ENTRIES) as usize],
+        Below::Large(entry) => entry + page % ENTRIES * FRAME,
         Below::Nowhere => 0,
     }
 }
@@ -208,5 +217,6 @@ pub fn walk(words: &[u64], root: u64, depth: u64, page: u64, numbers_fit: bool) 
         return Answer::Refused(17);
     }
     let part = part_of(words, root, depth, page);
-    Answer::Done(flat_in(words, part, page), reads_in(part))
+    let entry = last_in(words, part, page);
+    Answer::Done(flat(part.all, part.any, entry), reads_in(part))
 }

@@ -1,4 +1,4 @@
--- Question 7 refuses, or the tables have one length and the vector its own.
+-- Question 7 refuses, or the three tables have one length and the vector its own; each mode has its own sweep.
 use Rattle.sync.proofs.SyncLaws.{all-refused, flat-covers, flat-map, flat-vector, all-accepted}
 use borrow.Author.Needs.{needs}
 use Rattle.sync.proofs.sync_all.Statement.{statement}
@@ -7,14 +7,20 @@ use Rattle.sync.proofs.sync_all.Tie as tie
 returns : tie.Need-returns
 returns c = search (needs, all-refused)
 
-sync-each-requires : tie.Need-sync-each-requires
-sync-each-requires c κs = (search flat-covers, search flat-map, search flat-vector)
+sync-pages-requires : tie.Need-sync-pages-requires
+sync-pages-requires c κs = (search flat-covers, search flat-map, search flat-vector)
 
 returns-2 : tie.Need-returns-2
 returns-2 c = search (needs, all-accepted)
 
+sync-pages-requires-2 : tie.Need-sync-pages-requires-2
+sync-pages-requires-2 c κs = (search flat-covers, search flat-map, search flat-vector)
+
+returns-3 : tie.Need-returns-3
+returns-3 c = search (needs, all-accepted)
+
 pub sync-all-spec : {M : Type 1} → statement M
 sync-all-spec =
     tie.close
-    (tie.spec (λ c κs. search needs) returns (λ c κs. search needs) sync-each-requires (λ c. search needs)
-    (λ c. search needs) returns-2)
+    (tie.spec (λ c κs. search needs) returns (λ c κs. search needs) sync-pages-requires (λ c. search needs)
+    (λ c. search needs) returns-2 sync-pages-requires-2 (λ c. search needs) (λ c. search needs) returns-3)

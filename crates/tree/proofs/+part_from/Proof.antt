@@ -65,19 +65,19 @@ module _ (t : ℕ) where
   part-from-requires c κs = (omega arith, omega arith)
 
   returns-4 : lts.Need-returns-4 (take-apart.Asked, take-apart.Learnt, below t, part-from.Post) (at t) part-from.Post
-  returns-4 c = (search needs, level-3 _ _ _ _ _ _ _ _ (c .before .before .before .before .before .take-apart .ensures) (search needs) (c .before .before .before .x .given .0 .0) (search needs) _ (search needs) (c .part-from .ensures .1))
+  returns-4 c = (search needs, level-2 _ _ _ _ _ _ _ _ (c .before .before .before .before .before .before .take-apart .ensures) (search needs) (c .before .before .before .before .x .given .0 .0) (search needs) (search needs) _ (search needs) (c .part-from .ensures .1))
+
+  returns-5 : lts.Need-returns-5 (take-apart.Asked, take-apart.Learnt, below t, part-from.Post) (at t) part-from.Post
+  returns-5 c = ((tt, omega arith), level-misaligned _ _ _ _ _ _ _ _ (c .before .before .before .before .before .before .before .take-apart .ensures) (search needs) (c .before .before .before .before .before .x .given .0 .0) (search needs) (search needs) (omega arith) (search needs))
+
+  returns-6 : lts.Need-returns-6 (take-apart.Asked, take-apart.Learnt, below t, part-from.Post) (at t) part-from.Post
+  returns-6 c = ((large-low _ _ (c .before .before .before .before .before .x .given .0 .0) (c .before .before .before .before .before .before .before .take-apart .ensures) (search needs) (search needs), omega arith), level-large _ _ _ _ _ _ _ _ (c .before .before .before .before .before .before .before .take-apart .ensures) (search needs) (c .before .before .before .before .before .x .given .0 .0) (search needs) (search needs) (omega arith) (search needs))
 
   part-from-requires-2 : lts.Need-part-from-requires-2 (take-apart.Asked, take-apart.Learnt, below t, part-from.Post) (at t) part-from.Post
   part-from-requires-2 c κs = (omega arith, omega arith)
 
-  returns-5 : lts.Need-returns-5 (take-apart.Asked, take-apart.Learnt, below t, part-from.Post) (at t) part-from.Post
-  returns-5 c = (search needs, level-2 _ _ _ _ _ _ _ _ (c .before .before .before .before .before .before .take-apart .ensures) (search needs) (c .before .before .before .before .x .given .0 .0) (search needs) (omega arith) _ (search needs) (c .part-from2 .ensures .1))
-
-  returns-6 : lts.Need-returns-6 (take-apart.Asked, take-apart.Learnt, below t, part-from.Post) (at t) part-from.Post
-  returns-6 c = ((tt, omega arith), level-misaligned _ _ _ _ _ _ _ _ (c .before .before .before .before .before .before .before .take-apart .ensures) (search needs) (c .before .before .before .before .before .x .given .0 .0) (search needs) (omega arith) (omega arith) (search needs))
-
   returns-7 : lts.Need-returns-7 (take-apart.Asked, take-apart.Learnt, below t, part-from.Post) (at t) part-from.Post
-  returns-7 c = ((large-low _ _ (c .before .before .before .before .before .x .given .0 .0) (c .before .before .before .before .before .before .before .take-apart .ensures) (search needs) (search needs), omega arith), level-large _ _ _ _ _ _ _ _ (c .before .before .before .before .before .before .before .take-apart .ensures) (search needs) (c .before .before .before .before .before .x .given .0 .0) (search needs) (omega arith) (omega arith) (search needs))
+  returns-7 c = (search needs, level-3 _ _ _ _ _ _ _ _ (c .before .before .before .before .before .take-apart .ensures) (search needs) (c .before .before .before .x .given .0 .0) (search needs) _ (omega arith) (c .part-from2 .ensures .1))
 
 pub +part-from-spec : {M : Type 1} → statement M
 +part-from-spec =
@@ -85,4 +85,4 @@ pub +part-from-spec : {M : Type 1} → statement M
     (λ t. lts.spec (take-apart.Asked, take-apart.Learnt, below t, part-from.Post) (at t) part-from.Post (returns t) (returns-2 t)
     (λ c. search needs) (mul-place t) (cast-place t) (shr-place t) (mul-entry t) (add-entry t) (mul-entry-2 t) (shared-slice-read-entry t)
     (add-reads t) (λ c κs. search needs) (λ c. search needs) (λ c. search needs) (returns-3 t) (part-from-requires t) (returns-4 t)
-    (part-from-requires-2 t) (returns-5 t) (returns-6 t) (returns-7 t))
+    (returns-5 t) (returns-6 t) (part-from-requires-2 t) (returns-7 t))
