@@ -5,8 +5,8 @@
  * Build the library with `rt staticlib exports`, and link target/staticlib/libexports.a. docs/INTEGRATION.md has what it needs
  * beside that (memcpy, memset, SSE, stack), how the processor is set up, and what to do around each call.
  *
- * Runs. A table, a policy record, an array, a buffer, the state and the two numbers of a call each cross as a pointer and the
- * number of its elements. The guard keeps nothing between calls: the caller holds every run and lends it.
+ * Runs. A table, a run of tables, a policy record, an array, a buffer, the state and the two numbers of a call each cross as a
+ * pointer and the number of its elements. The guard keeps nothing between calls: the caller holds every run and lends it.
  *   - A pointer is valid for as many elements as its length says, is aligned to its element (8 bytes for 64 bits, 2 for 16), and
  *     is not NULL, even where the length is 0.
  *   - A run that is lent for writing overlaps no other run of the same call.
@@ -14,8 +14,8 @@
  * These three are the caller's part, and the only part that the guard does not test. State, shadow, map and exclusion go from
  * one call to the next as the last one left them: that is what the guarantee about all calls rests on.
  *
- * Numbers. Sizes, counts, the pages that a call names, entry indices, addresses and lengths are 64 bits wide and are never cut:
- * page 65537 is refused with 9, and is not taken for page 1. Sums of address and length are exact.
+ * Numbers. Sizes, counts, roots, depths, the pages that a call names, entry indices, addresses and lengths are 64 bits wide and
+ * are never cut: page 65537 is refused with 9, and is not taken for page 1. Sums of address and length are exact.
  *
  * Answers. A call returns 0 where it is accepted, and else the number of the first question that was answered no (enum
  * guard_refusal). Its two numbers go to the numbers run, a run of GUARD_NUMBERS words: 0 and 0 where it is refused.
@@ -76,7 +76,8 @@ enum guard_refusal {
     GUARD_EXCLUDED = 13,           /* a touched frame is excluded */
     GUARD_CALL_CUT_SHORT = 14,     /* the last call is cut short */
     GUARD_UNKNOWN_KIND = 15,       /* the kind of call is unknown */
-    GUARD_BUFFER_TOO_SHORT = 16    /* the buffer is shorter than the record */
+    GUARD_BUFFER_TOO_SHORT = 16,   /* the buffer is shorter than the record */
+    GUARD_TREE = 17                /* the tree's run, depth or root does not fit */
 };
 
 /*
@@ -85,6 +86,7 @@ enum guard_refusal {
  *   shadow     V entries of 64 bits, which only the guard writes
  *   map        V numbers of 16 bits: the frame approved for that page, or GUARD_MAP_NONE
  *   exclusion  (F + 7) / 8 bytes: bit f % 8 of byte f / 8, bit 0 the lowest, is set where frame f is excluded; spare bits are 0
+ * A tree, which stands in the kernel table's place, is question 17's: see "Trees".
  */
 #define GUARD_MAP_NONE UINT16_C(65535)
 
@@ -92,7 +94,7 @@ enum guard_refusal {
  * Entries. Entry p of a table is that of page p, the virtual addresses from p * 4096 to p * 4096 + 4095; frame f is the same of
  * physical addresses. The bits lie as in a last-level entry of 32-bit paging with physical address extension (PAE).
  *
- * What a synchronisation makes of a page's kernel entry, by the first line that fits:
+ * What a synchronisation makes of a page's kernel entry (from a tree: of its flat entry), by the first line that fits:
  *
  *   bit 0 clear, or any of bits 52..62 set      shadow entry 0: the entry is absent. An approved page stays approved
  *   the map has a frame for the page            an approved entry with the map's frame, whatever the kernel's frame is
@@ -144,6 +146,7 @@ enum guard_refusal {
 #define GUARD_ENTRY_USER (UINT64_C(1) << 2)
 #define GUARD_ENTRY_WRITE_THROUGH (UINT64_C(1) << 3)     /* PWT in the manuals */
 #define GUARD_ENTRY_CACHE_DISABLE (UINT64_C(1) << 4)     /* PCD in the manuals */
+#define GUARD_ENTRY_LARGE (UINT64_C(1) << 7)             /* entries of a tree's level 2 only: a large page */
 #define GUARD_ENTRY_KERNEL_NO_EXECUTE (UINT64_C(1) << 9) /* shadow entries only: the kernel entry's bit 63 */
 #define GUARD_ENTRY_APPROVED (UINT64_C(1) << 10)         /* shadow entries only */
 #define GUARD_ENTRY_RESERVED (UINT64_C(0x7ff) << 52)     /* kernel entries only: with any of them set the entry is absent */
@@ -152,6 +155,57 @@ enum guard_refusal {
 /* The frame of an entry, and the bits 12 to 51 for a frame below 2^40. */
 #define GUARD_ENTRY_FRAME(entry) ((uint64_t)(entry) >> 12 & UINT64_C(0xffffffffff))
 #define GUARD_ENTRY_OF_FRAME(frame) ((uint64_t)(frame) << 12)
+
+/*
+ * Trees: a kernel's page tables in the processor's own shape, in place of the flat kernel table. A tree is
+ *   tables  a run of whole tables, each of GUARD_TABLE_ENTRIES entries of 64 bits, numbered from 0: read, never written
+ *   root    the number of the table in which a walk begins
+ *   depth   the level of that table, 1 to GUARD_DEPTH_MAX
+ * Question 17 asks whether the run's length is a multiple of GUARD_TABLE_ENTRIES, the depth within its range, and the root below
+ * the number of tables: an empty run, which has no table, gives 17. What the tables hold is never refused.
+ *
+ * The walk of page p goes down one level at a time. In a table of level l it reads entry p >> 9 * (l - 1) & 511. This is the last
+ * entry at level 1, and at level 2 where its bit 7 is set: a large page, of 512 pages and frames. The frame field of every other
+ * entry, all 40 bits of it, is the number of the next table: its place in the run and no physical frame (docs/INTEGRATION.md,
+ * "From the kernel's own tables", has how a kernel's tables are copied into a run).
+ *
+ * A walk gives the page's flat entry, which a synchronisation from a tree takes for its kernel entry, and the number of entries
+ * that were read, at most the depth. The page is absent, and its flat entry 0, where
+ *   - p needs more than 9 * depth bits: no entry is read;
+ *   - an entry on the way has bit 0 clear or any of bits 52..62 set: this entry was read, and is the last one;
+ *   - the number of the next table is not below the number of tables: no further entry is read;
+ *   - a large page has any of bits 12..20 set.
+ *
+ * Every bit of an entry in a tree, by the level of its table. Level 2 is for an entry with bit 7 clear, large page for one with
+ * bit 7 set. What the words put into the flat entry of a page that is not absent:
+ *
+ *   every       the bit, where every entry that was read with this word has it
+ *   any         the bit, where any entry that was read with this word has it
+ *   taken       these bits as they stand here: only the last entry has this word
+ *   must be 0   nothing: the page is absent where they are not 0. A large page has bits 0..8 of p in place of bits 12..20
+ *   must be 1   1: the page is absent where it is not
+ *   next table  nothing: the number of the next table
+ *   ignored     nothing
+ *
+ *   bits    name             level 1    level 2     large page  level 3
+ *   0       present          must be 1  must be 1   must be 1   must be 1
+ *   1       writable         every      every       every       ignored
+ *   2       user             every      every       every       ignored
+ *   3       write-through    taken      ignored     taken       ignored
+ *   4       cache disable    taken      ignored     taken       ignored
+ *   5..6    accessed, dirty  ignored    ignored     ignored     ignored
+ *   7       large page       ignored    0           1           ignored
+ *   8..11   available        ignored    ignored     ignored     ignored
+ *   12..20  frame            taken      next table  must be 0   next table
+ *   21..51  frame            taken      next table  taken       next table
+ *   52..62  reserved         must be 0  must be 0   must be 0   must be 0
+ *   63      no-execute       any        any         any         ignored
+ *
+ * Level 3 has no rights, as in PAE paging. In 64-bit paging it has: there a tree of depth 3 gives pages rights that the kernel
+ * withheld, unless they are folded into level 2 first.
+ */
+#define GUARD_TABLE_ENTRIES UINT64_C(512)
+#define GUARD_DEPTH_MAX UINT64_C(3)
 
 /*
  * Start: reads the policy record, sets state, shadow, map and exclusion from it, whatever they held, and stands in kernel mode
@@ -218,6 +272,33 @@ uint64_t guard_sync_page(const uint64_t *state, size_t state_length, const uint6
 uint64_t guard_sync_all(const uint64_t *state, size_t state_length, const uint64_t *kernel, size_t kernel_length,
                         uint64_t *shadow, size_t shadow_length, uint16_t *map, size_t map_length, const uint8_t *exclusion,
                         size_t exclusion_length, uint64_t *numbers, size_t numbers_length);
+
+/*
+ * The walk of a page in a tree, as said at "Trees". It is lent no state and no table of the guard's. Numbers: the flat entry, 0
+ * where the page is absent, and the number of entries read. A page whose number needs too many bits is accepted, with 0 and 0.
+ * Refusals 7, for the numbers run alone, and 17.
+ */
+uint64_t guard_walk(const uint64_t *tables, size_t tables_length, uint64_t root, uint64_t depth, uint64_t page,
+                    uint64_t *numbers, size_t numbers_length);
+
+/*
+ * Synchronise one page from a tree: as guard_sync_page, with the flat entry of the page's walk for its kernel entry.
+ * Refusals 7, 17 and 9, in this order.
+ */
+uint64_t guard_sync_page_tree(const uint64_t *state, size_t state_length, const uint64_t *tables, size_t tables_length,
+                              uint64_t root, uint64_t depth, uint64_t *shadow, size_t shadow_length, uint16_t *map,
+                              size_t map_length, const uint8_t *exclusion, size_t exclusion_length, uint64_t page,
+                              uint64_t *numbers, size_t numbers_length);
+
+/*
+ * Synchronise all pages from a tree, in rising order: as guard_sync_all, with the flat entries of all pages' walks for the kernel
+ * table. No such table is made in memory.
+ * Refusals 7 and 17, in this order.
+ */
+uint64_t guard_sync_all_tree(const uint64_t *state, size_t state_length, const uint64_t *tables, size_t tables_length,
+                             uint64_t root, uint64_t depth, uint64_t *shadow, size_t shadow_length, uint16_t *map,
+                             size_t map_length, const uint8_t *exclusion, size_t exclusion_length, uint64_t *numbers,
+                             size_t numbers_length);
 
 /*
  * Fetch a page, which then runs, in the mode that stands. Numbers: its frame, twice. No table changes.

@@ -1,4 +1,5 @@
-// The header and the archive from C++: the start and one synchronised page of document 01's policy (C1 and C2), by their C names.
+// The header and the archive from C++: the start and one synchronised page of document 01's policy (C1 and C2), and the same page from
+// a tree, by their C names.
 #include <cstdio>
 
 #include "guard.h"
@@ -36,6 +37,21 @@ int main()
           number == GUARD_ACCEPTED && numbers[0] == 1 && numbers[1] == 1 && shadow[0] == 0x2401 && map[0] == 2);
     number = guard_sync_page(state, GUARD_STATE_WORDS, kernel, 4, shadow, 4, map, 4, exclusion, 1, 4, numbers, GUARD_NUMBERS);
     check("C++: page 4 gives 9", number == GUARD_DOES_NOT_EXIST && numbers[0] == 0 && numbers[1] == 0);
+
+    static uint64_t tables[2 * GUARD_TABLE_ENTRIES];
+    tables[0] = GUARD_ENTRY_OF_FRAME(1) | GUARD_ENTRY_PRESENT;
+    tables[GUARD_TABLE_ENTRIES] = 0x2003;
+    number = guard_walk(tables, 2 * GUARD_TABLE_ENTRIES, 0, 2, 0, numbers, GUARD_NUMBERS);
+    check("C++: a walk of two entries", number == GUARD_ACCEPTED && numbers[0] == 0x2001 && numbers[1] == 2);
+    shadow[0] = 0;
+    map[0] = GUARD_MAP_NONE;
+    number = guard_sync_page_tree(state, GUARD_STATE_WORDS, tables, 2 * GUARD_TABLE_ENTRIES, 0, 2, shadow, 4, map, 4, exclusion, 1, 0,
+                                  numbers, GUARD_NUMBERS);
+    check("C++: page 0 joins from a tree",
+          number == GUARD_ACCEPTED && numbers[0] == 1 && numbers[1] == 1 && shadow[0] == 0x2401 && map[0] == 2);
+    number = guard_sync_all_tree(state, GUARD_STATE_WORDS, tables, 2 * GUARD_TABLE_ENTRIES, 2, GUARD_DEPTH_MAX, shadow, 4, map, 4,
+                                 exclusion, 1, numbers, GUARD_NUMBERS);
+    check("C++: root 2 of 2 gives 17", number == GUARD_TREE && numbers[0] == 0 && numbers[1] == 0 && shadow[0] == 0x2401);
     std::printf("%d passed, %d failed\n", passed, failed);
     return failed == 0 ? 0 : 1;
 }

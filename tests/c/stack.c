@@ -14,6 +14,9 @@
 enum { PAGES = 2048, FRAMES = 4096, ENTRIES = 16, VECTOR = FRAMES / 8, RECORD = 8 + 4 * PAGES };
 enum { STACK = 65536, MOST_WORDS = 16 };
 
+/* The tables of a tree: a root, a directory, and one for each 512 pages. */
+enum { TABLES = 2 + PAGES / GUARD_TABLE_ENTRIES, RUN = TABLES * GUARD_TABLE_ENTRIES };
+
 /* A call: the function, its arguments in order, and after it what it returned and the stack pointer of its call instruction. */
 struct call {
     uint64_t function;
@@ -80,6 +83,7 @@ __asm__(".text\n"
 static uint64_t state[GUARD_STATE_WORDS];
 static uint64_t numbers[GUARD_NUMBERS];
 static uint64_t kernel[PAGES];
+static uint64_t tables[RUN];
 static uint64_t shadow[PAGES];
 static uint16_t map[PAGES];
 static uint8_t exclusion[VECTOR];
@@ -180,6 +184,23 @@ static struct call sync_all(uint64_t words)
                 AT(numbers), GUARD_NUMBERS);
 }
 
+static struct call walk(uint64_t length, uint64_t root, uint64_t depth, uint64_t page, uint64_t words)
+{
+    return CALL(guard_walk, AT(tables), length, root, depth, page, AT(numbers), words);
+}
+
+static struct call sync_page_tree(uint64_t root, uint64_t depth, uint64_t page, uint64_t words)
+{
+    return CALL(guard_sync_page_tree, AT(state), words, AT(tables), RUN, root, depth, AT(shadow), PAGES, AT(map), PAGES,
+                AT(exclusion), VECTOR, page, AT(numbers), GUARD_NUMBERS);
+}
+
+static struct call sync_all_tree(uint64_t root, uint64_t depth, uint64_t words)
+{
+    return CALL(guard_sync_all_tree, AT(state), words, AT(tables), RUN, root, depth, AT(shadow), PAGES, AT(map), PAGES,
+                AT(exclusion), VECTOR, AT(numbers), GUARD_NUMBERS);
+}
+
 static struct call fetch(uint64_t page, uint64_t words)
 {
     return CALL(guard_fetch, AT(state), words, AT(shadow), PAGES, page, AT(numbers), GUARD_NUMBERS);
@@ -258,6 +279,31 @@ static void prepare(int user)
         make(leave(18, GUARD_STATE_WORDS));
 }
 
+/* Table 0, of level 3, leads to table 1, of level 2, and that to the others, which have the pages above. Or table 1 has a large page,
+ * a table that is none, a large page whose frame is no multiple of 512, and an absent entry. */
+static void plant(int large)
+{
+    memset(tables, 0, sizeof tables);
+    tables[0] = GUARD_ENTRY_OF_FRAME(1) | GUARD_ENTRY_PRESENT;
+    uint64_t *directory = tables + GUARD_TABLE_ENTRIES;
+    for (uint64_t i = 0; i < PAGES / GUARD_TABLE_ENTRIES; i++)
+        directory[i] = GUARD_ENTRY_OF_FRAME(2 + i) | GUARD_ENTRY_PRESENT | GUARD_ENTRY_WRITABLE | GUARD_ENTRY_USER;
+    for (uint64_t page = 0; page < PAGES; page++)
+        tables[2 * GUARD_TABLE_ENTRIES + page] = kernel_entry(page);
+    if (large) {
+        directory[0] = GUARD_ENTRY_OF_FRAME(PAGES) | GUARD_ENTRY_LARGE | GUARD_ENTRY_PRESENT;
+        directory[1] = GUARD_ENTRY_OF_FRAME(TABLES) | GUARD_ENTRY_PRESENT;
+        directory[2] = GUARD_ENTRY_OF_FRAME(1) | GUARD_ENTRY_LARGE | GUARD_ENTRY_PRESENT;
+        directory[3] = 0;
+    }
+}
+
+/* The table of that level on the way to page 0. */
+static uint64_t root_of(uint64_t depth)
+{
+    return GUARD_DEPTH_MAX - depth;
+}
+
 /* The deepest of a function's calls. Both an accepted and a refused one must have been among them. */
 static void report(const char *name)
 {
@@ -318,6 +364,46 @@ int main(void)
         measure(sync_all(cut));
     }
     report("guard_sync_all");
+
+    for (int large = 0; large < 2; large++) {
+        plant(large);
+        for (uint64_t depth = 1; depth <= GUARD_DEPTH_MAX; depth++) {
+            for (uint64_t page = 0; page < PAGES; page += 37)
+                measure(walk(RUN, root_of(depth), depth, page, GUARD_NUMBERS));
+            measure(walk(RUN, root_of(depth), depth, UINT64_MAX, GUARD_NUMBERS));
+            measure(walk(RUN, TABLES, depth, 0, GUARD_NUMBERS));
+        }
+        measure(walk(RUN - 1, 0, 3, 0, GUARD_NUMBERS));
+        measure(walk(RUN, 0, GUARD_DEPTH_MAX + 1, 0, GUARD_NUMBERS));
+        measure(walk(RUN, 0, 3, 0, GUARD_NUMBERS - 1));
+    }
+    report("guard_walk");
+
+    for (int user = 0; user < 2; user++)
+        for (int large = 0; large < 2; large++)
+            for (uint64_t depth = 1; depth <= GUARD_DEPTH_MAX; depth++) {
+                prepare(user);
+                plant(large);
+                for (uint64_t page = 0; page < PAGES; page += 37)
+                    measure(sync_page_tree(root_of(depth), depth, page, whole));
+                measure(sync_page_tree(root_of(depth), depth, PAGES, whole));
+                measure(sync_page_tree(TABLES, depth, 0, whole));
+                measure(sync_page_tree(root_of(depth), depth, 0, cut));
+            }
+    report("guard_sync_page_tree");
+
+    for (int user = 0; user < 2; user++)
+        for (int large = 0; large < 2; large++)
+            for (uint64_t depth = 1; depth <= GUARD_DEPTH_MAX; depth++) {
+                prepare(user);
+                plant(large);
+                measure(sync_all_tree(root_of(depth), depth, whole));
+                memset(shadow, 0xff, sizeof shadow);
+                measure(sync_all_tree(root_of(depth), depth, whole));
+                measure(sync_all_tree(TABLES, depth, whole));
+                measure(sync_all_tree(root_of(depth), depth, cut));
+            }
+    report("guard_sync_all_tree");
 
     for (int user = 0; user < 2; user++) {
         prepare(user);

@@ -1,7 +1,7 @@
 /*
  * The worked example of document 01 through the C boundary, then refusals that only a caller of the library can provoke, then policy
- * records that the library writes. After each call the returned number, both numbers and every run that it is lent for writing are
- * compared with literals.
+ * records that the library writes, then trees. After each call the returned number, both numbers and every run that it is lent for
+ * writing are compared with literals.
  */
 #include <stdio.h>
 #include <string.h>
@@ -83,6 +83,50 @@ static uint64_t sync_all(struct guard *g)
 {
     return guard_sync_all(g->state, GUARD_STATE_WORDS, g->kernel, PAGES, g->shadow, PAGES, g->map, PAGES, g->exclusion, VECTOR,
                           g->numbers, GUARD_NUMBERS);
+}
+
+/* K4: three tables, in memory that cannot be written.
+ * Table 0: pages 0 to 3 are an alias of frame 2, another frame for page 1, a frame past the last, and registers; then a marker and the
+ * highest frame.
+ * Table 1: table 0; a large page; one with bit 12 set; a table that is none; table 0, closed to writes, user and fetches.
+ * Table 2: table 1, without rights and with bits 7 and 63, which do not count at level 3; a marker. */
+enum { TABLE = GUARD_TABLE_ENTRIES, TABLES = 3 };
+static const uint64_t tables[TABLES * TABLE] = {
+    0x2007,
+    0x3007,
+    0x4007,
+    0x301f,
+    0x4000000000003007,
+    0x000ffffffffff001,
+    [TABLE] = 0x0007,
+    [TABLE + 1] = 0x200093,
+    [TABLE + 2] = 0x201093,
+    [TABLE + 3] = 0x3007,
+    [TABLE + 4] = 0x8000000000000001,
+    [2 * TABLE] = 0x8000000000001081,
+    [2 * TABLE + 1] = 0x0010000000001007,
+};
+
+/* The run's length, the root and the depth. */
+struct tree {
+    size_t length;
+    uint64_t root;
+    uint64_t depth;
+};
+
+/* Table 0 as a tree of one level, table 1 of two, table 2 of three. */
+static const struct tree trees[3] = {{TABLES * TABLE, 0, 1}, {TABLES * TABLE, 1, 2}, {TABLES * TABLE, 2, 3}};
+
+static uint64_t sync_page_tree(struct guard *g, struct tree t, uint64_t page)
+{
+    return guard_sync_page_tree(g->state, GUARD_STATE_WORDS, tables, t.length, t.root, t.depth, g->shadow, PAGES, g->map, PAGES,
+                                g->exclusion, VECTOR, page, g->numbers, GUARD_NUMBERS);
+}
+
+static uint64_t sync_all_tree(struct guard *g, struct tree t)
+{
+    return guard_sync_all_tree(g->state, GUARD_STATE_WORDS, tables, t.length, t.root, t.depth, g->shadow, PAGES, g->map, PAGES,
+                               g->exclusion, VECTOR, g->numbers, GUARD_NUMBERS);
 }
 
 static uint64_t fetch(struct guard *g, uint64_t page)
@@ -391,6 +435,10 @@ static void damaged_state(const char *name, const struct guard *before)
     refused(full, sync_page(&g, 3), GUARD_STATE_OR_TABLE, &g, before);
     snprintf(full, sizeof full, "synchronise all: %s gives 7", name);
     refused(full, sync_all(&g), GUARD_STATE_OR_TABLE, &g, before);
+    snprintf(full, sizeof full, "synchronise one from a tree: %s gives 7", name);
+    refused(full, sync_page_tree(&g, trees[0], 3), GUARD_STATE_OR_TABLE, &g, before);
+    snprintf(full, sizeof full, "synchronise all from a tree: %s gives 7", name);
+    refused(full, sync_all_tree(&g, trees[0]), GUARD_STATE_OR_TABLE, &g, before);
     snprintf(full, sizeof full, "fetch: %s gives 7", name);
     refused(full, fetch(&g, 3), GUARD_STATE_OR_TABLE, &g, before);
     snprintf(full, sizeof full, "write: %s gives 7", name);
@@ -593,6 +641,161 @@ static void refused_records(void)
     }
 }
 
+/* K4: walks, by literals. */
+static void walks(void)
+{
+    static const struct {
+        const char *name;
+        uint64_t root;
+        uint64_t depth;
+        uint64_t page;
+        uint64_t entry;
+        uint64_t reads;
+    } cases[] = {
+        {"page 3 at depth 1", 0, 1, 3, 0x301f, 1},
+        {"page 3 at depth 2", 1, 2, 3, 0x301f, 2},
+        {"page 3 at depth 3", 2, 3, 3, 0x301f, 3},
+        {"bit 7 does not count at level 1", 1, 1, 1, 0x200013, 1},
+        {"a marker at level 1", 2, 3, 4, 0, 3},
+        {"the highest frame", 2, 3, 5, 0x000ffffffffff001, 3},
+        {"page 6 is absent", 2, 3, 6, 0, 3},
+        {"a large page at depth 2", 1, 2, 512 + 5, 0x205013, 1},
+        {"the last page of a large page at depth 3", 2, 3, 1023, 0x3ff013, 2},
+        {"a large page with bit 12 is absent", 2, 3, 1024, 0, 2},
+        {"a table outside the run", 2, 3, 3 * 512, 0, 2},
+        {"rights of level 2", 2, 3, 4 * 512 + 3, 0x8000000000003019, 3},
+        {"a marker at level 3", 2, 3, 262144, 0, 1},
+        {"page 512 needs more bits than depth 1 has", 0, 1, 512, 0, 0},
+        {"page 2^18 needs more bits than depth 2 has", 1, 2, 262144, 0, 0},
+        {"page 2^27 needs more bits than depth 3 has", 2, 3, 134217728, 0, 0},
+        {"page 2^32 + 3 needs more bits than depth 3 has", 2, 3, 4294967299, 0, 0},
+        {"page 2^63 + 3 needs more bits than depth 1 has", 0, 1, 0x8000000000000003, 0, 0},
+    };
+    for (size_t i = 0; i < sizeof cases / sizeof cases[0]; i++) {
+        char full[80];
+        uint64_t numbers[GUARD_NUMBERS] = {77, 88};
+        uint64_t number = guard_walk(tables, TABLES * TABLE, cases[i].root, cases[i].depth, cases[i].page, numbers, GUARD_NUMBERS);
+        snprintf(full, sizeof full, "walk: %s", cases[i].name);
+        tell(full, number == GUARD_ACCEPTED && numbers[0] == cases[i].entry && numbers[1] == cases[i].reads);
+    }
+}
+
+/* K4: both synchronisations, from trees of each depth with the same pages 0 to 3. */
+static void synchronised_from_trees(void)
+{
+    for (size_t i = 0; i < sizeof trees / sizeof trees[0]; i++) {
+        char full[80];
+        struct guard g = ready(&started);
+        struct guard want = started;
+        uint64_t number = sync_page_tree(&g, trees[i], 0);
+        want.shadow[0] = 0x2401;
+        want.map[0] = 2;
+        want.numbers[0] = 1;
+        want.numbers[1] = 1;
+        snprintf(full, sizeof full, "synchronise page 0 from a tree of depth %u", (unsigned)trees[i].depth);
+        check(full, number, GUARD_ACCEPTED, &g, &want);
+
+        forget(&g);
+        number = sync_page_tree(&g, trees[i], 3);
+        want.shadow[3] = 0x800000000000301f;
+        want.numbers[1] = 0;
+        snprintf(full, sizeof full, "synchronise page 3 from a tree of depth %u", (unsigned)trees[i].depth);
+        check(full, number, GUARD_ACCEPTED, &g, &want);
+
+        g = ready(&started);
+        number = sync_all_tree(&g, trees[i]);
+        want.numbers[0] = 2;
+        want.numbers[1] = 1;
+        snprintf(full, sizeof full, "synchronise all from a tree of depth %u", (unsigned)trees[i].depth);
+        check(full, number, GUARD_ACCEPTED, &g, &want);
+    }
+
+    /* table 1 as the only level: its numbers are frames now */
+    struct guard g = ready(&started);
+    struct guard want = started;
+    uint64_t number = sync_all_tree(&g, (struct tree){TABLES * TABLE, 1, 1});
+    want.shadow[0] = 0x8000000000000007;
+    want.shadow[3] = 0x8000000000003007;
+    want.numbers[0] = 2;
+    want.numbers[1] = 0;
+    check("synchronise all from a tree of depth 1 with another root", number, GUARD_ACCEPTED, &g, &want);
+}
+
+/* K4: what gives 17, to each of the three calls. */
+static void refused_trees(void)
+{
+    static const struct {
+        const char *name;
+        struct tree tree;
+    } refusals[] = {
+        {"empty run", {0, 0, 1}},
+        {"run of 511 words", {511, 0, 1}},
+        {"run of 513 words", {513, 0, 1}},
+        {"run of 768 words", {768, 0, 1}},
+        {"run of 3 tables less a word", {TABLES * TABLE - 1, 0, 1}},
+        {"depth 0", {TABLES * TABLE, 0, 0}},
+        {"depth 4", {TABLES * TABLE, 0, 4}},
+        {"depth 2^32 + 1", {TABLES * TABLE, 0, 4294967297}},
+        {"depth 2^64 - 1", {TABLES * TABLE, 0, UINT64_MAX}},
+        {"root 3 of 3", {TABLES * TABLE, 3, 1}},
+        {"root 2 of 2", {2 * TABLE, 2, 3}},
+        {"root 2^32", {TABLES * TABLE, 4294967296, 1}},
+        {"root 2^55", {TABLES * TABLE, 36028797018963968, 1}},
+        {"root 2^64 - 1", {TABLES * TABLE, UINT64_MAX, 3}},
+    };
+    const struct guard before = finished;
+    struct guard g = ready(&before);
+    for (size_t i = 0; i < sizeof refusals / sizeof refusals[0]; i++) {
+        char full[80];
+        struct tree t = refusals[i].tree;
+        snprintf(full, sizeof full, "walk: %s gives 17", refusals[i].name);
+        refused(full, guard_walk(tables, t.length, t.root, t.depth, 3, g.numbers, GUARD_NUMBERS), GUARD_TREE, &g, &before);
+        snprintf(full, sizeof full, "synchronise one from a tree: %s gives 17", refusals[i].name);
+        refused(full, sync_page_tree(&g, t, 3), GUARD_TREE, &g, &before);
+        snprintf(full, sizeof full, "synchronise all from a tree: %s gives 17", refusals[i].name);
+        refused(full, sync_all_tree(&g, t), GUARD_TREE, &g, &before);
+    }
+    refused("synchronise page 4 from a tree gives 9", sync_page_tree(&g, trees[2], 4), GUARD_DOES_NOT_EXIST, &g, &before);
+    refused("synchronise page 2^32 + 3 from a tree gives 9", sync_page_tree(&g, trees[0], 4294967299), GUARD_DOES_NOT_EXIST, &g,
+            &before);
+    refused("17 is asked before 9", sync_page_tree(&g, refusals[0].tree, 4), GUARD_TREE, &g, &before);
+}
+
+/* K4: runs of other lengths give 7, before 17 and 9. The tree of each call is refused too, and so is its page. */
+static void refused_tree_lengths(void)
+{
+    enum { STATE, SHADOW, MAP, EXCLUSION, NUMBERS, LENGTHS };
+    static const char *const names[LENGTHS] = {"state run of 20 words", "shadow table of 3 entries", "map of 3 numbers",
+                                               "exclusion vector of 0 bytes", "numbers run of 1 word"};
+    const struct guard before = finished;
+    struct guard g = ready(&before);
+    const struct guard untold = g;
+    for (int i = 0; i < LENGTHS; i++) {
+        char full[80];
+        size_t n[LENGTHS] = {GUARD_STATE_WORDS, PAGES, PAGES, VECTOR, GUARD_NUMBERS};
+        n[i]--;
+        const struct guard *want = i == NUMBERS ? &untold : &before;
+        uint64_t number = guard_sync_page_tree(g.state, n[STATE], tables, 511, 3, 4, g.shadow, n[SHADOW], g.map, n[MAP], g.exclusion,
+                                               n[EXCLUSION], 4, g.numbers, n[NUMBERS]);
+        snprintf(full, sizeof full, "synchronise one from a tree: %s gives 7", names[i]);
+        check(full, number, GUARD_STATE_OR_TABLE, &g, want);
+        g = ready(&before);
+        number = guard_sync_all_tree(g.state, n[STATE], tables, 511, 3, 4, g.shadow, n[SHADOW], g.map, n[MAP], g.exclusion,
+                                     n[EXCLUSION], g.numbers, n[NUMBERS]);
+        snprintf(full, sizeof full, "synchronise all from a tree: %s gives 7", names[i]);
+        check(full, number, GUARD_STATE_OR_TABLE, &g, want);
+        g = ready(&before);
+    }
+    uint64_t three[GUARD_NUMBERS + 1] = {77, 88, 99};
+    for (size_t length = 0; length <= 3; length++)
+        if (length != GUARD_NUMBERS) {
+            char full[80];
+            snprintf(full, sizeof full, "walk: numbers run of %u words gives 7", (unsigned)length);
+            uint64_t number = guard_walk(tables, 511, 3, 4, 3, three, length);
+            tell(full, number == GUARD_STATE_OR_TABLE && three[0] == 77 && three[1] == 88 && three[2] == 99);
+        }
+}
+
 int main(void)
 {
     worked_example();
@@ -605,6 +808,10 @@ int main(void)
     refused_starts();
     written_records();
     refused_records();
+    walks();
+    synchronised_from_trees();
+    refused_trees();
+    refused_tree_lengths();
     printf("%d passed, %d failed\n", passed, failed);
     return failed == 0 ? 0 : 1;
 }

@@ -112,8 +112,8 @@ pub fn sync_all(
 pub fn walk(tables: &[u64], root: u64, depth: u64, page: u64, numbers: &mut [u64]) -> u64
     ensures { λ r. ⌜ walked r (now (numbers .exit)) ≡ walkAt (treeOf (now (tables .entry)) root depth) page (now (numbers .entry)) ⌝ }
 {
-    let fits = numbers.len() == words::NUMBERS;
-    let answer = tree::walk(tables, root, depth, page, fits);
+    let numbers_fit = numbers.len() == words::NUMBERS;
+    let answer = tree::walk(tables, root, depth, page, numbers_fit);
     words::reply(numbers, answer)
 }
 

@@ -2,7 +2,6 @@
 use Prim.Native.Nat.{ℕ, zero, suc, _+_, _*_, _^_, _≤_, _<_}
 use mathlib.Core.Bool.{Bool, true, false, cond}
 use mathlib.Core.List.{List, [], _∷_}
-use mathlib.Core.Logic.{_⊎_, inl, inr}
 use mathlib.Core.Path.{_≡_, refl, sym, ap, _∙_}
 use lib.Dec.{ltb, eqb}
 use lib.ListN.{length, getD}
@@ -18,7 +17,7 @@ use Rattle.model.specs.Tree.{Tree, tablesIn, treeInOrder, placeAbove, Ri
 use Rattle.model.specs.Sync.{Slot, Sweep, before, sweepFrom, entryIn, stepFrom}
 use Rattle.model.specs.Questions.{Question, question, firstNo, seen, inOrder, syncAllQuestions, syncPageQuestions, syncAllTreeQuestions, syncPageTreeQuestions}
 use Rattle.model.specs.Calls.{Outcome, settle, refusedOf, Call, syncPage, syncAll, syncPageTree, syncAllTree, broughtBy, questionsOf, rulesOf, pageSynced, allSynced, pageFrom, allFrom, effectOf, answer}
-use Rattle.model.specs.Walks.{ReadsWithin, flatTable, TreeAsFlat, TreeRefused}
+use Rattle.model.specs.Walks.{ReadsWithin, flatTable, TreeAsFlat, guardFits, TreeRefused}
 use Rattle.model.proofs.QuestionLaws.{both-first, asked, numbered, all-yes, firstNo-yes, firstNo-no}
 use Rattle.model.proofs.StateLaws.{in-order}
 use Rattle.model.proofs.CallLaws.{settle-refused-by}
@@ -114,21 +113,17 @@ module _ (g : Guard) (tree : Tree) (fits : treeInOrder tree ≡ true) where
 pub tree-as-flat : TreeAsFlat
 tree-as-flat g tree fits = (page-as-flat g tree fits, all-as-flat g tree fits)
 
--- Where 17 is answered no, 7 or 17 refuses.
-module _ (g : Guard) (call : Call) (b : Bool) (qs : List Question) where
-  refused-7-17 : firstNo (questionsOf (seen g) call) ≡ firstNo (question 7 b ∷ question 17 false ∷ qs)
-      → (answer g call ≡ refusedOf g (broughtBy call) 7) ⊎ (answer g call ≡ refusedOf g (broughtBy call) 17)
+-- Where 17 is answered no, it refuses, or 7 before it.
+module _ (g : Guard) (call : Call) (qs : List Question) where
+  refused-7-17 : (fits : Bool) → firstNo (questionsOf (seen g) call) ≡ firstNo (question 7 fits ∷ question 17 false ∷ qs)
+      → answer g call ≡ refusedOf g (broughtBy call) (cond fits 17 7)
   unfolding answer
-  refused-7-17 e = at b refl
-    where
-      at : (a : Bool) → b ≡ a → (answer g call ≡ refusedOf g (broughtBy call) 7) ⊎ (answer g call ≡ refusedOf g (broughtBy call) 17)
-      at true p = inr (settle-refused-by 17 _ _ (λ z. omega arith) (e ∙ firstNo-yes 7 _ p ∙ firstNo-no 17 qs refl))
-      at false p = inl (settle-refused-by 7 _ _ (λ z. omega arith) (e ∙ firstNo-no 7 _ p))
+  refused-7-17 true e = settle-refused-by 17 _ _ (λ z. omega arith) (e ∙ firstNo-yes 7 _ refl ∙ firstNo-no 17 qs refl)
+  refused-7-17 false e = settle-refused-by 7 _ _ (λ z. omega arith) (e ∙ firstNo-no 7 _ refl)
 
 pub tree-refused : TreeRefused
-unfolding questionsOf syncPageTreeQuestions syncAllTreeQuestions
-tree-refused g tree unfit =
-    let fits : Bool = inOrder (seen g .stateFits) (seen g .shadowFits ∷ seen g .mapFits ∷ seen g .exclusionFits ∷ []) in (
-      λ page. refused-7-17 g (syncPageTree tree page) fits (question 9 (ltb page (g .state .pages)) ∷ []) (rw unfit),
-      refused-7-17 g (syncAllTree tree) fits [] (rw unfit),
-    )
+unfolding questionsOf syncPageTreeQuestions syncAllTreeQuestions guardFits
+tree-refused g tree unfit = (
+  λ page. refused-7-17 g (syncPageTree tree page) (question 9 (ltb page (g .state .pages)) ∷ []) (guardFits g) (rw unfit),
+  refused-7-17 g (syncAllTree tree) [] (guardFits g) (rw unfit),
+)

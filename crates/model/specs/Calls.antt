@@ -123,7 +123,7 @@ unfoldable pub allSynced : Guard → Sweep → Outcome
 allSynced g r =
     outcome (accepted (r .changed) (r .joined)) (guardOf (g .state) (withShadow (r .shadow) (withMap (r .map) (g .tables))))
 
--- Both, of what gives each page its kernel entry.
+-- One page and all pages, of what gives each page its kernel entry.
 unfoldable pub pageFrom : Guard → (ℕ → ℕ) → ℕ → Outcome
 pageFrom g kernel page =
     pageSynced g page

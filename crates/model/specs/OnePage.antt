@@ -77,7 +77,7 @@ unfoldable pub newsOfAll : Policy → ℕ → (ℕ → ℕ) → News
 newsOfAll policy p kernel = cond (ltb p (policy .pages)) (synchronised (kernel p)) nothing
 
 -- What an accepted call tells the one-page guard of p. "Synchronising another page only, fetch, write, device write [..]: no change." K4: a tree
--- tells it the flat entry of its own walk.
+-- tells it the flat entry of p's walk.
 unfoldable pub news : Policy → ℕ → Call → News
 news policy p (syncPage kernel page) = newsOfOne p (entryIn kernel) page
 news policy p (syncAll kernel) = newsOfAll policy p (entryIn kernel)

@@ -52,7 +52,8 @@ gathered level rights x =
       noExecute = either (rights .noExecute) (x .«no_execute»);
     })
 
--- "its flat entry, of the named bits alone": the rights of every level, "Cache bits come from the last entry", and the frame.
+-- "its flat entry, of the named bits alone": the rights gathered, to which level 3 adds nothing, "Cache bits come from the last entry", and the
+-- frame.
 unfoldable pub flatEntry : Rights → Fields → ℕ → ℕ
 flatEntry rights x frame =
     2 ^ 0 + flag (rights .writable) 1 + flag (rights .user) 2 + flag (x .«write_through») 3 + flag (x .«cache_disable») 4 + frame * 2 ^ 12
@@ -88,7 +89,7 @@ onward level page rights entry down (Present x) =
     (down these (x .frame)))
 
 -- "the walk goes down one level at a time": from a level, by the rights gathered above it, in the table with this number. "a table number outside the
--- run, makes the page absent", and nothing is read.
+-- run, makes the page absent", and nothing is read. There is no level 0: level 1 ends every walk that comes to it, and a tree has at least that one.
 unfoldable pub walkFrom : List ℕ → ℕ → ℕ → Rights → ℕ → Walk
 walkFrom words page zero rights number = ending 0
 walkFrom words page (suc lower) rights number =

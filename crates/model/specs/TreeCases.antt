@@ -80,6 +80,8 @@ walkCases =
     ∷ row (walked (treeOf (runOf 2 (at 0 511 0x6007 ∷ at 1 511 0x7007 ∷ [])) 1 1) 511) (gives 0x7007 1 (0x7007 ∷ []))
     ∷ row (walked (treeOf (runOf 1 (at 0 0 0x7007 ∷ [])) 0 1) 512) (gives 0 0 [])
     ∷ row (walked (one 0x7007) 517) (gives 0 0 [])
+    -- A table of level 1 holds no large page: bit 7 is left out where the frame field's low nine bits are 0 too, and nothing is added
+    ∷ row (walked (one 0x600087) 5) (gives 0x600007 1 (0x600087 ∷ []))
     -- Depth 2: "each level above by the next nine bits"; page 2,047; "Writable and user need every level, no-execute needs one"
     ∷ row (walked (two 0x1007 0x7007) 2047) (gives 0x7007 2 (0x1007 ∷ 0x7007 ∷ []))
     ∷ row (walked (two 0x1005 0x7007) 2047) (gives 0x7005 2 (0x1005 ∷ 0x7007 ∷ []))
@@ -94,12 +96,16 @@ walkCases =
     ∷ row (walked (two 0x101f 0x7007) 2047) (gives 0x7007 2 (0x101f ∷ 0x7007 ∷ []))
     ∷ row (walked (two 0x1007 0x701f) 2047) (gives 0x701f 2 (0x1007 ∷ 0x701f ∷ []))
     ∷ row (walked (two 0x100f 0x7017) 2047) (gives 0x7017 2 (0x100f ∷ 0x7017 ∷ []))
+    -- An upper entry's other bits, 5, 6 and 8 to 11, neither count nor reach the flat entry; the last one's frame field has all 40 bits
+    ∷ row (walked (two 0x1f7f 0x7007) 2047) (gives 0x7007 2 (0x1f7f ∷ 0x7007 ∷ []))
+    ∷ row (walked (two 0x1007 0x000ffffffffff001) 2047) (gives 0x000ffffffffff001 2 (0x1007 ∷ 0x000ffffffffff001 ∷ []))
     -- Bit 7 below a level 2 that has it clear: level 1 ignores it
     ∷ row (walked (two 0x1007 0x7087) 2047) (gives 0x7007 2 (0x1007 ∷ 0x7087 ∷ []))
     -- "An absent entry [..] makes the page absent": an upper one is no table, nor is one that K1 rejects
     ∷ row (walked (two 0x1006 0x7007) 2047) (gives 0 1 (0x1006 ∷ []))
     ∷ row (walked (two 0x0010000000001007 0x7007) 2047) (gives 0 1 (0x0010000000001007 ∷ []))
     ∷ row (walked (two 0x4000000000001007 0x7007) 2047) (gives 0 1 (0x4000000000001007 ∷ []))
+    ∷ row (walked (two 0x3fe0000000001007 0x7007) 2047) (gives 0 1 (0x3fe0000000001007 ∷ []))
     ∷ row (walked (two 0x1007 0x7006) 2047) (gives 0 2 (0x1007 ∷ 0x7006 ∷ []))
     ∷ row (walked (two 0x1007 0x0010000000007007) 2047) (gives 0 2 (0x1007 ∷ 0x0010000000007007 ∷ []))
     -- "a table number outside the run": just outside, 2^40 - 1, and 1 in the lower 39 bits alone
@@ -108,6 +114,8 @@ walkCases =
     ∷ row (walked (two 0x0008000000001007 0x7007) 2047) (gives 0 1 (0x0008000000001007 ∷ []))
     -- A table may be named at both levels
     ∷ row (walked (treeOf (runOf 1 (at 0 3 0x0007 ∷ [])) 0 2) 1539) (gives 0x0007 2 (0x0007 ∷ 0x0007 ∷ []))
+    -- "The frame field of an upper entry is the number of the next table in the run", wherever the root stands: a table before the root
+    ∷ row (walked (treeOf (runOf 3 (at 2 3 0x1007 ∷ at 1 511 0x7007 ∷ [])) 2 2) 2047) (gives 0x7007 2 (0x1007 ∷ 0x7007 ∷ []))
     -- The last page of depth 2, and those past it
     ∷ row (walked (treeOf (runOf 2 (at 0 511 0x1007 ∷ at 1 511 0x7007 ∷ [])) 0 2) 262143) (gives 0x7007 2 (0x1007 ∷ 0x7007 ∷ []))
     ∷ row (walked (treeOf (runOf 2 (at 0 0 0x1007 ∷ at 1 0 0x7007 ∷ [])) 0 2) 262144) (gives 0 0 [])
@@ -129,21 +137,34 @@ walkCases =
     ∷ row (walked (two 0x000fffffffe00087 0x7007) 2047) (gives 0x000ffffffffff007 1 (0x000fffffffe00087 ∷ []))
     ∷ row (walked (two 0x600086 0x7007) 1541) (gives 0 1 (0x600086 ∷ []))
     ∷ row (walked (two 0x0010000000600087 0x7007) 1541) (gives 0 1 (0x0010000000600087 ∷ []))
-    -- "the low nine bits of its frame field must be 0, else the page is absent": the lowest, the highest of them, and one that is a table's number
+    ∷ row (walked (two 0x4000000000600087 0x7007) 1541) (gives 0 1 (0x4000000000600087 ∷ []))
+    -- "the low nine bits of its frame field must be 0, else the page is absent": each of the nine alone, and one that is a table's number
     ∷ row (walked (two 0x601087 0x7007) 1536) (gives 0 1 (0x601087 ∷ []))
+    ∷ row (walked (two 0x602087 0x7007) 1536) (gives 0 1 (0x602087 ∷ []))
+    ∷ row (walked (two 0x604087 0x7007) 1536) (gives 0 1 (0x604087 ∷ []))
+    ∷ row (walked (two 0x608087 0x7007) 1536) (gives 0 1 (0x608087 ∷ []))
+    ∷ row (walked (two 0x610087 0x7007) 1536) (gives 0 1 (0x610087 ∷ []))
+    ∷ row (walked (two 0x620087 0x7007) 1536) (gives 0 1 (0x620087 ∷ []))
+    ∷ row (walked (two 0x640087 0x7007) 1536) (gives 0 1 (0x640087 ∷ []))
+    ∷ row (walked (two 0x680087 0x7007) 1536) (gives 0 1 (0x680087 ∷ []))
     ∷ row (walked (two 0x700087 0x7007) 1536) (gives 0 1 (0x700087 ∷ []))
     ∷ row (walked (two 0x1087 0x7007) 2047) (gives 0 1 (0x1087 ∷ []))
-    -- Depth 3: "at level 3 these three bits do not count"; the cache bits and bit 7 neither
+    -- Depth 3: "at level 3 these three bits do not count"; the cache bits and bit 7 neither, nor any other bit that is not of the frame field
     ∷ row (walked (three 0x1007 0x2007 0x7007) byThree) (gives 0x7007 3 (0x1007 ∷ 0x2007 ∷ 0x7007 ∷ []))
     ∷ row (walked (three 0x1001 0x2007 0x7007) byThree) (gives 0x7007 3 (0x1001 ∷ 0x2007 ∷ 0x7007 ∷ []))
     ∷ row (walked (three 0x8000000000001001 0x2007 0x7007) byThree) (gives 0x7007 3 (0x8000000000001001 ∷ 0x2007 ∷ 0x7007 ∷ []))
     ∷ row (walked (three 0x1099 0x2007 0x7007) byThree) (gives 0x7007 3 (0x1099 ∷ 0x2007 ∷ 0x7007 ∷ []))
+    ∷ row (walked (three 0x8000000000001fff 0x2007 0x7007) byThree) (gives 0x7007 3 (0x8000000000001fff ∷ 0x2007 ∷ 0x7007 ∷ []))
+    -- Level 2's rights count; its cache bits and its other bits do not
     ∷ row (walked (three 0x1007 0x2001 0x7007) byThree) (gives 0x7001 3 (0x1007 ∷ 0x2001 ∷ 0x7007 ∷ []))
     ∷ row (walked (three 0x1007 0x2005 0x7007) byThree) (gives 0x7005 3 (0x1007 ∷ 0x2005 ∷ 0x7007 ∷ []))
     ∷ row (walked (three 0x1007 0x2003 0x7007) byThree) (gives 0x7003 3 (0x1007 ∷ 0x2003 ∷ 0x7007 ∷ []))
     ∷ row (walked (three 0x1007 0x8000000000002007 0x7007) byThree) (gives 0x8000000000007007 3 (0x1007 ∷ 0x8000000000002007 ∷ 0x7007 ∷ []))
     ∷ row (walked (three 0x1007 0x2007 0x8000000000007019) byThree) (gives 0x8000000000007019 3 (0x1007 ∷ 0x2007 ∷ 0x8000000000007019 ∷ []))
-    -- Absent at each level, and by a marker; a table number outside at levels 3 and 2
+    ∷ row (walked (three 0x1007 0x2f7f 0x7007) byThree) (gives 0x7007 3 (0x1007 ∷ 0x2f7f ∷ 0x7007 ∷ []))
+    -- Each level's table is the one that the entry above it names: the root last in the run, then table 1, then table 0
+    ∷ row (walked (treeOf (runOf 3 (at 2 1 0x1007 ∷ at 1 2 0x0007 ∷ at 0 3 0x7007 ∷ [])) 2 3) byThree) (gives 0x7007 3 (0x1007 ∷ 0x0007 ∷ 0x7007 ∷ []))
+    -- Absent at each level, and by a marker; a table number outside at levels 3 and 2, one of them 1 in the lower 39 bits alone
     ∷ row (walked (three 0x1006 0x2007 0x7007) byThree) (gives 0 1 (0x1006 ∷ []))
     ∷ row (walked (three 0x0010000000001007 0x2007 0x7007) byThree) (gives 0 1 (0x0010000000001007 ∷ []))
     ∷ row (walked (three 0x4000000000001007 0x2007 0x7007) byThree) (gives 0 1 (0x4000000000001007 ∷ []))
@@ -153,13 +174,16 @@ walkCases =
     ∷ row (walked (three 0x1007 0x2007 0x4000000000007007) byThree) (gives 0 3 (0x1007 ∷ 0x2007 ∷ 0x4000000000007007 ∷ []))
     ∷ row (walked (three 0x3007 0x2007 0x7007) byThree) (gives 0 1 (0x3007 ∷ []))
     ∷ row (walked (three 0x000ffffffffff007 0x2007 0x7007) byThree) (gives 0 1 (0x000ffffffffff007 ∷ []))
+    ∷ row (walked (three 0x0008000000001007 0x2007 0x7007) byThree) (gives 0 1 (0x0008000000001007 ∷ []))
     ∷ row (walked (three 0x1007 0x3007 0x7007) byThree) (gives 0 2 (0x1007 ∷ 0x3007 ∷ []))
     ∷ row (walked (three 0x1007 0x000ffffffffff007 0x7007) byThree) (gives 0 2 (0x1007 ∷ 0x000ffffffffff007 ∷ []))
-    -- A large page below level 3, whose own bit 7 and misaligned frame field do not matter
+    -- A large page below level 3, whose own bit 7 and low nine bits do not matter; a misaligned one is absent; one entry met at level 3 as a table's
+    -- and at level 2 as a large page
     ∷ row (walked (three 0x1081 0x600087 0x7007) byThree) (gives 0x603007 2 (0x1081 ∷ 0x600087 ∷ []))
     ∷ row (walked (three 0x8000000000001001 0x600085 0x7007) byThree) (gives 0x603005 2 (0x8000000000001001 ∷ 0x600085 ∷ []))
     ∷ row (walked (three 0x1007 0x601087 0x7007) byThree) (gives 0 2 (0x1007 ∷ 0x601087 ∷ []))
-    -- The last page of depth 3, and those past it: one that would be mapped modulo 2^27, 2^27 itself, and 2^63
+    ∷ row (walked (treeOf (runOf 1 (at 0 0 0x0087 ∷ [])) 0 3) 0) (gives 0x0007 2 (0x0087 ∷ 0x0087 ∷ []))
+    -- The last page of depth 3, and those past it: one that would be mapped modulo 2^27, 2^27 itself, and 2^63; page 0 of the same tree is mapped
     ∷ row (walked (treeOf (runOf 3 (at 0 511 0x1007 ∷ at 1 511 0x2007 ∷ at 2 511 0x7007 ∷ [])) 0 3) 134217727) (gives 0x7007 3 (0x1007 ∷ 0x2007 ∷ 0x7007 ∷ []))
     ∷ row (walked (three 0x1007 0x2007 0x7007) 134480899) (gives 0 0 [])
     ∷ row (walked (treeOf (runOf 1 (at 0 0 0x0007 ∷ [])) 0 3) 134217728) (gives 0 0 [])
@@ -176,12 +200,14 @@ walkedIn words root depth = walkReply true (treeOf words root depth) 5
 
 unfoldable pub walkRefusals : List WalkReplyCase
 walkRefusals =
-    -- 17, "a run that is not whole tables of 512": none, one word short, one too long
+    -- 17, "a run that is not whole tables of 512": none, one word short, one too long, half a table too long; at depth 2 too
     row (walkedIn [] 0 1) (refused 17)
     ∷ row (walkedIn (replicate 511 0x7007) 0 1) (refused 17)
     ∷ row (walkedIn (replicate 512 0x7007) 0 1) (accepted 0x7007 1)
     ∷ row (walkedIn (replicate 513 0x7007) 0 1) (refused 17)
+    ∷ row (walkedIn (replicate 768 0x7007) 0 1) (refused 17)
     ∷ row (walkedIn (replicate 1023 0x7007) 0 1) (refused 17)
+    ∷ row (walkedIn (replicate 513 0x0007) 0 2) (refused 17)
     -- "a depth outside 1 to 3"; a number is not cut to 8, 16, 32 or 63 bits
     ∷ row (walkedIn (replicate 512 0x0007) 0 0) (refused 17)
     ∷ row (walkedIn (replicate 512 0x0007) 0 3) (accepted 0x0007 3)
@@ -190,10 +216,14 @@ walkRefusals =
     ∷ row (walkedIn (replicate 512 0x0007) 0 65537) (refused 17)
     ∷ row (walkedIn (replicate 512 0x0007) 0 4294967297) (refused 17)
     ∷ row (walkedIn (replicate 512 0x0007) 0 9223372036854775809) (refused 17)
-    -- "a root outside the run": just outside, and one that would lie in it if it were cut or its place wrapped
+    -- "a root outside the run", at every depth: just outside, and one that would lie in it if it were cut or its place wrapped; the last of four tables
+    -- is in it
     ∷ row (walkedIn (replicate 512 0x7007) 1 1) (refused 17)
+    ∷ row (walkedIn (replicate 512 0x0007) 1 2) (refused 17)
+    ∷ row (walkedIn (replicate 512 0x0007) 1 3) (refused 17)
     ∷ row (walkedIn (replicate 1024 0x7007) 1 1) (accepted 0x7007 1)
     ∷ row (walkedIn (replicate 1024 0x7007) 2 1) (refused 17)
+    ∷ row (walkedIn (replicate 2048 0x7007) 3 1) (accepted 0x7007 1)
     ∷ row (walkedIn (replicate 512 0x7007) 4294967296 1) (refused 17)
     ∷ row (walkedIn (replicate 512 0x7007) 36028797018963968 1) (refused 17)
     ∷ row (walkedIn (replicate 512 0x7007) 9223372036854775808 1) (refused 17)
@@ -203,7 +233,7 @@ walkRefusals =
     ∷ row (walkReply true (treeOf (replicate 512 0x7007) 0 1) 18446744073709551615) (accepted 0 0)
     ∷ []
 
--- Six entries in a row from a table's place 0 on, and a tree of each depth that ends in them: the table of level 1 is the last.
+-- Entries in a row from a table's place on; and a tree of each depth whose table of level 1, the last of the run, begins with them.
 unfoldable pub inRow : ℕ → ℕ → List ℕ → List Word
 inRow number place [] = []
 inRow number place (entry ∷ entries) = at number place entry ∷ inRow number (suc place) entries
@@ -256,6 +286,15 @@ treeCases =
     (outcome (accepted 6 0)
     (with6 (User 1)
     (0x4005 ∷ 0x8000000000005401 ∷ 0 ∷ 0x8000000000007001 ∷ 0 ∷ 0x6005 ∷ [])))
+    -- Another root than table 0, for all pages and for one
+    ∷ row (answer started6 (syncAllTree (treeOf (runOf 2 (inRow 1 0 sixEntries)) 1 1))) sixSynced
+    ∷ row (answer started6 (syncPageTree (treeOf (runOf 2 (at 0 5 0x6007 ∷ at 1 5 0x7003 ∷ [])) 1 1) 5))
+    (outcome (accepted 1 0) (with6 (Kernel 1) (set shadow6 5 0x8000000000007003)))
+    -- Page 513 of a tree of depth 3, with all and alone: level 3's place 0, level 2's place 1, level 1's place 1
+    ∷ row (answer (ones 514) (syncAllTree (treeOf (runOf 3 (at 0 0 0x1001 ∷ at 1 1 0x2007 ∷ at 2 1 0x7005 ∷ [])) 0 3)))
+    (outcome (accepted 514 0) (shadowed 514 (replicate 513 0 ++ (0x8000000000007005 ∷ []))))
+    ∷ row (answer (ones 514) (syncPageTree (treeOf (runOf 3 (at 0 0 0x1007 ∷ at 1 1 0x2007 ∷ at 2 1 0x7005 ∷ [])) 0 3) 513))
+    (outcome (accepted 1 0) (shadowed 514 (set (replicate 514 1) 513 0x8000000000007005)))
     -- A large page over all six: frames 0 to 5, of which 3 and 5 are excluded, so that pages 3 and 5 join; a large page past F
     ∷ row (answer started6 (syncAllTree (treeOf (runOf 1 (at 0 0 0x0087 ∷ [])) 0 2)))
     (outcome (accepted 3 2)
@@ -269,26 +308,31 @@ treeCases =
     ∷ row (answer (filled (Kernel 1)) (syncAllTree (threeTree 0x4000000000001007 0x2007 sixEntries))) (outcome (accepted 6 0) (with6 (Kernel 1) (replicate 6 0)))
     ∷ row (answer (filled (Kernel 1)) (syncAllTree (twoTree 0x2007 sixEntries))) (outcome (accepted 6 0) (with6 (Kernel 1) (replicate 6 0)))
     ∷ row (answer (filled (Kernel 1)) (syncAllTree (twoTree 0x1087 sixEntries))) (outcome (accepted 6 0) (with6 (Kernel 1) (replicate 6 0)))
-    -- One page: an alias that joins, an ordinary one, one that a marker makes absent, an approved one; the others stay
+    -- One page: an alias that joins, an ordinary one, one in user mode with both cache bits, one that a marker makes absent, one of a large page that
+    -- joins, an approved one; the others stay
     ∷ row (answer started6 (syncPageTree (twoTree 0x1007 sixEntries) 3))
     (outcome (accepted 1 1)
     (guardOf (sixPages (Kernel 1)) (tables (set shadow6 3 0x5401) (65535 ∷ 5 ∷ 3 ∷ 5 ∷ 5 ∷ 65535 ∷ []) (0x28 ∷ []))))
     ∷ row (answer started6 (syncPageTree (threeTree 0x1001 0x2005 sixEntries) 5))
     (outcome (accepted 1 0) (with6 (Kernel 1) (set shadow6 5 0x8000000000006205)))
+    ∷ row (answer (with6 (User 1) shadow6) (syncPageTree (twoTree 0x1005 (0 ∷ 0 ∷ 0 ∷ 0 ∷ 0 ∷ 0x601f ∷ [])) 5))
+    (outcome (accepted 1 0) (with6 (User 1) (set shadow6 5 0x601d)))
     ∷ row (answer (filled (Kernel 1)) (syncPageTree (twoTree 0x4000000000001007 sixEntries) 5))
     (outcome (accepted 1 0) (with6 (Kernel 1) (set (set shadow6 0 0x4003) 3 0x6003)))
     ∷ row (answer started6 (syncPageTree (treeOf (runOf 1 (at 0 0 0x0087 ∷ [])) 0 2) 5))
     (outcome (accepted 1 1)
     (guardOf (sixPages (Kernel 1)) (tables (set shadow6 5 0x5401) (65535 ∷ 5 ∷ 3 ∷ 65535 ∷ 5 ∷ 5 ∷ []) (0x28 ∷ []))))
     ∷ stays started6 (syncPageTree (flatTree sixEntries) 1) (accepted 0 0)
-    -- Pages past the depth's bits are absent: page 512 of 514 at depth 1, alone and with all; page 2,047 at depth 2
+    -- Pages past the depth's bits are absent: page 512 of 514 at depth 1, alone and with all. At depth 2 the last page that a guard can have, 2,047, is
+    -- mapped
     ∷ row (answer (ones 514) (syncPageTree (oneTable 512 0x7007) 512)) (outcome (accepted 1 0) (shadowed 514 (set (replicate 514 1) 512 0)))
     ∷ row (answer (ones 514) (syncAllTree (oneTable 512 0x7007)))
     (outcome (accepted 514 0) (shadowed 514 (replicate 512 0x8000000000007007 ++ (0 ∷ 0 ∷ []))))
     ∷ row (answer (ones 2048) (syncPageTree (two 0x1007 0x7005) 2047))
     (outcome (accepted 1 0) (shadowed 2048 (set (replicate 2048 1) 2047 0x8000000000007005)))
-    -- 7: the state, and each table that is lent; no kernel table is
-    ∷ stays (inState 0 8 2 (replicate 16 0) (Kernel 1)) (syncAllTree (oneTable 512 0)) (refused 7)
+    -- 7: the state, its e of 0 and its running page, and each table that is lent; no kernel table is
+    ∷ stays (inState 6 8 0 (replicate 16 0) (Kernel 1)) (syncAllTree (oneTable 512 0)) (refused 7)
+    ∷ stays (inState 6 8 2 (replicate 16 0) (Kernel 6)) (syncAllTree (oneTable 512 0)) (refused 7)
     ∷ stays (inState 6 8 2 (replicate 16 0) (Kernel 6)) (syncPageTree (oneTable 512 0) 0) (refused 7)
     ∷ stays (ofLengths (Kernel 1) 5 6 1) (syncAllTree (oneTable 512 0)) (refused 7)
     ∷ stays (ofLengths (Kernel 1) 7 6 1) (syncPageTree (oneTable 512 0) 0) (refused 7)
@@ -296,24 +340,55 @@ treeCases =
     ∷ stays (ofLengths (Kernel 1) 6 7 1) (syncAllTree (oneTable 512 0)) (refused 7)
     ∷ stays (ofLengths (Kernel 1) 6 6 0) (syncAllTree (oneTable 512 0)) (refused 7)
     ∷ stays (ofLengths (Kernel 1) 6 6 2) (syncPageTree (oneTable 512 0) 0) (refused 7)
-    -- 17: an empty run, runs of 511 and 513 words, depth 0 and 4, a root outside
+    -- 17: an empty run, runs of 511, 513 and 768 words, depth 0 and 4, a root outside
     ∷ stays started6 (syncAllTree (treeOf [] 0 1)) (refused 17)
     ∷ stays started6 (syncAllTree (oneTable 511 0x7007)) (refused 17)
     ∷ stays started6 (syncAllTree (oneTable 513 0x7007)) (refused 17)
+    ∷ stays started6 (syncAllTree (oneTable 768 0x7007)) (refused 17)
     ∷ stays started6 (syncAllTree (treeOf (replicate 512 0x0007) 0 0)) (refused 17)
     ∷ stays started6 (syncAllTree (treeOf (replicate 512 0x0007) 0 4)) (refused 17)
     ∷ stays started6 (syncAllTree (treeOf (replicate 512 0x7007) 1 1)) (refused 17)
     ∷ stays started6 (syncPageTree (treeOf [] 0 1) 0) (refused 17)
     ∷ stays started6 (syncPageTree (oneTable 511 0x7007) 0) (refused 17)
     ∷ stays started6 (syncPageTree (oneTable 513 0x7007) 0) (refused 17)
+    ∷ stays started6 (syncPageTree (oneTable 768 0x7007) 0) (refused 17)
     ∷ stays started6 (syncPageTree (treeOf (replicate 512 0x0007) 0 0) 0) (refused 17)
     ∷ stays started6 (syncPageTree (treeOf (replicate 512 0x0007) 0 4) 0) (refused 17)
     ∷ stays started6 (syncPageTree (treeOf (replicate 512 0x7007) 9223372036854775808 1) 0) (refused 17)
     -- 9: page V, and one that is not cut
     ∷ stays started6 (syncPageTree (oneTable 512 0x7007) 6) (refused 9)
     ∷ stays started6 (syncPageTree (oneTable 512 0x7007) 9223372036854775808) (refused 9)
-    -- 7, 17 and 9 together, then 17 and 9: 511 words and page V
+    -- 7, 17 and 9 together, by the state and by each table: 511 words and page V
     ∷ stays (misfit (Kernel 1) shadow6) (syncPageTree (oneTable 511 0x7007) 6) (refused 7)
+    ∷ stays (with6 (Kernel 6) shadow6) (syncPageTree (oneTable 511 0x7007) 6) (refused 7)
+    ∷ stays (ofLengths (Kernel 1) 5 6 1) (syncPageTree (oneTable 511 0x7007) 6) (refused 7)
+    ∷ stays (ofLengths (Kernel 1) 6 7 1) (syncPageTree (oneTable 511 0x7007) 6) (refused 7)
+    ∷ stays (ofLengths (Kernel 1) 6 6 0) (syncPageTree (oneTable 511 0x7007) 6) (refused 7)
+    -- 7 and 17 together, of all pages
     ∷ stays (misfit (Kernel 1) shadow6) (syncAllTree (oneTable 511 0x7007)) (refused 7)
+    ∷ stays (with6 (Kernel 6) shadow6) (syncAllTree (oneTable 511 0x7007)) (refused 7)
+    ∷ stays (ofLengths (Kernel 1) 7 6 1) (syncAllTree (oneTable 511 0x7007)) (refused 7)
+    ∷ stays (ofLengths (Kernel 1) 6 5 1) (syncAllTree (oneTable 511 0x7007)) (refused 7)
+    -- 17 and 9 together
     ∷ stays started6 (syncPageTree (oneTable 511 0x7007) 6) (refused 17)
+    ∷ []
+
+-- Two tables: four upper entries in the first, three last entries in the second, at its places 0, 1 and 511. Written out, since a run made place by
+-- place takes the prover longer.
+unfoldable pub fourUppers : List ℕ
+fourUppers =
+    (0x8000000000001005 ∷ 0x0087 ∷ 0x1006 ∷ 0x1003 ∷ [])
+    ++ (replicate 508 0 ++ ((0x6007 ∷ 0x7003 ∷ []) ++ (replicate 509 0 ++ (0x4007 ∷ []))))
+
+-- A guard of 1,538 pages, apart from the others for the prover's limit of steps.
+unfoldable pub wideCases : List Case
+wideCases =
+    -- All pages of a tree of four upper entries: a table, a large page, an absent one, and the same table again, each with its own rights
+    row (answer (ones 1538) (syncAllTree (treeOf fourUppers 0 2)))
+    (outcome (accepted 1538 0)
+    (shadowed 1538
+    ((0x8000000000006205 ∷ 0x8000000000007201 ∷ [])
+    ++ (replicate 509 0
+    ++ ((0x8000000000004205 ∷ 0x8000000000000007 ∷ 0x8000000000001007 ∷ 0x8000000000002007 ∷ 0x8000000000003007 ∷ 0x8000000000004007 ∷ 0x8000000000005007 ∷ 0x8000000000006007 ∷ 0x8000000000007007 ∷ [])
+    ++ (replicate 1016 0 ++ (0x8000000000006003 ∷ 0x8000000000007003 ∷ [])))))))
     ∷ []

@@ -1,13 +1,12 @@
 -- Document 02, K4: the call that walks a page, and what ties a tree's calls to the walk and to the flat table.
 use Prim.Native.Nat.{ℕ, _≤_}
-use mathlib.Core.Bool.{Bool, true, false}
+use mathlib.Core.Bool.{Bool, true, false, cond}
 use mathlib.Core.List.{List, [], _∷_}
-use mathlib.Core.Logic.{_⊎_}
 use mathlib.Core.Path.{_≡_}
 use Rattle.model.specs.Basics.{table}
 use Rattle.model.specs.Keeps.{Guard}
 use Rattle.model.specs.Tree.{Tree, treeInOrder, flatAt, readsAt}
-use Rattle.model.specs.Questions.{Question, question, firstNo}
+use Rattle.model.specs.Questions.{Question, question, firstNo, seen, inOrder}
 use Rattle.model.specs.Calls.{Reply, accepted, refused, settle, refusedOf, syncPage, syncAll, syncPageTree, syncAllTree, broughtBy, answer}
 
 -- The walk as a call is lent no state and no guard table: 7 asks whether the run for its numbers has its length, and is answered yes where it is lent
@@ -35,9 +34,13 @@ TreeAsFlat =
     → ((page : ℕ) → answer g (syncPageTree tree page) ≡ answer g (syncPage (flatTable tree (g .state .pages)) page))
     × (answer g (syncAllTree tree) ≡ answer g (syncAll (flatTable tree (g .state .pages))))
 
--- And else 7 or 17, and nothing is changed.
+-- Question 7 of a synchronisation from a tree: the state, and the guard's three tables.
+unfoldable pub guardFits : Guard → Bool
+guardFits g = inOrder (seen g .stateFits) (seen g .shadowFits ∷ seen g .mapFits ∷ seen g .exclusionFits ∷ [])
+
+-- And else "It refuses with 17, after question 7": with 7 where that is answered no, whatever the page, and nothing is changed.
 abbrev pub TreeRefused : Type 0
 TreeRefused =
     (g : Guard) (tree : Tree) → treeInOrder tree ≡ false
-    → ((page : ℕ) → let call = syncPageTree tree page in (answer g call ≡ refusedOf g (broughtBy call) 7) ⊎ (answer g call ≡ refusedOf g (broughtBy call) 17))
-    × (let call = syncAllTree tree in (answer g call ≡ refusedOf g (broughtBy call) 7) ⊎ (answer g call ≡ refusedOf g (broughtBy call) 17))
+    → ((page : ℕ) → let call = syncPageTree tree page in answer g call ≡ refusedOf g (broughtBy call) (cond (guardFits g) 17 7))
+    × (let call = syncAllTree tree in answer g call ≡ refusedOf g (broughtBy call) (cond (guardFits g) 17 7))

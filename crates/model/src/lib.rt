@@ -12,7 +12,7 @@ ghost use Rattle.model.specs.Further.{startCases, syncCases, orderCases,
 ghost use Rattle.model.specs.Orders.{startOrder, callOrder};
 ghost use Rattle.model.specs.Record.{WrittenStarts, WrittenAgain};
 ghost use Rattle.model.specs.RecordCases.{recordCases};
-ghost use Rattle.model.specs.TreeCases.{walkCases, walkRefusals, treeCases};
+ghost use Rattle.model.specs.TreeCases.{walkCases, walkRefusals, treeCases, wideCases};
 ghost use Rattle.model.specs.Walks.{ReadsWithin, TreeAsFlat, TreeRefused};
 ghost use Rattle.model.specs.Worked.{workedInput, workedOutput};
 
@@ -123,7 +123,7 @@ pub fn cache_bits()
 
 // Document 02, K4: what walks give, and what synchronising from a tree gives.
 pub fn tree_cases()
-    ensures { λ _. ⌜ Hold walkCases × Hold walkRefusals × Hold treeCases ⌝ }
+    ensures { λ _. ⌜ Hold walkCases × Hold walkRefusals × Hold treeCases × Hold wideCases ⌝ }
 {}
 
 // Document 02, K4: "the count of entries read, never above the depth".
@@ -131,7 +131,7 @@ pub fn reads_within_depth()
     ensures { λ _. ⌜ ReadsWithin ⌝ }
 {}
 
-// Document 02, K4: "synchronising from a tree equals doing so from the flat table of its walks", or it refuses with 7 or 17.
+// Document 02, K4: "synchronising from a tree equals doing so from the flat table of its walks", or "it refuses with 17, after question 7".
 pub fn tree_as_flat()
     ensures { λ _. ⌜ TreeAsFlat × TreeRefused ⌝ }
 {}

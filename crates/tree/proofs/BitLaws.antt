@@ -166,7 +166,7 @@ unfolding bit
 bit-63 x y e = ap (λ (d : ℕ). eqb (d % 2) 1) e
 
 -- Two entries with the same bits 0 to 4, 52 to 63 and frame are taken apart alike.
-apart-same : (x y : ℕ) → x % 2 ^ 5 ≡ y % 2 ^ 5 → x / 2 ^ 12 % 2 ^ 40 ≡ y / 2 ^ 12 % 2 ^ 40 → x / 2 ^ 52 % 2 ^ 11 ≡ y / 2 ^ 52 % 2 ^ 11
+pub apart-same : (x y : ℕ) → x % 2 ^ 5 ≡ y % 2 ^ 5 → x / 2 ^ 12 % 2 ^ 40 ≡ y / 2 ^ 12 % 2 ^ 40 → x / 2 ^ 52 % 2 ^ 11 ≡ y / 2 ^ 52 % 2 ^ 11
     → x / 2 ^ 63 ≡ y / 2 ^ 63 → takenApart x ≡ takenApart y
 unfolding takenApart valid present reserved fieldsOf writable userBit writeThrough cacheDisable noExecute frameOf
 apart-same x y low frame high top =

@@ -2,4 +2,5 @@
 mod OrderLaws
 mod BitLaws
 mod PartLaws
+mod WordLaws
 mod WalkLaws

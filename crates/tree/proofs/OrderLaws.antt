@@ -5,7 +5,7 @@ use mathlib.Core.List.{List, [], _∷_}
 use mathlib.Core.Path.{_≡_, refl, sym, _∙_}
 use lib.Dec.{ltb}
 use lib.ListN.{length}
-use borrow.Author.Tests.{eq-eqb, ne-eqb, lt-leb, not-false}
+use borrow.Author.Tests.{eq-eqb, ne-eqb, lt-leb, ltb-true, not-false}
 use Rattle.model.specs.Basics.{both, within}
 use Rattle.model.specs.declared.Answer.the-variants.{Done, Refused}
 use Rattle.model.specs.Tree.{Tree, treeOf, tablesIn, treeInOrder, flatAt, readsAt}
@@ -41,6 +41,10 @@ module _ (words : List ℕ) (root depth : ℕ) where
     pub depth-most : depth ≤ 3
     unfolding treeInOrder
     depth-most = within-high 1 3 depth (both-first _ _ (both-second _ _ fits))
+
+    pub root-in : root < length words / 512
+    unfolding treeInOrder tablesIn
+    root-in = ltb-true root (length words / 512) (both-second _ _ (both-second _ _ fits))
 
 -- The walk as a call: refused with 7, with 17, and accepted.
 module _ (fit : Bool) (tree : Tree) (page : ℕ) where

@@ -14,12 +14,13 @@ use Rattle.model.specs.declared.Fields.{Fields}
 use Rattle.model.specs.Basics.{both, bit}
 use Rattle.model.specs.Bits.{frameOf, fieldsOf, valid, takenApart}
 use Rattle.model.specs.Tree.{tablesIn, placeAbove, Rights, gathered, flatEntry, largeEntry, treeOf, Walk, ending, meeting, onward, walkFrom, walkOf, flatAt, readsAt}
-use Rattle.model.proofs.BitLaws.{present-valid, fields-apart}
+use Rattle.model.proofs.BitLaws.{present-valid, valid-parts, fields-apart}
 use Rattle.tree.specs.declared.Below.{Below}
 use Rattle.tree.specs.declared.Below.the-variants.{Table, Large, Nowhere}
 use Rattle.tree.specs.declared.Part.{Part}
-use Rattle.tree.specs.Parts.{rightsBy, lastFlat, flatBelow, flatIn, readsBelow, readsIn}
+use Rattle.tree.specs.Parts.{rightsBy, lastFlat, flatBelow, flatIn, readsBelow, readsIn, Alike}
 use Rattle.tree.proofs.BitLaws.{gathered-by, added-last}
+use Rattle.tree.proofs.WordLaws.{partOf, alike-same}
 
 frame-bits : (entry : ℕ) → frameOf entry % 512 ≡ entry / 2 ^ 12 % 512
 unfolding frameOf
@@ -45,8 +46,11 @@ Gives words page level all any number reads r =
     → (walkFrom words p level (rightsBy all any) number .flat ≡ flatIn words r p)
     × (reads + length (walkFrom words p level (rightsBy all any) number .met) ≡ readsIn r)
 
-abbrev partOf : Below → ℕ → ℕ → ℕ → Part
-partOf below all any reads = record { below = below; all = all; any = any; reads = reads }
+-- A part that is alike gives the same.
+pub gives-alike : (words : List ℕ) (page level all any number reads : ℕ) (r r′ : Part) → Alike r r′
+    → Gives words page level all any number reads r → Gives words page level all any number reads r′
+gives-alike words page level all any number reads r r′ alike gives p same =
+    (gives p same .0 ∙ alike .0 words p, gives p same .1 ∙ alike .1)
 
 -- The entry that a page meets at a level above 1, which is that of every page of its part.
 abbrev met : List ℕ → ℕ → ℕ → ℕ → ℕ
@@ -194,7 +198,14 @@ module _ (words : List ℕ) (page level all any number reads : ℕ) (e : Entry) 
             large-last p =
                 rw (← (gathered-same (rightsBy all any) x), ← fields) (added-last upper (p % 512) low-bits (omega arith) (rightsBy all any) (present-valid upper x present))
 
--- A table of the run is a table of the run's.
+        -- No rights are gathered above level 2.
+        pub level-large-all : all ≡ 2 ^ 64 - 1 → any ≡ 0 → x .frame % 512 ≡ 0
+            → Gives words page level all any number reads (partOf (Large (met words page level number)) (2 ^ 64 - 1) 0 (reads + 1))
+        level-large-all p q aligned =
+            gives-alike words page level all any number reads (partOf (Large (met words page level number)) all any (reads + 1)) _
+            (alike-same (partOf (Large (met words page level number)) all any (reads + 1)) _ refl (rw (p, q)) refl) (level-large aligned)
+
+-- The run has a table with this number.
 pub table-sound : (words : List ℕ) (number : ℕ) → number < length words / 512 → number < tablesIn words
 unfolding tablesIn
 table-sound words number h = h
@@ -251,10 +262,14 @@ module _ (words : List ℕ) (root depth page : ℕ) (low : 1 ≤ depth) (high : 
       let none = walk-many p (many-bits p depth low high (λ e. many (sym (bits-same p page depth low high same) ∙ e))) in
       (ap (λ (w : Walk). w .flat) none, ap (λ (w : Walk). length (w .met)) none)
 
-  pub from-root : (r : Part) (level : ℕ) → depth ≡ level → page / 2 ^ (9 * depth) ≡ 0 → Gives words page level (2 ^ 64 - 1) 0 root 0 r → RootGives r
+  pub from-root : (r r′ : Part) → page / 2 ^ (9 * depth) ≡ 0 → Alike r r′ → Gives words page depth (2 ^ 64 - 1) 0 root 0 r → RootGives r′
   unfolding flatAt readsAt
-  from-root r level at few walked p same =
-      let gives : Gives words page depth (2 ^ 64 - 1) 0 root 0 r = rw at walked in
+  from-root r r′ few alike walked p same =
+      let gives : Gives words page depth (2 ^ 64 - 1) 0 root 0 r′ = gives-alike words page depth (2 ^ 64 - 1) 0 root 0 r r′ alike walked in
       let whole = walk-few p (few-bits p depth low high (bits-same p page depth low high same ∙ few)) in
-      let n : 0 + length (walkFrom words p depth (rightsBy (2 ^ 64 - 1) 0) root .met) ≡ readsIn r = gives p same .1 in
+      let n : 0 + length (walkFrom words p depth (rightsBy (2 ^ 64 - 1) 0) root .met) ≡ readsIn r′ = gives p same .1 in
       (ap (λ (w : Walk). w .flat) whole ∙ gives p same .0, ap (λ (w : Walk). length (w .met)) whole ∙ omega (arith, n))
+
+-- A present entry is odd.
+pub large-odd : (entry : ℕ) (e : Entry) (x : Fields) → e ≡ takenApart entry → e ≡ Present x → entry % 2 ≡ 1
+large-odd entry e x apart there = valid-parts entry (present-valid entry x (sym apart ∙ there)) .0

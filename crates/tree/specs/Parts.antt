@@ -1,6 +1,8 @@
 -- What this crate's contracts say of a part: the 512 pages that differ in page bits 0 to 8 alone.
-use Prim.Native.Nat.{ℕ, _+_, _*_, _%_, _^_, _<_, _≤_}
+use Prim.Native.Nat.{ℕ, _+_, _-_, _*_, _/_, _%_, _^_, _<_, _≤_}
+use mathlib.Core.Bool.{cond}
 use mathlib.Core.List.{List}
+use mathlib.Core.Path.{_≡_}
 use lib.ListN.{getD}
 use Rattle.model.specs.declared.Entry.{Entry}
 use Rattle.model.specs.declared.Entry.the-variants.{Absent, Present}
@@ -45,3 +47,24 @@ SoundBelow words Nowhere = Unit {0}
 
 abbrev pub Sound : List ℕ → Part → Type 0
 Sound words part = SoundBelow words (part .below) × (part .reads ≤ 3)
+
+-- A part in one word, as the recursion hands it on: bit 0 clear where the pages are absent, bit 7 set for a large page, whose entry the word is; else the
+-- number of the table from bit 12 on, with the gathered rights at bits 1 and 2, and no-execute at bit 8. Bits 5 and 6, which mean nothing in an entry, are
+-- the count of entries read.
+unfoldable pub belowBy : ℕ → Below
+belowBy word = cond (bit 0 word) (cond (bit 7 word) (Large word) (Table (word / 2 ^ 12))) Nowhere
+
+unfoldable pub partBy : ℕ → Part
+partBy word =
+    record {
+      below = belowBy word;
+      all = cond (bit 7 word) (2 ^ 64 - 1) word;
+      any = cond (bit 7 word) 0 (word / 2 ^ 8 % 2 * 2 ^ 63);
+      reads = word / 2 ^ 5 % 4;
+    }
+
+-- Two parts that give every page the same.
+abbrev pub Alike : Part → Part → Type 0
+Alike a b =
+    ((words : List ℕ) (page : ℕ) → flatIn words a page ≡ flatIn words b page) × (readsIn a ≡ readsIn b)
+    × ((words : List ℕ) → Sound words a → Sound words b)

@@ -5,18 +5,19 @@ use model::Answer;
 use model::Entry;
 ghost use mathlib.Core.Path.{_≡_};
 ghost use mathlib.Core.Bool.{true};
-ghost use Prim.Native.Nat.{ℕ, _+_, _/_, _≤_, _<_};
+ghost use Prim.Native.Nat.{ℕ, _+_, _-_, _/_, _%_, _^_, _≤_, _<_};
 ghost use lib.ListN.{length};
 ghost use Rattle.model.specs.Bits.{takenApart};
 ghost use Rattle.model.specs.Calls.{replyOf};
 ghost use Rattle.model.specs.Tree.{treeOf, treeInOrder, walkFrom, flatAt, readsAt};
 ghost use Rattle.model.specs.Walks.{walkReply};
-ghost use Rattle.tree.specs.Parts.{rightsBy, lastFlat, flatIn, readsIn, Sound};
+ghost use Rattle.tree.specs.Parts.{rightsBy, lastFlat, flatIn, readsIn, Sound, partBy, Alike};
+ghost use Rattle.tree.specs.declared.Below.the-variants.{Table, Large, Nowhere};
 
 // "tables of 512 entries": nine page bits choose one of them.
 const ENTRIES: u64 = 512;
 
-const CHOOSING: u32 = 9;
+const PLACE_BITS: u32 = 9;
 
 const LEAST_DEPTH: u64 = 1;
 
@@ -31,6 +32,11 @@ const LARGE: u64 = 0x80;
 
 const FRAME: u64 = 0x1000;
 
+// Where a part's word has the count of entries read, and whether an entry gathered so far has no-execute.
+const COUNT: u64 = 0x20;
+
+const GATHERED_NO_EXECUTE: u64 = 0x100;
+
 const EVERY_BIT: u64 = 0xffff_ffff_ffff_ffff;
 
 // Where the walk of 512 pages goes on below the entries that they share: in the table of level 1 with this number, in the large page with this
@@ -41,7 +47,8 @@ pub enum Below {
     Nowhere,
 }
 
-// That, with the bits that all entries gathered so far have, those that any of them has, and how many entries were read.
+// A part: where the walk of its 512 pages goes on, the bits that all entries gathered so far have, those that any of them has, and how many entries were
+// read. Of both words only bits 1, 2 and 63 mean something, and nothing where the pages are absent.
 pub struct Part {
     pub below: Below,
     pub all: u64,
@@ -66,7 +73,8 @@ pub fn in_order(words: &[u64], root: u64, depth: u64) -> bool
     root < length / ENTRIES
 }
 
-// The flat entry of a last entry: its present, cache bits and frame, writable and user where all have them, no-execute where any has it.
+// The flat entry of a last entry: its present bit, cache bits and frame, writable and user where all have them, no-execute where any has it. `% 4` takes
+// two bits that stand side by side.
 fn flat(all: u64, any: u64, entry: u64) -> u64
     ensures { λ r. ⌜ r ≡ lastFlat (rightsBy all any) (takenApart entry) ⌝ }
 {
@@ -89,7 +97,65 @@ pub fn narrow(all: u64, any: u64, entry: u64) -> u64
         | any / entry::NO_EXECUTE * entry::NO_EXECUTE
 }
 
-// The walk from a level down to level 1, in the table with this number, by the rights gathered above it.
+// A part in one word, which the recursion can return in a register: absent, in a table, and in a large page, whose rights are those of its own entry,
+// which is the last.
+fn absent_word(reads: u64) -> u64
+    requires { ⌜ reads ≤ 3 ⌝ }
+    ensures { λ r. ⌜ ((all any : ℕ) → Alike (record { below = Nowhere; all = all; any = any; reads = reads }) (partBy r)) ⌝ }
+{
+    reads * COUNT
+}
+
+fn table_word(all: u64, any: u64, number: u64, reads: u64) -> u64
+    requires { ⌜ (number < 2 ^ 52) × (reads ≤ 3) ⌝ }
+    ensures { λ r. ⌜ Alike (record { below = Table number; all = all; any = any; reads = reads }) (partBy r) ⌝ }
+{
+    number * FRAME
+        + any / entry::NO_EXECUTE * GATHERED_NO_EXECUTE
+        + reads * COUNT
+        + all / WRITABLE % 4 * WRITABLE
+        + 1
+}
+
+fn large_word(entry: u64, reads: u64) -> u64
+    requires { ⌜ (reads ≤ 3) × (entry % 2 ≡ 1) × (entry / 2 ^ 7 % 2 ≡ 1) ⌝ }
+    ensures { λ r. ⌜ Alike (record { below = Large entry; all = 2 ^ 64 - 1; any = 0; reads = reads }) (partBy r) ⌝ }
+{
+    entry / LARGE * LARGE + reads * COUNT + entry % COUNT
+}
+
+// The part that a word says.
+fn part_in(word: u64) -> Part
+    ensures { λ r. ⌜ Alike (partBy word) r ⌝ }
+{
+    let reads = word / COUNT % 4;
+    if word % 2 == 0 {
+        return Part {
+            below: Below::Nowhere,
+            all: 0,
+            any: 0,
+            reads,
+        };
+    }
+    if word / LARGE % 2 == 1 {
+        return Part {
+            below: Below::Large(word),
+            all: EVERY_BIT,
+            any: 0,
+            reads,
+        };
+    }
+    let any = word / GATHERED_NO_EXECUTE % 2 * entry::NO_EXECUTE;
+    Part {
+        below: Below::Table(word / FRAME),
+        all: word,
+        any,
+        reads,
+    }
+}
+
+// The walk from a level down to the table of level 1, whose entry is not read here, in the table with this number, by the rights gathered above it. None
+// are gathered above level 2. Each call is one level down; the levels stand as numbers so that the compiler can follow them.
 fn part_from(
     words: &[u64],
     page: u64,
@@ -98,63 +164,38 @@ fn part_from(
     any: u64,
     number: u64,
     reads: u64,
-) -> Part
-    requires { ⌜ (1 ≤ level) × (reads + level ≤ 3) ⌝ }
-    ensures { λ r. ⌜ Sound (now (words .entry)) r × ((p : ℕ) → p / 512 ≡ page / 512
-        → (walkFrom (now (words .entry)) p level (rightsBy all any) number .flat ≡ flatIn (now (words .entry)) r p)
-        × (reads + length (walkFrom (now (words .entry)) p level (rightsBy all any) number .met) ≡ readsIn r)) ⌝ }
+) -> u64
+    requires { ⌜ (1 ≤ level) × (reads + level ≤ 3) × (2 ≤ level → (all ≡ 2 ^ 64 - 1) × (any ≡ 0)) ⌝ }
+    ensures { λ r. ⌜ Sound (now (words .entry)) (partBy r) × ((p : ℕ) → p / 512 ≡ page / 512
+        → (walkFrom (now (words .entry)) p level (rightsBy all any) number .flat ≡ flatIn (now (words .entry)) (partBy r) p)
+        × (reads + length (walkFrom (now (words .entry)) p level (rightsBy all any) number .met) ≡ readsIn (partBy r))) ⌝ }
 {
     if words.len() as u64 / ENTRIES <= number {
-        return Part {
-            below: Below::Nowhere,
-            all,
-            any,
-            reads,
-        };
+        return absent_word(reads);
     }
     if level == 1 {
-        return Part {
-            below: Below::Table(number),
-            all,
-            any,
-            reads,
-        };
+        return table_word(all, any, number, reads);
     }
-    let place = (page >> CHOOSING * (level - 1)) % ENTRIES;
+    let place = (page >> PLACE_BITS * (level - 1)) % ENTRIES;
     let entry = words[(number * ENTRIES + place) as usize];
     let reads = reads + 1;
     let Entry::Present(x) = entry::take_apart(entry) else {
-        return Part {
-            below: Below::Nowhere,
-            all,
-            any,
-            reads,
-        };
+        return absent_word(reads);
     };
     if level == 2 {
         if entry / LARGE % 2 == 0 {
             return part_from(words, page, 1, all & entry, any | entry, x.frame, reads);
         }
         if x.frame % ENTRIES != 0 {
-            return Part {
-                below: Below::Nowhere,
-                all,
-                any,
-                reads,
-            };
+            return absent_word(reads);
         }
-        return Part {
-            below: Below::Large(entry),
-            all,
-            any,
-            reads,
-        };
+        return large_word(entry, reads);
     }
     // "at level 3 these three bits do not count"
     part_from(words, page, 2, all, any, x.frame, reads)
 }
 
-// The part of a page. It asks for a tree that question 17 has let pass.
+// The part of a page. It asks for a tree that question 17 has let pass. A tree of depth 1 has no level above.
 pub fn part_of(words: &[u64], root: u64, depth: u64, page: u64) -> Part
     requires { ⌜ treeInOrder (treeOf (now words) root depth) ≡ true ⌝ }
     ensures { λ r. ⌜ Sound (now (words .entry)) r × ((p : ℕ) → p / 512 ≡ page / 512
@@ -162,21 +203,23 @@ pub fn part_of(words: &[u64], root: u64, depth: u64, page: u64) -> Part
         × (readsAt (treeOf (now (words .entry)) root depth) p ≡ readsIn r)) ⌝ }
 {
     let level = depth as u32;
-    if page >> CHOOSING * level != 0 {
+    if page >> PLACE_BITS * level != 0 {
         return Part {
             below: Below::Nowhere,
-            all: EVERY_BIT,
+            all: 0,
             any: 0,
             reads: 0,
         };
     }
     if level == 1 {
-        return part_from(words, page, 1, EVERY_BIT, 0, root, 0);
+        return Part {
+            below: Below::Table(root),
+            all: EVERY_BIT,
+            any: 0,
+            reads: 0,
+        };
     }
-    if level == 2 {
-        return part_from(words, page, 2, EVERY_BIT, 0, root, 0);
-    }
-    part_from(words, page, 3, EVERY_BIT, 0, root, 0)
+    part_in(part_from(words, page, level, EVERY_BIT, 0, root, 0))
 }
 
 // The last entry of a page of the part, below the rights that the part has, and 0 where the page is absent above it. "the page number's low nine are

@@ -61,7 +61,7 @@ impl Work for Fetch {
             Side::Archive => fetch_on_runs(&mut self.sides.archive, pages, archive::fetch),
             Side::Reference => fetch_on_state(&mut self.sides.plain, pages),
             Side::OnRuns => fetch_on_runs(&mut self.sides.on_runs, pages, on_runs::fetch),
-            Side::WithoutApproval => return false,
+            Side::WithoutApproval | Side::Flat => return false,
         }
         true
     }
@@ -120,7 +120,7 @@ impl Work for Write {
             Side::Archive => write_on_runs(&mut self.sides.archive, places, archive::write),
             Side::Reference => write_on_state(&self.sides.plain, places),
             Side::OnRuns => write_on_runs(&mut self.sides.on_runs, places, on_runs::write),
-            Side::WithoutApproval => return false,
+            Side::WithoutApproval | Side::Flat => return false,
         }
         true
     }
@@ -178,7 +178,7 @@ impl Work for DeviceWrite {
             Side::Archive => device_on_runs(&mut self.sides.archive, places, archive::device_write),
             Side::Reference => device_on_state(&self.sides.plain, places),
             Side::OnRuns => device_on_runs(&mut self.sides.on_runs, places, on_runs::device_write),
-            Side::WithoutApproval => return false,
+            Side::WithoutApproval | Side::Flat => return false,
         }
         true
     }

@@ -6,6 +6,8 @@ use crate::record::WriteRecord;
 use crate::switch::{LeaveAndEnter, Start};
 use crate::synchronise::{SynchroniseAll, SynchroniseOne};
 use crate::tables::{Contents, Tables};
+use crate::tree::{SynchroniseAllFromTree, SynchroniseOneFromTree, Walk};
+use crate::trees::Trees;
 use crate::work::Work;
 
 pub struct Case {
@@ -16,6 +18,8 @@ pub struct Case {
 const SIZES: [u16; 3] = [16, 256, 2048];
 const MIDDLE: u16 = 256;
 const LARGEST: u16 = 2048;
+/// The depths, with the most pages that a guard can have of each.
+const DEPTHS: [(u64, u16); 3] = [(1, 512), (2, LARGEST), (3, LARGEST)];
 const MEBIBYTE: u64 = 1 << 20;
 
 pub fn cases() -> Vec<Case> {
@@ -23,6 +27,7 @@ pub fn cases() -> Vec<Case> {
     cases.extend(accesses());
     cases.extend(switches());
     cases.extend(records());
+    cases.extend(trees());
     cases
 }
 
@@ -80,4 +85,36 @@ fn switches() -> Vec<Case> {
 fn records() -> Vec<Case> {
     let most_listed = |v| move || WriteRecord::new(&Tables::new(Contents::Approved, v));
     SIZES.map(|v| case(format!("write record, V {v}, most pages listed"), most_listed(v))).into()
+}
+
+fn trees() -> Vec<Case> {
+    let large = || Trees::of_large_pages(LARGEST);
+    let ordinary = |v, depth| move || Trees::of_tables(Contents::Ordinary, v, depth);
+    let mut cases = Vec::new();
+    for (depth, v) in DEPTHS {
+        let trees = ordinary(v, depth);
+        cases.push(case(format!("walk, depth {depth}"), move || Walk::new(trees())));
+    }
+    cases.push(case("walk, large page", move || Walk::new(large())));
+    for (depth, _) in DEPTHS {
+        let name = format!("synchronise one from a tree, depth {depth}, mostly ordinary");
+        let trees = ordinary(MIDDLE, depth);
+        cases.push(case(name, move || SynchroniseOneFromTree::new(trees())));
+    }
+    let name = "synchronise one from a tree, large pages";
+    cases.push(case(name, move || SynchroniseOneFromTree::new(large())));
+    for (mode, in_user) in [("", false), (", user mode", true)] {
+        for (depth, v) in DEPTHS {
+            for contents in Contents::ALL {
+                let words = contents.words();
+                let name =
+                    format!("synchronise all from a tree, depth {depth}, V {v}, {words}{mode}");
+                let trees = move || Trees::of_tables(contents, v, depth);
+                cases.push(case(name, move || SynchroniseAllFromTree::new(trees(), in_user)));
+            }
+        }
+        let name = format!("synchronise all from a tree, large pages, V {LARGEST}{mode}");
+        cases.push(case(name, move || SynchroniseAllFromTree::new(large(), in_user)));
+    }
+    cases
 }

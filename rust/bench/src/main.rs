@@ -11,6 +11,8 @@ mod sides;
 mod switch;
 mod synchronise;
 mod tables;
+mod tree;
+mod trees;
 mod work;
 
 use std::env;
@@ -58,7 +60,7 @@ fn main() -> ExitCode {
         Some(()) => ExitCode::SUCCESS,
         None => {
             eprintln!(
-                "bench | bench list | bench repeat CASE archive|reference|on-runs|without-approval COUNT"
+                "bench | bench list | bench repeat CASE archive|reference|on-runs|without-approval|flat COUNT"
             );
             ExitCode::from(2)
         }
@@ -79,9 +81,12 @@ mod tests {
             for side in [Side::Archive, Side::Reference, Side::OnRuns] {
                 assert!(work.repeat(side, COUNT), "{}", case.name);
             }
-            assert!(work.agree(), "{}", case.name);
             let synchronises = case.name.starts_with("synchronise");
-            assert_eq!(work.repeat(Side::WithoutApproval, 1), synchronises, "{}", case.name);
+            let from_tree = synchronises && case.name.contains("from a tree");
+            assert_eq!(work.repeat(Side::Flat, COUNT), from_tree, "{}", case.name);
+            assert!(work.agree(), "{}", case.name);
+            let from_flat = synchronises && !from_tree;
+            assert_eq!(work.repeat(Side::WithoutApproval, 1), from_flat, "{}", case.name);
         }
     }
 }

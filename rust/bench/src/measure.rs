@@ -57,8 +57,8 @@ fn median_ratio(times: &Times) -> f64 {
 
 /// Prints the table; a case on which the sides do not agree is no measurement.
 pub fn print_table(cases: &[Case]) {
-    println!("| call | archive, ns | Rust, ns | ratio | median ratio | Rust on runs, ns | ratio | Rust without approval, ns | price of approval |");
-    println!("|---|---|---|---|---|---|---|---|---|");
+    println!("| call | archive, ns | Rust, ns | ratio | median ratio | Rust on runs, ns | ratio | Rust without approval, ns | price of approval | archive from flat, ns | price of the tree |");
+    println!("|---|---|---|---|---|---|---|---|---|---|---|");
     for case in cases {
         let mut work = (case.prepare)();
         let times = times(&mut *work);
@@ -75,7 +75,9 @@ fn line(name: &str, times: &Times) -> String {
         (archive / reference, median_ratio(times), archive / on_runs);
     let without = least(times, Side::WithoutApproval)
         .map_or("- | -".into(), |without| format!("{without:.1} | {:.2}", reference / without));
+    let flat = least(times, Side::Flat)
+        .map_or("- | -".into(), |flat| format!("{flat:.1} | {:.2}", archive / flat));
     format!(
-        "| {name} | {archive:.1} | {reference:.1} | {ratio:.2} | {median:.2} | {on_runs:.1} | {ratio_on_runs:.2} | {without} |"
+        "| {name} | {archive:.1} | {reference:.1} | {ratio:.2} | {median:.2} | {on_runs:.1} | {ratio_on_runs:.2} | {without} | {flat} |"
     )
 }

@@ -3,7 +3,7 @@
 
 use std::hint::black_box;
 
-use reference::{Answer, State};
+use reference::{Answer, State, Tree};
 
 /// Lets the calls' addresses out, so that the compiler fits none of them to the lengths that this program happens to pass:
 /// the archive's calls are not fitted either.
@@ -17,6 +17,9 @@ pub fn keep_general() {
     black_box((on_runs::write as *const (), on_runs::device_write as *const ()));
     black_box((on_runs::enter as *const (), on_runs::leave as *const ()));
     black_box(on_runs::write_record as *const ());
+    black_box((walk as *const (), sync_page_tree as *const (), sync_all_tree as *const ()));
+    black_box((on_runs::walk as *const (), on_runs::sync_page_tree as *const ()));
+    black_box(on_runs::sync_all_tree as *const ());
 }
 
 #[inline(never)]
@@ -90,6 +93,34 @@ pub fn write_record(
     reference::write_record(v, f, n, e, pages, frames, buffer)
 }
 
+#[inline(never)]
+pub fn walk(tree: Tree, page: u64) -> Answer {
+    reference::walk(tree, page)
+}
+
+#[inline(never)]
+pub fn sync_page_tree(
+    state: &State,
+    tree: Tree,
+    shadow: &mut [u64],
+    map: &mut [u16],
+    exclusion: &[u8],
+    page: u64,
+) -> Answer {
+    reference::synchronise_one_from_tree(state, tree, shadow, map, exclusion, page)
+}
+
+#[inline(never)]
+pub fn sync_all_tree(
+    state: &State,
+    tree: Tree,
+    shadow: &mut [u64],
+    map: &mut [u16],
+    exclusion: &[u8],
+) -> Answer {
+    reference::synchronise_all_from_tree(state, tree, shadow, map, exclusion)
+}
+
 /// Synchronising with the kernel's frame always taken, which guards nothing: the price of steps 2 and 4.
 pub mod without_approval {
     use reference::{Answer, State};
@@ -120,7 +151,7 @@ pub mod without_approval {
 
 /// The reference behind the archive's own boundary, with the archive's parameters.
 pub mod on_runs {
-    use reference::boundary;
+    use reference::{boundary, Tree};
 
     #[inline(never)]
     pub fn start(
@@ -218,5 +249,47 @@ pub mod on_runs {
         numbers: &mut [u64],
     ) -> u64 {
         boundary::write_record(v, f, n, e, pages, frames, buffer, numbers)
+    }
+
+    #[inline(never)]
+    pub fn walk(tables: &[u64], root: u64, depth: u64, page: u64, numbers: &mut [u64]) -> u64 {
+        boundary::walk(Tree { tables, root, depth }, page, numbers)
+    }
+
+    #[inline(never)]
+    #[allow(clippy::too_many_arguments)]
+    pub fn sync_page_tree(
+        run: &[u64],
+        tables: &[u64],
+        root: u64,
+        depth: u64,
+        shadow: &mut [u64],
+        map: &mut [u16],
+        exclusion: &[u8],
+        page: u64,
+        numbers: &mut [u64],
+    ) -> u64 {
+        let tree = Tree { tables, root, depth };
+        boundary::ask(run, numbers, |state| {
+            reference::synchronise_one_from_tree(state, tree, shadow, map, exclusion, page)
+        })
+    }
+
+    #[inline(never)]
+    #[allow(clippy::too_many_arguments)]
+    pub fn sync_all_tree(
+        run: &[u64],
+        tables: &[u64],
+        root: u64,
+        depth: u64,
+        shadow: &mut [u64],
+        map: &mut [u16],
+        exclusion: &[u8],
+        numbers: &mut [u64],
+    ) -> u64 {
+        let tree = Tree { tables, root, depth };
+        boundary::ask(run, numbers, |state| {
+            reference::synchronise_all_from_tree(state, tree, shadow, map, exclusion)
+        })
     }
 }

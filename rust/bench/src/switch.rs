@@ -54,7 +54,7 @@ impl Work for LeaveAndEnter {
             Side::OnRuns => {
                 switch_on_runs(&mut sides.on_runs, count, *last, on_runs::leave, on_runs::enter);
             }
-            Side::WithoutApproval => return false,
+            Side::WithoutApproval | Side::Flat => return false,
         }
         true
     }
@@ -109,7 +109,7 @@ impl Work for Start {
             Side::OnRuns => {
                 start_on_runs(&mut sides.on_runs, count, &tables.policy, on_runs::start);
             }
-            Side::WithoutApproval => return false,
+            Side::WithoutApproval | Side::Flat => return false,
         }
         true
     }

@@ -83,6 +83,7 @@ impl Work for SynchroniseOne {
             Side::Reference => pages_on_state(&mut sides.plain, pages, plain::sync_page),
             Side::OnRuns => pages_on_runs(&mut sides.on_runs, pages, on_runs::sync_page),
             Side::WithoutApproval => pages_on_state(without, pages, without_approval::sync_page),
+            Side::Flat => return false,
         }
         true
     }
@@ -134,6 +135,7 @@ impl Work for SynchroniseAll {
             Side::Reference => all_on_state(&mut sides.plain, kernels, plain::sync_all),
             Side::OnRuns => all_on_runs(&mut sides.on_runs, kernels, on_runs::sync_all),
             Side::WithoutApproval => all_on_state(without, kernels, without_approval::sync_all),
+            Side::Flat => return false,
         }
         true
     }

@@ -12,13 +12,15 @@ pub enum Side {
     Reference,
     /// The reference behind the archive's boundary.
     OnRuns,
-    /// The reference without steps 2 and 4; only calls that synchronise have this side.
+    /// The reference without steps 2 and 4; only calls that synchronise from a flat table have this side.
     WithoutApproval,
+    /// The proved library's call from the flat table of a tree's walks; only calls that synchronise from a tree have this side.
+    Flat,
 }
 
 impl Side {
-    pub const ALL: [Side; 4] =
-        [Side::Archive, Side::Reference, Side::OnRuns, Side::WithoutApproval];
+    pub const ALL: [Side; 5] =
+        [Side::Archive, Side::Reference, Side::OnRuns, Side::WithoutApproval, Side::Flat];
 
     /// As an argument of the program.
     pub fn name(self) -> &'static str {
@@ -27,6 +29,7 @@ impl Side {
             Side::Reference => "reference",
             Side::OnRuns => "on-runs",
             Side::WithoutApproval => "without-approval",
+            Side::Flat => "flat",
         }
     }
 }

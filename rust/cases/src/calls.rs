@@ -121,6 +121,61 @@ pub fn sync_all(
     answer(number, numbers)
 }
 
+/// A run of tables, the number of its root table and its depth.
+#[derive(Clone, Copy)]
+pub struct Tree<'a> {
+    pub tables: &'a [u64],
+    pub root: u64,
+    pub depth: u64,
+}
+
+pub fn walk(tree: Tree, page: u64) -> Answer {
+    let Tree { tables, root, depth } = tree;
+    let mut numbers = UNWRITTEN;
+    let number = archive::walk(tables, root, depth, page, &mut numbers);
+    answer(number, numbers)
+}
+
+pub fn sync_page_tree(
+    s: State,
+    tree: Tree,
+    shadow: &mut [u64],
+    map: &mut [u16],
+    exclusion: &[u8],
+    page: u64,
+) -> Answer {
+    let Tree { tables, root, depth } = tree;
+    let run = words(s);
+    let mut numbers = UNWRITTEN;
+    let number = archive::sync_page_tree(
+        &run,
+        tables,
+        root,
+        depth,
+        shadow,
+        map,
+        exclusion,
+        page,
+        &mut numbers,
+    );
+    answer(number, numbers)
+}
+
+pub fn sync_all_tree(
+    s: State,
+    tree: Tree,
+    shadow: &mut [u64],
+    map: &mut [u16],
+    exclusion: &[u8],
+) -> Answer {
+    let Tree { tables, root, depth } = tree;
+    let run = words(s);
+    let mut numbers = UNWRITTEN;
+    let number =
+        archive::sync_all_tree(&run, tables, root, depth, shadow, map, exclusion, &mut numbers);
+    answer(number, numbers)
+}
+
 pub fn fetch(s: State, shadow: &[u64], page: u64) -> Called {
     let (mut run, mut numbers) = (words(s), UNWRITTEN);
     let number = archive::fetch(&mut run, shadow, page, &mut numbers);

@@ -12,7 +12,9 @@ mod question_7_cases;
 mod start_cases;
 mod sync_all_cases;
 mod sync_page_cases;
+mod sync_tree_cases;
 mod tally;
+mod walk_cases;
 mod write_cases;
 mod write_record_cases;
 
@@ -30,6 +32,8 @@ fn main() -> ExitCode {
     let t = leave_cases::all(t);
     let t = device_write_cases::all(t);
     let t = write_record_cases::all(t);
+    let t = walk_cases::all(t);
+    let t = sync_tree_cases::all(t);
     let t = question_7_cases::all(t);
     let t = drill_cases::all(t);
     if t.total() {

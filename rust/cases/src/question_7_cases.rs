@@ -4,6 +4,7 @@ use crate::calls::Answer;
 use crate::calls::Mode::Kernel;
 use crate::calls::Mode::User;
 use crate::calls::State;
+use crate::calls::Tree;
 use crate::guard;
 use crate::tally::Tally;
 
@@ -12,6 +13,8 @@ use crate::tally::Tally;
 struct Numbers {
     sync_page: u64,
     sync_all: u64,
+    sync_page_tree: u64,
+    sync_all_tree: u64,
     fetch: u64,
     write: u64,
     enter: u64,
@@ -85,6 +88,40 @@ fn sync_all(t: Tally, name: &str, s: State, lent: Lent, number: u64) -> Tally {
     t.case("sync_all", name, told(answer, number, unchanged))
 }
 
+// A tree has no length that this question asks for: one table of absent pages.
+fn tree(run: &[u64; 512]) -> Tree<'_> {
+    Tree { tables: run, root: 0, depth: 1 }
+}
+
+fn sync_page_tree(t: Tally, name: &str, s: State, lent: Lent, number: u64) -> Tally {
+    let given = tables();
+    let Room { mut shadow, mut map } = given;
+    let answer = crate::calls::sync_page_tree(
+        s,
+        tree(&[0; 512]),
+        &mut shadow[..lent.shadow],
+        &mut map[..lent.map],
+        &[0; 513][..lent.exclusion],
+        0,
+    );
+    let unchanged = shadow == given.shadow && map == given.map;
+    t.case("sync_page_tree", name, told(answer, number, unchanged))
+}
+
+fn sync_all_tree(t: Tally, name: &str, s: State, lent: Lent, number: u64) -> Tally {
+    let given = tables();
+    let Room { mut shadow, mut map } = given;
+    let answer = crate::calls::sync_all_tree(
+        s,
+        tree(&[0; 512]),
+        &mut shadow[..lent.shadow],
+        &mut map[..lent.map],
+        &[0; 513][..lent.exclusion],
+    );
+    let unchanged = shadow == given.shadow && map == given.map;
+    t.case("sync_all_tree", name, told(answer, number, unchanged))
+}
+
 // Fetches page 1.
 fn fetch(t: Tally, name: &str, s: State, lent: Lent, number: u64) -> Tally {
     let r = tables();
@@ -140,6 +177,8 @@ fn device_write(t: Tally, name: &str, s: State, lent: Lent, number: u64) -> Tall
 fn calls(t: Tally, name: &str, s: State, lent: Lent, wanted: Numbers) -> Tally {
     let t = sync_page(t, name, s, lent, wanted.sync_page);
     let t = sync_all(t, name, s, lent, wanted.sync_all);
+    let t = sync_page_tree(t, name, s, lent, wanted.sync_page_tree);
+    let t = sync_all_tree(t, name, s, lent, wanted.sync_all_tree);
     let t = fetch(t, name, s, lent, wanted.fetch);
     let t = write(t, name, s, lent, wanted.write);
     let t = enter(t, name, s, lent, wanted.enter);
@@ -149,7 +188,17 @@ fn calls(t: Tally, name: &str, s: State, lent: Lent, wanted: Numbers) -> Tally {
 
 // Kernel mode: enter is refused by question 10 where it passes 7.
 fn passed() -> Numbers {
-    Numbers { sync_page: 0, sync_all: 0, fetch: 0, write: 0, enter: 10, leave: 0, device_write: 0 }
+    Numbers {
+        sync_page: 0,
+        sync_all: 0,
+        sync_page_tree: 0,
+        sync_all_tree: 0,
+        fetch: 0,
+        write: 0,
+        enter: 10,
+        leave: 0,
+        device_write: 0,
+    }
 }
 
 // Tables of these lengths on V 4 and F 9.
@@ -163,29 +212,34 @@ fn lengths(t: Tally, name: &str, lent: [usize; 4], wanted: Numbers) -> Tally {
     )
 }
 
-// The kernel table and the map are lent to the synchronising calls alone.
-fn kernel_or_map() -> Numbers {
-    Numbers { sync_page: 7, sync_all: 7, fetch: 0, write: 0, enter: 10, leave: 0, device_write: 0 }
+// The kernel table is lent to the synchronising calls without a tree.
+fn kernel() -> Numbers {
+    Numbers { sync_page: 7, sync_all: 7, ..passed() }
+}
+
+// The map is lent to the synchronising calls alone.
+fn map() -> Numbers {
+    Numbers { sync_page: 7, sync_all: 7, sync_page_tree: 7, sync_all_tree: 7, ..passed() }
 }
 
 // The shadow table is lent to every call but a device write.
 fn shadow() -> Numbers {
-    Numbers { sync_page: 7, sync_all: 7, fetch: 7, write: 7, enter: 7, leave: 7, device_write: 0 }
+    Numbers { fetch: 7, write: 7, enter: 7, leave: 7, ..map() }
 }
 
 // The exclusion vector is lent to the synchronising calls, to write and to device write.
 fn exclusion() -> Numbers {
-    Numbers { sync_page: 7, sync_all: 7, fetch: 0, write: 7, enter: 10, leave: 0, device_write: 7 }
+    Numbers { write: 7, device_write: 7, ..map() }
 }
 
 fn lent_tables(t: Tally) -> Tally {
     let t = lengths(t, "tables in order", [4, 4, 4, 2], passed());
-    let t = lengths(t, "a kernel table too short", [3, 4, 4, 2], kernel_or_map());
-    let t = lengths(t, "a kernel table too long", [5, 4, 4, 2], kernel_or_map());
+    let t = lengths(t, "a kernel table too short", [3, 4, 4, 2], kernel());
+    let t = lengths(t, "a kernel table too long", [5, 4, 4, 2], kernel());
     let t = lengths(t, "a shadow table too short", [4, 3, 4, 2], shadow());
     let t = lengths(t, "a shadow table too long", [4, 5, 4, 2], shadow());
-    let t = lengths(t, "a map too short", [4, 4, 3, 2], kernel_or_map());
-    let t = lengths(t, "a map too long", [4, 4, 5, 2], kernel_or_map());
+    let t = lengths(t, "a map too short", [4, 4, 3, 2], map());
+    let t = lengths(t, "a map too long", [4, 4, 5, 2], map());
     let t = lengths(t, "an exclusion vector too short", [4, 4, 4, 1], exclusion());
     lengths(t, "an exclusion vector too long", [4, 4, 4, 3], exclusion())
 }
@@ -197,15 +251,7 @@ fn sized(t: Tally, name: &str, s: State, exclusion: usize, wanted: Numbers) -> T
 }
 
 fn state_refused(t: Tally, name: &str, s: State, exclusion: usize) -> Tally {
-    let every = Numbers {
-        sync_page: 7,
-        sync_all: 7,
-        fetch: 7,
-        write: 7,
-        enter: 7,
-        leave: 7,
-        device_write: 7,
-    };
+    let every = Numbers { device_write: 7, ..shadow() };
     sized(t, name, s, exclusion, every)
 }
 
@@ -237,15 +283,7 @@ fn states_in_order(t: Tally) -> Tally {
 
 // V 1 and F 1: page 1 and entry page 1 do not exist, and the write's frame 3 is at or above F.
 fn smallest(t: Tally) -> Tally {
-    let wanted = Numbers {
-        sync_page: 0,
-        sync_all: 0,
-        fetch: 9,
-        write: 13,
-        enter: 9,
-        leave: 0,
-        device_write: 0,
-    };
+    let wanted = Numbers { fetch: 9, write: 13, enter: 9, ..passed() };
     let s = guard::state(1, 1, 1, [1, 0, 0, 0], Kernel(0));
     sized(t, "V 1 and F 1", s, 1, wanted)
 }

@@ -3,6 +3,7 @@
 
 use inputs::{random_record, KernelEntry, Random};
 use reference::claim::Call;
+use reference::Tree;
 
 /// The sizes of a list's policy and some of its excluded frames.
 pub struct Aim {
@@ -39,17 +40,27 @@ impl Aim {
         Aim { v, f, e, excluded, is_aimed: random.one_in(2) }
     }
 
-    /// A kernel table with two places to spare, so that a call can be brought one of another length.
-    pub fn kernel(&self, random: &mut Random) -> Vec<u64> {
-        (0..self.v + 2).map(|_| self.entry(random)).collect()
+    /// V.
+    pub fn pages(&self) -> u64 {
+        self.v
     }
 
-    fn entry(&self, random: &mut Random) -> u64 {
+    /// F.
+    pub fn frames(&self) -> u64 {
+        self.f
+    }
+
+    /// A kernel table with two places to spare, so that a call can be brought one of another length.
+    pub fn kernel(&self, random: &mut Random) -> Vec<u64> {
+        (0..self.v + 2).map(|_| self.entry(random).bits()).collect()
+    }
+
+    pub fn entry(&self, random: &mut Random) -> KernelEntry {
         let entry = KernelEntry::random(random, self.f);
         if !self.is_aimed || random.one_in(2) {
-            return entry.bits();
+            return entry;
         }
-        KernelEntry { frame: self.near_excluded(random), ..entry }.bits()
+        KernelEntry { frame: self.near_excluded(random), ..entry }
     }
 
     /// An excluded frame, or one beside it.
@@ -64,7 +75,7 @@ impl Aim {
         }
         for _ in 0..random.below(3) {
             let page = random.below(kernel.len() as u64) as usize;
-            kernel[page] = self.entry(random);
+            kernel[page] = self.entry(random).bits();
         }
     }
 
@@ -74,8 +85,8 @@ impl Aim {
         length as usize
     }
 
-    pub fn call<'a>(&self, random: &mut Random, kernel: &'a [u64]) -> Call<'a> {
-        match random.below(15) {
+    pub fn call<'a>(&self, random: &mut Random, kernel: &'a [u64], tree: Tree<'a>) -> Call<'a> {
+        match random.below(19) {
             0..3 => Call::SynchroniseOne { kernel, page: self.page(random) },
             3 | 4 => Call::SynchroniseAll { kernel },
             5 | 6 => Call::Fetch { page: self.page(random) },
@@ -85,7 +96,9 @@ impl Aim {
             }
             9 | 10 => Call::Enter { index: near(random, self.e) },
             11 | 12 => Call::Leave { page: self.page_to_leave_to(random, kernel) },
-            _ => self.device_write(random),
+            13 | 14 => self.device_write(random),
+            15 | 16 => Call::SynchroniseOneFromTree { tree, page: self.page(random) },
+            _ => Call::SynchroniseAllFromTree { tree },
         }
     }
 

@@ -3,10 +3,10 @@
 
 use guard::archive::{NUMBERS, STATE_WORDS};
 use inputs::{Parts, Random};
-use reference::{claim, vector_len};
+use reference::{claim, vector_len, Tree};
 
 /// The calls, in document 01's order, then those of the requests.
-pub const KINDS: [&str; 9] = [
+pub const KINDS: [&str; 12] = [
     "start",
     "synchronise one",
     "synchronise all",
@@ -16,17 +16,24 @@ pub const KINDS: [&str; 9] = [
     "leave",
     "device write",
     "write record",
+    "one from a tree",
+    "all from a tree",
+    "walk",
 ];
 
-/// The place of writing a record in [`KINDS`].
+/// The places in [`KINDS`] of the calls that have no state, and of those with a tree.
 pub const WRITE_RECORD: usize = 8;
+pub const ONE_FROM_TREE: usize = 9;
+pub const ALL_FROM_TREE: usize = 10;
+pub const WALK: usize = 11;
 
-/// A start, a call that a list of demand 3 may have, or the writing of a record, which has no state.
+/// A start, a call that a list of demand 3 may have, or one that has no state.
 #[derive(Clone, Copy, Debug)]
 pub enum Call<'a> {
     Start { policy: &'a [u8] },
     Listed(claim::Call<'a>),
     WriteRecord(&'a Parts),
+    Walk { tree: Tree<'a>, page: u64 },
 }
 
 impl Call<'_> {
@@ -42,6 +49,9 @@ impl Call<'_> {
             Call::Listed(claim::Call::Leave { .. }) => 6,
             Call::Listed(claim::Call::DeviceWrite { .. }) => 7,
             Call::WriteRecord(_) => WRITE_RECORD,
+            Call::Listed(claim::Call::SynchroniseOneFromTree { .. }) => ONE_FROM_TREE,
+            Call::Listed(claim::Call::SynchroniseAllFromTree { .. }) => ALL_FROM_TREE,
+            Call::Walk { .. } => WALK,
         }
     }
 }
@@ -72,8 +82,8 @@ impl Lent {
         }
     }
 
-    /// A numbers run, and a buffer of a record's length with any contents.
-    pub fn for_record(random: &mut Random, length: usize) -> Lent {
+    /// A numbers run, and a buffer of this length with any contents; no state and no table.
+    pub fn without_state(random: &mut Random, length: usize) -> Lent {
         Lent {
             state: Vec::new(),
             numbers: vec![random.word(); NUMBERS],

@@ -56,6 +56,9 @@ impl Damage {
     /// What the writing of a record may find, which is lent no state and no table.
     pub const OF_BUFFERS: [Damage; 2] = [Damage::NumbersRun, Damage::Buffer];
 
+    /// What a bare walk may find, which is lent a numbers run beside its tree.
+    pub const OF_WALKS: [Damage; 1] = [Damage::NumbersRun];
+
     pub fn words(self) -> &'static str {
         match self {
             Damage::Contents => "contents alone",

@@ -1,5 +1,5 @@
 //! A list on damaged runs and tables: damaged contents pass from call to call, other damage concerns one call.
-//! Among the calls are starts, on sound and on damaged records, and after them records are written.
+//! Among the calls are starts, on sound and on damaged records; after them records are written and pages are walked to.
 
 use inputs::Random;
 use reference::Fault;
@@ -11,10 +11,12 @@ use crate::list::List;
 use crate::run::{compare, Plan};
 use crate::sides::by_reference;
 use crate::tally::Tally;
+use crate::walked::{check_flat, walk_call};
 use crate::written::{check_written_again, write_call};
 
-/// The records that are written after a list.
+/// The records that are written after a list, and the bare walks.
 const RECORDS: u64 = 6;
+const WALKS: u64 = 20;
 
 pub fn run_list(plan: &Plan, seed: u64, tally: &mut Tally) -> Result<(), String> {
     let mut list = List::new(seed);
@@ -33,7 +35,12 @@ pub fn run_list(plan: &Plan, seed: u64, tally: &mut Tally) -> Result<(), String>
         let damage = Damage::random(&mut list.random, &Damage::OF_TABLES);
         damage.apply(&mut list.random, &mut damaged);
         let call = Call::Listed(list.next_call());
+        let before = damaged.clone();
         let number = compare(plan.fault, &mut damaged, &call)?;
+        if number == 0 {
+            check_flat(&call, &before, &damaged)?;
+        }
+        tally.count_tree(&call, number, &damaged);
         tally.count_damaged(call.kind(), number, damage)?;
         if damage == Damage::Contents {
             lent = damaged;
@@ -41,6 +48,9 @@ pub fn run_list(plan: &Plan, seed: u64, tally: &mut Tally) -> Result<(), String>
     }
     for _ in 0..RECORDS {
         write_call(plan.fault, &mut list.random, tally)?;
+    }
+    for _ in 0..WALKS {
+        walk_call(plan.fault, &mut list.random, &list.trees, tally)?;
     }
     Ok(())
 }

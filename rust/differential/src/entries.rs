@@ -45,6 +45,8 @@ impl Entries {
             Call::Enter { .. } => self.count_switched(AT_ENTER, &before.shadow),
             Call::Leave { .. } => self.count_switched(AT_LEAVE, &before.shadow),
             Call::Fetch { .. } | Call::Write { .. } | Call::DeviceWrite { .. } => {}
+            // The walks of a tree are counted by themselves.
+            Call::SynchroniseOneFromTree { .. } | Call::SynchroniseAllFromTree { .. } => {}
         }
     }
 

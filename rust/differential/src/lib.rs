@@ -1,4 +1,4 @@
-//! The proved archive and the reference on the same lists of calls: answers, state, every table and written record are compared.
+//! The proved archive and the reference on the same lists of calls: answers, state, every table, written record and walk are compared.
 //! Half of the lists begin with an accepted start, and one-page guards check demand 3 there; the rest damage what they lend.
 #![forbid(unsafe_code)]
 
@@ -12,6 +12,9 @@ mod run;
 mod sides;
 mod started;
 mod tally;
+mod trees;
+mod walked;
+mod walks;
 mod written;
 
 pub use damage::Damage;

@@ -1,15 +1,17 @@
 //! A list: a policy, what is lent to its start, and its calls one after another, all by a seed.
-//! The kernel table is the list's own and is edited before every call.
+//! The kernel table and the run of tables are the list's own and are edited before every call.
 
 use inputs::Random;
 use reference::claim::Call;
 
 use crate::aim::{policy, sizes, Aim};
 use crate::call::Lent;
+use crate::trees::Trees;
 
 pub struct List {
     pub random: Random,
     pub policy: Vec<u8>,
+    pub trees: Trees,
     aim: Aim,
     kernel: Vec<u64>,
 }
@@ -20,7 +22,8 @@ impl List {
         let policy = policy(&mut random);
         let aim = Aim::new(&mut random, &policy);
         let kernel = aim.kernel(&mut random);
-        List { random, policy, aim, kernel }
+        let trees = Trees::new(&mut random, &aim);
+        List { random, policy, trees, aim, kernel }
     }
 
     /// Runs and tables for the start, which has to overwrite them.
@@ -30,9 +33,11 @@ impl List {
     }
 
     pub fn next_call(&mut self) -> Call<'_> {
-        let List { random, aim, kernel, .. } = self;
+        let List { random, trees, aim, kernel, .. } = self;
         aim.edit(random, kernel);
+        trees.edit(random, aim);
         let brought = aim.brought(random);
-        aim.call(random, &kernel[..brought])
+        let tree = trees.lent(random);
+        aim.call(random, &kernel[..brought], tree)
     }
 }

@@ -3,6 +3,8 @@
 
 use std::fmt;
 
+use reference::claim::Call as Listed;
+use reference::path::Path;
 use reference::Fault;
 
 use crate::call::{Call, Lent};
@@ -16,7 +18,7 @@ pub struct Plan {
     pub seed: u64,
     /// The number of lists; every second begins with an accepted start.
     pub lists: u64,
-    /// The calls of a list, the start and the records written after it not counted.
+    /// The calls of a list, without the start, the records written after it and the bare walks.
     pub calls: u64,
     /// A mistake that the reference makes.
     pub fault: Fault,
@@ -25,7 +27,7 @@ pub struct Plan {
 impl Plan {
     /// The lists of a whole run, which make more than a million calls.
     pub const LISTS: u64 = 20_000;
-    pub const CALLS: u64 = 60;
+    pub const CALLS: u64 = 72;
 }
 
 /// A call on which the archive, the reference or the one-page guards differ.
@@ -82,9 +84,22 @@ pub(crate) fn compare(fault: Fault, lent: &mut Lent, call: &Call) -> Result<u64,
         expected.numbers,
         expected.state,
     );
+    if let Some(path) = path_of(call) {
+        message += &format!(", {path:x?}");
+    }
     if lent.buffer != expected.buffer {
         let (left, wanted) = (&lent.buffer, &expected.buffer);
         message += &format!(", buffers: archive {left:?}, reference {wanted:?}");
     }
     Err(message)
+}
+
+/// The way to the one page of a call with a tree that question 17 accepts.
+fn path_of(call: &Call) -> Option<Path> {
+    let (tree, page) = match *call {
+        Call::Walk { tree, page } => (tree, page),
+        Call::Listed(Listed::SynchroniseOneFromTree { tree, page }) => (tree, page),
+        _ => return None,
+    };
+    reference::walk(tree, page).is_ok().then(|| Path::to(page, &tree))
 }

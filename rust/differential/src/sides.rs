@@ -5,7 +5,7 @@ use guard::archive::{self, NUMBERS};
 use guard::Guard;
 use inputs::Parts;
 use reference::claim::Call as Listed;
-use reference::{boundary, fault, Fault};
+use reference::{boundary, fault, Fault, Tree};
 
 use crate::call::{Call, Lent};
 
@@ -18,6 +18,9 @@ pub fn by_archive(lent: &mut Lent, call: &Call) -> u64 {
         }
         Call::WriteRecord(Parts { sizes: [v, f, n, e], pages, frames }) => {
             return archive::write_record(*v, *f, *n, *e, pages, frames, buffer, numbers)
+        }
+        Call::Walk { tree: Tree { tables, root, depth }, page } => {
+            return archive::walk(tables, root, depth, page, numbers)
         }
         Call::Listed(call) => call,
     };
@@ -37,6 +40,14 @@ pub fn by_archive(lent: &mut Lent, call: &Call) -> u64 {
         Listed::DeviceWrite { address, length } => {
             archive::device_write(state, exclusion, address, length, numbers)
         }
+        Listed::SynchroniseOneFromTree { tree: Tree { tables, root, depth }, page } => {
+            archive::sync_page_tree(
+                state, tables, root, depth, shadow, map, exclusion, page, numbers,
+            )
+        }
+        Listed::SynchroniseAllFromTree { tree: Tree { tables, root, depth } } => {
+            archive::sync_all_tree(state, tables, root, depth, shadow, map, exclusion, numbers)
+        }
     }
 }
 
@@ -50,6 +61,7 @@ pub fn by_reference(fault: Fault, lent: &mut Lent, call: &Call) -> u64 {
         Call::WriteRecord(Parts { sizes, pages, frames }) => {
             return fault::write_record(fault, *sizes, pages, frames, buffer, numbers)
         }
+        Call::Walk { tree, page } => return fault::walk(fault, tree, page, numbers),
         Call::Listed(call) => call,
     };
     match call {
@@ -74,6 +86,12 @@ pub fn by_reference(fault: Fault, lent: &mut Lent, call: &Call) -> u64 {
         Listed::DeviceWrite { address, length } => boundary::ask(run, numbers, |state| {
             reference::device_write(state, exclusion, address, length)
         }),
+        Listed::SynchroniseOneFromTree { tree, page } => boundary::ask(run, numbers, |state| {
+            fault::synchronise_one_from_tree(fault, state, tree, shadow, map, exclusion, page)
+        }),
+        Listed::SynchroniseAllFromTree { tree } => boundary::ask(run, numbers, |state| {
+            fault::synchronise_all_from_tree(fault, state, tree, shadow, map, exclusion)
+        }),
     }
 }
 
@@ -95,9 +113,19 @@ pub fn by_guard(guard: &mut Guard, call: &Listed) -> (u64, [u64; NUMBERS]) {
         Listed::DeviceWrite { address, length } => {
             guard.device_write(address, length).map(|frames| [frames.first, frames.last])
         }
+        Listed::SynchroniseOneFromTree { tree, page } => guard
+            .sync_page_tree(&lent_to_guard(tree), page)
+            .map(|counts| [counts.changed, counts.joined]),
+        Listed::SynchroniseAllFromTree { tree } => {
+            guard.sync_all_tree(&lent_to_guard(tree)).map(|counts| [counts.changed, counts.joined])
+        }
     };
     match answer {
         Ok(numbers) => (0, numbers),
         Err(refusal) => (refusal.number().into(), [0; NUMBERS]),
     }
+}
+
+fn lent_to_guard(Tree { tables, root, depth }: Tree<'_>) -> guard::Tree<'_> {
+    guard::Tree { words: tables, root, depth }
 }

@@ -10,6 +10,7 @@ use crate::list::List;
 use crate::run::{compare, Plan};
 use crate::sides::{by_guard, by_reference};
 use crate::tally::Tally;
+use crate::walked::check_flat;
 
 pub fn run_list(plan: &Plan, seed: u64, tally: &mut Tally) -> Result<(), String> {
     let mut list = List::new(seed);
@@ -28,7 +29,9 @@ pub fn run_list(plan: &Plan, seed: u64, tally: &mut Tally) -> Result<(), String>
         tally.count_started(call.kind(), number)?;
         if number == 0 {
             tally.count_entries(&listed, &before, &lent);
+            check_flat(&call, &before, &lent)?;
         }
+        tally.count_tree(&call, number, &lent);
         compare_guard(&mut guard, &listed, number, &lent)?;
         check_claim(&mut claim, &listed, number, &before, &lent)?;
     }

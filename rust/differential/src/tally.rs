@@ -7,9 +7,10 @@ use guard::archive::STATE_FRAMES;
 use guard::Refusal;
 use reference::claim;
 
-use crate::call::{Lent, KINDS, WRITE_RECORD};
+use crate::call::{Call, Lent, KINDS, WALK, WRITE_RECORD};
 use crate::damage::Damage;
 use crate::entries::Entries;
+use crate::walks::Walks;
 
 /// The least count of a cell that can be reached.
 const CELL_MINIMUM: u64 = 1000;
@@ -22,7 +23,8 @@ const OF_THE_DRILL: [usize; 2] = [14, 15];
 
 /// The numbers of each call, 0 for accepted: all that the questions let concern it. On damaged runs and tables each of them comes.
 /// Only the start reads a record (1 to 6); 8 is for calls with a length, 9 for those that name something, 10 for mode
-/// switches, 11 and 12 for calls that touch a shadow entry, 13 for writes. Writing a record asks 2 to 7, and it alone asks 16.
+/// switches, 11 and 12 for calls that touch a shadow entry, 13 for writes. Writing a record asks 2 to 7, and it alone asks 16; 17 is
+/// for calls with a tree.
 const OF_THE_CALL: [&[usize]; KINDS.len()] = [
     &[0, 1, 2, 3, 4, 5, 6, 7],
     &[0, 7, 9],
@@ -33,13 +35,16 @@ const OF_THE_CALL: [&[usize]; KINDS.len()] = [
     &[0, 7, 9, 10, 11, 12],
     &[0, 7, 8, 9, 13],
     &[0, 2, 3, 4, 5, 6, 7, 16],
+    &[0, 7, 9, 17],
+    &[0, 7, 17],
+    &[0, 7, 17],
 ];
 
 /// Of these, the numbers that do not come in a list from an accepted start.
 /// Its start is accepted. The state and the guard tables pass question 7 at every call of such a list, so 7 is only about the kernel
-/// table that a synchronisation is brought. A write never gives 13: an entry with the frame of the policy is an approved one and has
-/// no bit 1, and an ordinary one has a frame below F. An enter never gives 12: an entry page is listed, so its entry is approved
-/// where it is present. No record is written there.
+/// table that a synchronisation is brought, and not about a tree. A write never gives 13: an entry with the frame of the policy is an
+/// approved one and has no bit 1, and an ordinary one has a frame below F. An enter never gives 12: an entry page is listed, so its
+/// entry is approved where it is present. No record is written there, and no page is walked to alone.
 const NOT_STARTED: [&[usize]; KINDS.len()] = [
     &[1, 2, 3, 4, 5, 6, 7],
     &[],
@@ -50,6 +55,9 @@ const NOT_STARTED: [&[usize]; KINDS.len()] = [
     &[7],
     &[7],
     OF_THE_CALL[WRITE_RECORD],
+    &[7],
+    &[7],
+    OF_THE_CALL[WALK],
 ];
 
 type Numbers = [[u64; NUMBERS]; KINDS.len()];
@@ -77,8 +85,11 @@ impl Half {
 
 /// Whether a call is lent what the damage is about.
 fn may_find(kind: usize, damage: Damage) -> bool {
-    let others: &[Damage] =
-        if kind == WRITE_RECORD { &Damage::OF_BUFFERS } else { &Damage::OF_TABLES };
+    let others: &[Damage] = match kind {
+        WRITE_RECORD => &Damage::OF_BUFFERS,
+        WALK => &Damage::OF_WALKS,
+        _ => &Damage::OF_TABLES,
+    };
     damage == Damage::Contents || others.contains(&damage)
 }
 
@@ -91,6 +102,8 @@ pub struct Tally {
     damage: [[u64; KINDS.len()]; Damage::ALL.len()],
     /// Of the lists from a start.
     entries: Entries,
+    /// Of all lists and of bare walks.
+    walks: Walks,
 }
 
 impl Tally {
@@ -102,6 +115,11 @@ impl Tally {
     /// Counts the entries of an accepted call of a list from a start.
     pub(crate) fn count_entries(&mut self, call: &claim::Call, before: &Lent, after: &Lent) {
         self.entries.count(call, after.state[STATE_FRAMES], before, after);
+    }
+
+    /// Counts what a call met of its tree, if it has one.
+    pub(crate) fn count_tree(&mut self, call: &Call, number: u64, lent: &Lent) {
+        self.walks.count(call, number, lent.shadow.len() as u64);
     }
 
     /// Counts a call on damaged runs and tables.
@@ -125,6 +143,7 @@ impl Tally {
         let mut complaints = self.complaints_of(Half::Started);
         complaints.extend(self.complaints_of(Half::Damaged));
         complaints.extend(self.entries.complaints());
+        complaints.extend(self.walks.complaints());
         for number in 0..NUMBERS {
             let of_a_call = OF_THE_CALL.iter().any(|numbers| numbers.contains(&number));
             if of_a_call == OF_THE_DRILL.contains(&number) {
@@ -165,7 +184,8 @@ impl Tally {
         self.print_numbers(out, Half::Started)?;
         self.print_numbers(out, Half::Damaged)?;
         self.print_damage(out)?;
-        self.entries.print(out)
+        self.entries.print(out)?;
+        self.walks.print(out)
     }
 
     fn print_numbers(&self, out: &mut impl Write, half: Half) -> io::Result<()> {
@@ -199,7 +219,7 @@ impl Tally {
 }
 
 /// What is wrong with the count of a cell.
-fn wrong(can_be: bool, count: u64) -> Option<String> {
+pub(crate) fn wrong(can_be: bool, count: u64) -> Option<String> {
     if can_be {
         (count < CELL_MINIMUM).then(|| format!("at least {CELL_MINIMUM} are asked for"))
     } else {
@@ -207,7 +227,12 @@ fn wrong(can_be: bool, count: u64) -> Option<String> {
     }
 }
 
-fn print_cell(out: &mut impl Write, width: usize, can_be: bool, count: u64) -> io::Result<()> {
+pub(crate) fn print_cell(
+    out: &mut impl Write,
+    width: usize,
+    can_be: bool,
+    count: u64,
+) -> io::Result<()> {
     if can_be || count > 0 {
         write!(out, "{count:>width$}")
     } else {

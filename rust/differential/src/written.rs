@@ -22,7 +22,7 @@ pub fn write_call(fault: Fault, random: &mut Random, tally: &mut Tally) -> Resul
     if random.one_in(2) {
         damage_parts(random, &mut parts);
     }
-    let mut lent = Lent::for_record(random, policy.len());
+    let mut lent = Lent::without_state(random, policy.len());
     let damage = Damage::random(random, &Damage::OF_BUFFERS);
     damage.apply(random, &mut lent);
     if damage == Damage::NumbersRun && random.one_in(2) {

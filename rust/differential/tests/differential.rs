@@ -23,7 +23,8 @@ fn a_million_calls_agree() {
 
 #[test]
 fn every_planted_mistake_is_found() {
-    for fault in Fault::PLANTED.into_iter().chain(Fault::OF_WRITING_RECORDS) {
+    let of_lists = Fault::PLANTED.into_iter().chain(Fault::OF_TREES);
+    for fault in of_lists.chain(Fault::OF_WRITING_RECORDS).chain(Fault::OF_WALKS) {
         let plan = Plan { seed: SEED, lists: 200, calls: Plan::CALLS, fault };
         let difference = run(&plan).expect_err(&format!("{fault:?} is not found"));
         println!("{fault:?}: {difference}");
@@ -33,7 +34,8 @@ fn every_planted_mistake_is_found() {
 /// The one-page guards alone find every mistake, and none where there is none.
 #[test]
 fn demand_3_sees_every_planted_mistake() {
-    for fault in std::iter::once(Fault::None).chain(Fault::PLANTED) {
+    let planted = Fault::PLANTED.into_iter().chain(Fault::OF_TREES);
+    for fault in std::iter::once(Fault::None).chain(planted) {
         let plan = Plan { seed: SEED, lists: 0, calls: Plan::CALLS, fault };
         let broken = (0..200).filter(|&seed| run_claim(&plan, seed).is_err()).count();
         assert_eq!(broken > 0, fault != Fault::None, "{fault:?} breaks {broken} of 200 lists");
@@ -99,6 +101,89 @@ fn too_few_written_records_are_noticed() {
     }
 }
 
+/// Each number of a call with a tree that comes too seldom is named, in both halves, and each reason of 17.
+#[test]
+fn too_few_calls_with_a_tree_are_noticed() {
+    let complaints = Tally::default().complaints();
+    let wrong = "at least 1000 are asked for";
+    let halves = [
+        ("from a start, one from a tree", &[0, 9, 17][..]),
+        ("from a start, all from a tree", &[0, 17]),
+        ("damaged, one from a tree", &[0, 7, 9, 17]),
+        ("damaged, all from a tree", &[0, 7, 17]),
+        ("damaged, walk", &[0, 7, 17]),
+    ];
+    for (call, numbers) in halves {
+        for number in numbers {
+            let complaint = format!("{call}, {number}: 0 calls, {wrong}");
+            assert!(complaints.contains(&complaint), "{complaint}");
+        }
+    }
+    let reasons =
+        ["empty run", "words left over", "depth 0", "depth above 3", "root outside", "several"];
+    for call in ["one from a tree", "all from a tree", "walk"] {
+        for reason in reasons {
+            let complaint = format!("17, {call}, {reason}: 0 of them, {wrong}");
+            assert!(complaints.contains(&complaint), "{complaint}");
+        }
+    }
+    let damage = format!("length of the numbers run, walk: 0 calls, {wrong}");
+    assert!(complaints.contains(&damage));
+}
+
+/// Each way in which a walk can end is asked for, at each depth and with as many entries read as it can have, and no other.
+#[test]
+fn too_few_walks_of_a_kind_are_noticed() {
+    let complaints = Tally::default().complaints();
+    let ends = [
+        ("page", &["1 of 1", "2 of 2", "3 of 3"][..]),
+        ("large page", &["1 of 2", "2 of 3"]),
+        ("too many bits", &["0 of 1", "0 of 2", "0 of 3"]),
+        ("not present", &["1 of 1", "1 of 2", "2 of 2", "1 of 3", "2 of 3", "3 of 3"]),
+        ("reserved bit", &["1 of 1", "1 of 2", "2 of 2", "1 of 3", "2 of 3", "3 of 3"]),
+        ("no such table", &["1 of 2", "1 of 3", "2 of 3"]),
+        ("misaligned", &["1 of 2", "2 of 3"]),
+    ];
+    let mut asked = 0;
+    for (end, reads) in ends {
+        for read in reads {
+            for walks in ["walks", "synchronised"] {
+                let complaint =
+                    format!("{walks}, {end}, {read}: 0 of them, at least 1000 are asked for");
+                // No page of a guard has too many bits for a depth above 1.
+                let can_be = walks == "walks" || end != "too many bits" || *read == "0 of 1";
+                assert_eq!(complaints.contains(&complaint), can_be, "{complaint}");
+                asked += usize::from(can_be);
+            }
+        }
+    }
+    let of_walks = |text: &&String| text.starts_with("walks,") || text.starts_with("synchronised,");
+    assert_eq!(complaints.iter().filter(of_walks).count(), asked);
+}
+
+/// Each bit that counts at some levels and not at others is asked for at each of them.
+#[test]
+fn too_few_bits_at_a_level_are_noticed() {
+    let complaints = Tally::default().complaints();
+    let bits = [
+        "writable clear",
+        "user clear",
+        "write-through set",
+        "cache disable set",
+        "bit 7 set",
+        "no-execute set",
+    ];
+    for bit in bits {
+        for levels in ["no level", "1 alone", "2 alone", "1 and 2", "3 alone"] {
+            let complaint =
+                format!("levels, {bit}, {levels}: 0 of them, at least 1000 are asked for");
+            // With bit 7 at level 2 no walk comes to level 1.
+            let can_be = bit != "bit 7 set" || !levels.contains('2');
+            assert_eq!(complaints.contains(&complaint), can_be, "{complaint}");
+        }
+    }
+}
+
 /// Damage to what a call is not lent is counted, printed in place of its dash, and complained of.
 #[test]
 fn damage_that_cannot_be_is_a_complaint() {
@@ -111,12 +196,12 @@ fn damage_that_cannot_be_is_a_complaint() {
     };
     let mut tally = Tally::default();
     let [table, buffer] = of_damage(&tally);
-    assert_eq!((table.matches('-').count(), buffer.matches('-').count()), (1, 8));
+    assert_eq!((table.matches('-').count(), buffer.matches('-').count()), (2, 11));
     tally.count_damaged(8, 0, Damage::Table).unwrap();
     tally.count_damaged(0, 0, Damage::Buffer).unwrap();
     let [table, buffer] = of_damage(&tally);
-    assert_eq!((table.matches('-').count(), buffer.matches('-').count()), (0, 7));
-    assert!(table.ends_with(" 1"), "{table}");
+    assert_eq!((table.matches('-').count(), buffer.matches('-').count()), (1, 10));
+    assert!(table.contains(" 1 "), "{table}");
     let complaints = tally.complaints();
     for cell in ["length of a table, write record", "length of the buffer, start"] {
         let complaint = format!("{cell}: 1 calls, which cannot be");
@@ -128,13 +213,13 @@ fn damage_that_cannot_be_is_a_complaint() {
 #[test]
 fn a_list_that_writes_a_record_is_a_complaint() {
     let mut tally = Tally::default();
-    for kind in 0..9 {
+    for kind in 0..12 {
         tally.count_started(kind, 16).unwrap();
     }
     tally.count_started(8, 0).unwrap();
     let complaints = tally.complaints();
     let of_16 = complaints.iter().filter(|text| text.ends_with(", 16: 1 calls, which cannot be"));
-    assert_eq!(of_16.count(), 9);
+    assert_eq!(of_16.count(), 12);
     let complaint = "from a start, write record, 0: 1 calls, which cannot be".to_string();
     assert!(complaints.contains(&complaint));
 }

@@ -68,7 +68,7 @@ fn every_number_has_its_words() {
         assert_eq!(words(&line), expected);
         explained += 1;
     }
-    assert_eq!(explained, 16);
+    assert_eq!(explained, 17);
 }
 
 #[test]
@@ -127,7 +127,7 @@ fn lines_that_are_none() {
         ("S 0 1 1 K", "line 1: 'S 0 1 1 K' is no line of the drill"),
         ("S 0 1 1 K 1 1", "line 1: 'S 0 1 1 K 1 1' is no line of the drill"),
         ("8 0 1 1 K 1", "line 1: '8' is no kind of call"),
-        ("1 17 0 0 K 1", "line 1: 17 is no refusal number"),
+        ("1 18 0 0 K 1", "line 1: 18 is no refusal number"),
         ("1 256 0 0 K 1", "line 1: 256 is no refusal number"),
         ("1 +1 0 0 K 1", "line 1: a decimal number is expected, not '+1'"),
         ("1 0 0 x K 1", "line 1: a decimal number is expected, not 'x'"),

@@ -86,6 +86,48 @@ extern "C" {
         numbers: *mut u64,
         numbers_length: usize,
     ) -> u64;
+    fn guard_walk(
+        tables: *const u64,
+        tables_length: usize,
+        root: u64,
+        depth: u64,
+        page: u64,
+        numbers: *mut u64,
+        numbers_length: usize,
+    ) -> u64;
+    fn guard_sync_page_tree(
+        state: *const u64,
+        state_length: usize,
+        tables: *const u64,
+        tables_length: usize,
+        root: u64,
+        depth: u64,
+        shadow: *mut u64,
+        shadow_length: usize,
+        map: *mut u16,
+        map_length: usize,
+        exclusion: *const u8,
+        exclusion_length: usize,
+        page: u64,
+        numbers: *mut u64,
+        numbers_length: usize,
+    ) -> u64;
+    fn guard_sync_all_tree(
+        state: *const u64,
+        state_length: usize,
+        tables: *const u64,
+        tables_length: usize,
+        root: u64,
+        depth: u64,
+        shadow: *mut u64,
+        shadow_length: usize,
+        map: *mut u16,
+        map_length: usize,
+        exclusion: *const u8,
+        exclusion_length: usize,
+        numbers: *mut u64,
+        numbers_length: usize,
+    ) -> u64;
     fn guard_fetch(
         state: *mut u64,
         state_length: usize,
@@ -246,6 +288,93 @@ pub fn sync_all(
             state.len(),
             kernel.as_ptr(),
             kernel.len(),
+            shadow.as_mut_ptr(),
+            shadow.len(),
+            map.as_mut_ptr(),
+            map.len(),
+            exclusion.as_ptr(),
+            exclusion.len(),
+            numbers.as_mut_ptr(),
+            numbers.len(),
+        )
+    }
+}
+
+/// Walks a tree of tables to a page: its flat entry, and the entries read.
+#[inline]
+pub fn walk(tables: &[u64], root: u64, depth: u64, page: u64, numbers: &mut [u64]) -> u64 {
+    // SAFETY: each pair is a slice's own pointer and length; see the module's text.
+    unsafe {
+        guard_walk(
+            tables.as_ptr(),
+            tables.len(),
+            root,
+            depth,
+            page,
+            numbers.as_mut_ptr(),
+            numbers.len(),
+        )
+    }
+}
+
+/// Synchronises one page from a tree of tables: shadow entries changed, pages that joined the map.
+#[inline]
+#[allow(clippy::too_many_arguments)]
+pub fn sync_page_tree(
+    state: &[u64],
+    tables: &[u64],
+    root: u64,
+    depth: u64,
+    shadow: &mut [u64],
+    map: &mut [u16],
+    exclusion: &[u8],
+    page: u64,
+    numbers: &mut [u64],
+) -> u64 {
+    // SAFETY: each pair is a slice's own pointer and length; see the module's text.
+    unsafe {
+        guard_sync_page_tree(
+            state.as_ptr(),
+            state.len(),
+            tables.as_ptr(),
+            tables.len(),
+            root,
+            depth,
+            shadow.as_mut_ptr(),
+            shadow.len(),
+            map.as_mut_ptr(),
+            map.len(),
+            exclusion.as_ptr(),
+            exclusion.len(),
+            page,
+            numbers.as_mut_ptr(),
+            numbers.len(),
+        )
+    }
+}
+
+/// Synchronises all pages from a tree of tables: shadow entries changed, pages that joined the map.
+#[inline]
+#[allow(clippy::too_many_arguments)]
+pub fn sync_all_tree(
+    state: &[u64],
+    tables: &[u64],
+    root: u64,
+    depth: u64,
+    shadow: &mut [u64],
+    map: &mut [u16],
+    exclusion: &[u8],
+    numbers: &mut [u64],
+) -> u64 {
+    // SAFETY: each pair is a slice's own pointer and length; see the module's text.
+    unsafe {
+        guard_sync_all_tree(
+            state.as_ptr(),
+            state.len(),
+            tables.as_ptr(),
+            tables.len(),
+            root,
+            depth,
             shadow.as_mut_ptr(),
             shadow.len(),
             map.as_mut_ptr(),

@@ -1,4 +1,4 @@
-//! The guard: its state run and tables, and a method for each call of document 01.
+//! The guard: its state run and tables, and a method for each call of documents 01 and 02 on them.
 //! A refused call changes nothing.
 
 use crate::archive;
@@ -6,7 +6,7 @@ use crate::archive::{
     MODE_USER, NUMBERS, STATE_ENTRIES, STATE_ENTRY, STATE_FRAMES, STATE_MODE, STATE_PAGES,
     STATE_RUNNING, STATE_WORDS,
 };
-use crate::Refusal;
+use crate::{Refusal, Tree};
 
 /// How many entry pages a state run has room for.
 pub const ENTRY_PAGES: usize = STATE_MODE - STATE_ENTRY;
@@ -78,6 +78,28 @@ impl Guard {
         let Guard { state, shadow, map, exclusion } = self;
         let [changed, joined] =
             answer(|numbers| archive::sync_all(state, kernel, shadow, map, exclusion, numbers))?;
+        Ok(Synchronised { changed, joined })
+    }
+
+    /// Makes the shadow entry of one page from the kernel's tree.
+    pub fn sync_page_tree(&mut self, tree: &Tree, page: u64) -> Result<Synchronised, Refusal> {
+        let Guard { state, shadow, map, exclusion } = self;
+        let Tree { words, root, depth } = *tree;
+        let [changed, joined] = answer(|numbers| {
+            archive::sync_page_tree(
+                state, words, root, depth, shadow, map, exclusion, page, numbers,
+            )
+        })?;
+        Ok(Synchronised { changed, joined })
+    }
+
+    /// Makes the shadow entries of all pages from the kernel's tree.
+    pub fn sync_all_tree(&mut self, tree: &Tree) -> Result<Synchronised, Refusal> {
+        let Guard { state, shadow, map, exclusion } = self;
+        let Tree { words, root, depth } = *tree;
+        let [changed, joined] = answer(|numbers| {
+            archive::sync_all_tree(state, words, root, depth, shadow, map, exclusion, numbers)
+        })?;
         Ok(Synchronised { changed, joined })
     }
 

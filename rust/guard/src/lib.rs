@@ -1,6 +1,6 @@
 //! The proved page guard as a Rust type: [`Guard`] owns its state and tables, and every call is safe on every input.
 //! The calls run in the archive of `crates/exports`, where each is proved to answer what documents 01 and 02 say.
-//! [`Policy`] builds the policy record that a guard starts with.
+//! [`Policy`] builds the policy record that a guard starts with. A kernel's page tables are lent flat, or as a [`Tree`].
 //!
 //! ```
 //! use guard::{Frames, Guard, Mode, Refusal, Synchronised};
@@ -24,7 +24,9 @@ pub mod archive;
 mod calls;
 mod policy;
 mod refusal;
+mod tree;
 
 pub use calls::{Frames, Guard, Mode, Synchronised, ENTRY_PAGES, NO_FRAME};
 pub use policy::{write_record, Policy};
 pub use refusal::Refusal;
+pub use tree::{Tree, Walk, MAX_DEPTH, TABLE_ENTRIES};

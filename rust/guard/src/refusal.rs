@@ -47,6 +47,7 @@ refusals! {
     /// The drill program's: no call of the library gives it.
     UnknownKind = 15, "the kind of call is unknown";
     BufferTooShort = 16, "the buffer is shorter than the record";
+    Tree = 17, "the tree's run, depth or root does not fit";
 }
 
 impl Refusal {

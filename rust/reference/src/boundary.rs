@@ -5,6 +5,7 @@ use crate::fault;
 use crate::record::write_where;
 use crate::start::start_where;
 use crate::state::{Answer, Mode, Refusal, State};
+use crate::tree::{walk_where, Tree};
 
 const STATE_WORDS: usize = 21;
 const PAGES: usize = 0;
@@ -86,6 +87,18 @@ pub(crate) fn write_variant<const VARIANT: u8>(
     let run_fits = numbers.len() == NUMBERS;
     let answer = write_where::<VARIANT>(run_fits, sizes, pages, frames, buffer);
     reply(numbers, answer)
+}
+
+/// The bare walk, which has no state. The numbers run is asked for before question 17.
+#[inline(always)]
+pub fn walk(tree: Tree, page: u64, numbers: &mut [u64]) -> u64 {
+    walk_variant::<{ fault::NONE }>(tree, page, numbers)
+}
+
+#[inline(always)]
+pub(crate) fn walk_variant<const VARIANT: u8>(tree: Tree, page: u64, numbers: &mut [u64]) -> u64 {
+    let run_fits = numbers.len() == NUMBERS;
+    reply(numbers, walk_where::<VARIANT>(run_fits, tree, page))
 }
 
 /// The state of a run with the right length, in which each field has its width. An entry page too wide is above every V.

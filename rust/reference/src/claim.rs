@@ -2,8 +2,10 @@
 //! A test keeps these beside a guard and compares answers, entries, approvals and mode after every call.
 
 use crate::page_guard::PageGuard;
+use crate::path::Path;
+use crate::tree::Tree;
 
-/// A call of the list, with the kernel table that a synchronising call brings.
+/// A call of the list, with the kernel table or the tree that a synchronising call brings.
 #[derive(Clone, Copy, Debug)]
 pub enum Call<'a> {
     SynchroniseOne { kernel: &'a [u64], page: u64 },
@@ -13,6 +15,8 @@ pub enum Call<'a> {
     Enter { index: u64 },
     Leave { page: u64 },
     DeviceWrite { address: u64, length: u64 },
+    SynchroniseOneFromTree { tree: Tree<'a>, page: u64 },
+    SynchroniseAllFromTree { tree: Tree<'a> },
 }
 
 /// The policy and the one-page guards of all its pages.
@@ -76,6 +80,11 @@ impl Claim {
                     (13, frames.take(257).all(|frame| self.is_free(frame))),
                 ])
             }
+            // A tree has no length that question 7 asks for, and 17 is read from what reaches the call.
+            Call::SynchroniseOneFromTree { tree, page } => {
+                first_no(&[(17, is_tree(&tree)), (9, page < self.v)])
+            }
+            Call::SynchroniseAllFromTree { tree } => first_no(&[(17, is_tree(&tree))]),
         }
     }
 
@@ -88,6 +97,14 @@ impl Claim {
             Call::SynchroniseAll { kernel } => {
                 for (page, &entry) in self.pages.iter_mut().zip(kernel) {
                     page.told_synchronised(entry);
+                }
+            }
+            Call::SynchroniseOneFromTree { tree, page } => {
+                self.pages[page as usize].told_synchronised(Path::to(page, &tree).flat());
+            }
+            Call::SynchroniseAllFromTree { tree } => {
+                for (number, page) in (0..).zip(&mut self.pages) {
+                    page.told_synchronised(Path::to(number, &tree).flat());
                 }
             }
             Call::Enter { .. } => self.pages.iter_mut().for_each(PageGuard::told_entered),
@@ -180,4 +197,10 @@ impl Claim {
 fn touched(address: u64, length: u64) -> impl Iterator<Item = u64> {
     let last_byte = u128::from(address) + u128::from(length.max(1)) - 1;
     address / 4096..=(last_byte / 4096) as u64
+}
+
+/// Question 17: whole tables of 512, a depth of 1 to 3, a root in the run.
+fn is_tree(tree: &Tree) -> bool {
+    let words = tree.tables.len() as u64;
+    words.is_multiple_of(512) && (1..=3).contains(&tree.depth) && tree.root < words / 512
 }

@@ -7,6 +7,7 @@ use crate::boundary;
 use crate::state::{Answer, State};
 use crate::switch;
 use crate::sync;
+use crate::tree::Tree;
 
 /// A mistake that the guard has to exclude.
 #[derive(Clone, Copy, Debug, PartialEq, Eq)]
@@ -39,6 +40,34 @@ pub enum Fault {
     ApprovedCarriesCacheBits = 12,
     /// K3: clearing both bits at a mode switch.
     SwitchClearsCacheBits = 13,
+    /// K4: taking writable, user and no-execute from the last entry alone.
+    LastLevelRights = 14,
+    /// K4: counting these three bits at level 3 too.
+    Level3Rights = 15,
+    /// K4: asking every level for no-execute, as for a right.
+    NoExecuteOfEveryLevel = 16,
+    /// K4: taking cache bits from the entries above the last too.
+    CacheBitsOfEveryLevel = 17,
+    /// K4: believing bit 7 at level 1.
+    LargeAtLevel1 = 18,
+    /// K4: believing bit 7 at level 3.
+    LargeAtLevel3 = 19,
+    /// K4: mapping every page of a large page to its first frame.
+    LargeWithoutLowNine = 20,
+    /// K4: mapping a large page whose frame field has low bits set.
+    MisalignedLarge = 21,
+    /// K4: asking the last entry alone for its reserved bits.
+    ReservedInLastEntry = 22,
+    /// K4: cutting the number of the next table to 32 bits.
+    CutTableNumber = 23,
+    /// K4: taking a page number with too many bits by its lower bits.
+    WrapPages = 24,
+    /// K4: asking 9 before 17.
+    PageBeforeTree = 25,
+    /// K4: asking 17 before 7.
+    TreeBeforeTables = 26,
+    /// K4: counting the levels, and not the entries met.
+    ReadToTheDepth = 27,
 }
 
 pub(crate) const NONE: u8 = Fault::None as u8;
@@ -55,11 +84,25 @@ pub(crate) const EXCHANGE_CACHE_BITS: u8 = Fault::ExchangeCacheBits as u8;
 pub(crate) const ONE_CACHE_BIT: u8 = Fault::OneCacheBit as u8;
 pub(crate) const APPROVED_CARRIES_CACHE_BITS: u8 = Fault::ApprovedCarriesCacheBits as u8;
 pub(crate) const SWITCH_CLEARS_CACHE_BITS: u8 = Fault::SwitchClearsCacheBits as u8;
+pub(crate) const LAST_LEVEL_RIGHTS: u8 = Fault::LastLevelRights as u8;
+pub(crate) const LEVEL_3_RIGHTS: u8 = Fault::Level3Rights as u8;
+pub(crate) const NO_EXECUTE_OF_EVERY_LEVEL: u8 = Fault::NoExecuteOfEveryLevel as u8;
+pub(crate) const CACHE_BITS_OF_EVERY_LEVEL: u8 = Fault::CacheBitsOfEveryLevel as u8;
+pub(crate) const LARGE_AT_LEVEL_1: u8 = Fault::LargeAtLevel1 as u8;
+pub(crate) const LARGE_AT_LEVEL_3: u8 = Fault::LargeAtLevel3 as u8;
+pub(crate) const LARGE_WITHOUT_LOW_NINE: u8 = Fault::LargeWithoutLowNine as u8;
+pub(crate) const MISALIGNED_LARGE: u8 = Fault::MisalignedLarge as u8;
+pub(crate) const RESERVED_IN_LAST_ENTRY: u8 = Fault::ReservedInLastEntry as u8;
+pub(crate) const CUT_TABLE_NUMBER: u8 = Fault::CutTableNumber as u8;
+pub(crate) const WRAP_PAGES: u8 = Fault::WrapPages as u8;
+pub(crate) const PAGE_BEFORE_TREE: u8 = Fault::PageBeforeTree as u8;
+pub(crate) const TREE_BEFORE_TABLES: u8 = Fault::TreeBeforeTables as u8;
+pub(crate) const READ_TO_THE_DEPTH: u8 = Fault::ReadToTheDepth as u8;
 /// No mistake of the list: the variant without steps 2 and 4.
 pub(crate) const NO_APPROVAL: u8 = 255;
 
 impl Fault {
-    /// The mistakes of calls that a list may have: the four in document 01's order, then those of the requests.
+    /// The mistakes of calls that a drill makes: the four in document 01's order, then those of the requests.
     pub const PLANTED: [Fault; 10] = [
         Fault::TrustKernelFrame,
         Fault::WritableAlias,
@@ -76,6 +119,25 @@ impl Fault {
     /// The mistakes of writing a record, which no list and no drill does.
     pub const OF_WRITING_RECORDS: [Fault; 3] =
         [Fault::CutSizes, Fault::BufferBeforeRun, Fault::BytePastRecord];
+
+    /// The mistakes of synchronising from a tree that a list of demand 3 shows. No drill has a tree.
+    pub const OF_TREES: [Fault; 12] = [
+        Fault::LastLevelRights,
+        Fault::Level3Rights,
+        Fault::NoExecuteOfEveryLevel,
+        Fault::CacheBitsOfEveryLevel,
+        Fault::LargeAtLevel1,
+        Fault::LargeAtLevel3,
+        Fault::LargeWithoutLowNine,
+        Fault::MisalignedLarge,
+        Fault::ReservedInLastEntry,
+        Fault::CutTableNumber,
+        Fault::WrapPages,
+        Fault::PageBeforeTree,
+    ];
+
+    /// The other mistakes with a tree: in a list of demand 3 question 7 is passed before 17, and no call gives a count of entries read.
+    pub const OF_WALKS: [Fault; 2] = [Fault::TreeBeforeTables, Fault::ReadToTheDepth];
 }
 
 /// The variant of a call for a mistake. Where the call cannot make it, the variant does what the plain call does.
@@ -96,6 +158,20 @@ macro_rules! variant {
             Fault::OneCacheBit => $module::$call::<ONE_CACHE_BIT>,
             Fault::ApprovedCarriesCacheBits => $module::$call::<APPROVED_CARRIES_CACHE_BITS>,
             Fault::SwitchClearsCacheBits => $module::$call::<SWITCH_CLEARS_CACHE_BITS>,
+            Fault::LastLevelRights => $module::$call::<LAST_LEVEL_RIGHTS>,
+            Fault::Level3Rights => $module::$call::<LEVEL_3_RIGHTS>,
+            Fault::NoExecuteOfEveryLevel => $module::$call::<NO_EXECUTE_OF_EVERY_LEVEL>,
+            Fault::CacheBitsOfEveryLevel => $module::$call::<CACHE_BITS_OF_EVERY_LEVEL>,
+            Fault::LargeAtLevel1 => $module::$call::<LARGE_AT_LEVEL_1>,
+            Fault::LargeAtLevel3 => $module::$call::<LARGE_AT_LEVEL_3>,
+            Fault::LargeWithoutLowNine => $module::$call::<LARGE_WITHOUT_LOW_NINE>,
+            Fault::MisalignedLarge => $module::$call::<MISALIGNED_LARGE>,
+            Fault::ReservedInLastEntry => $module::$call::<RESERVED_IN_LAST_ENTRY>,
+            Fault::CutTableNumber => $module::$call::<CUT_TABLE_NUMBER>,
+            Fault::WrapPages => $module::$call::<WRAP_PAGES>,
+            Fault::PageBeforeTree => $module::$call::<PAGE_BEFORE_TREE>,
+            Fault::TreeBeforeTables => $module::$call::<TREE_BEFORE_TABLES>,
+            Fault::ReadToTheDepth => $module::$call::<READ_TO_THE_DEPTH>,
         }
     };
 }
@@ -123,6 +199,31 @@ pub fn synchronise_all(
     exclusion: &[u8],
 ) -> Answer {
     variant!(sync::all, fault)(state, kernel, shadow, map, exclusion)
+}
+
+/// [`crate::synchronise_one_from_tree`] with a mistake.
+pub fn synchronise_one_from_tree(
+    fault: Fault,
+    state: &State,
+    tree: Tree,
+    shadow: &mut [u64],
+    map: &mut [u16],
+    exclusion: &[u8],
+    page: u64,
+) -> Answer {
+    variant!(sync::one_from_tree, fault)(state, tree, shadow, map, exclusion, page)
+}
+
+/// [`crate::synchronise_all_from_tree`] with a mistake.
+pub fn synchronise_all_from_tree(
+    fault: Fault,
+    state: &State,
+    tree: Tree,
+    shadow: &mut [u64],
+    map: &mut [u16],
+    exclusion: &[u8],
+) -> Answer {
+    variant!(sync::all_from_tree, fault)(state, tree, shadow, map, exclusion)
 }
 
 /// [`crate::write`] with a mistake.
@@ -161,4 +262,9 @@ pub fn write_record(
     numbers: &mut [u64],
 ) -> u64 {
     variant!(boundary::write_variant, fault)(sizes, pages, frames, buffer, numbers)
+}
+
+/// [`boundary::walk`] with a mistake.
+pub fn walk(fault: Fault, tree: Tree, page: u64, numbers: &mut [u64]) -> u64 {
+    variant!(boundary::walk_variant, fault)(tree, page, numbers)
 }

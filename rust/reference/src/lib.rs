@@ -9,11 +9,13 @@ mod drill;
 mod entry;
 pub mod fault;
 mod page_guard;
+pub mod path;
 mod record;
 mod start;
 mod state;
 mod switch;
 mod sync;
+mod tree;
 
 pub use access::{device_write, fetch, write};
 pub use drill::{drill, drill_with_fault};
@@ -23,4 +25,8 @@ pub use record::write_record;
 pub use start::start;
 pub use state::{vector_len, Answer, Mode, Refusal, State};
 pub use switch::{enter, leave};
-pub use sync::{synchronise_all, synchronise_one, without_approval};
+pub use sync::{
+    synchronise_all, synchronise_all_from_tree, synchronise_one, synchronise_one_from_tree,
+    without_approval,
+};
+pub use tree::{walk, Tree};

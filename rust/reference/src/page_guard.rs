@@ -21,20 +21,20 @@ impl FrameSet {
 }
 
 /// An entry, kernel or shadow, as one number and by its bits.
-#[derive(Clone, Copy)]
-struct Entry(u64);
+#[derive(Clone, Copy, Debug)]
+pub(crate) struct Entry(pub u64);
 
 impl Entry {
-    fn bit(self, place: u32) -> bool {
+    pub fn bit(self, place: u32) -> bool {
         self.0 >> place & 1 == 1
     }
 
-    fn frame(self) -> u64 {
+    pub fn frame(self) -> u64 {
         (self.0 >> 12) % (1 << 40)
     }
 
     /// The sum of the bits that are set; no place is given twice.
-    fn of(bits: &[(u32, bool)], frame: u64) -> Entry {
+    pub fn of(bits: &[(u32, bool)], frame: u64) -> Entry {
         let bits = bits.iter().map(|&(place, set)| u64::from(set) << place);
         Entry(bits.sum::<u64>() + (frame << 12))
     }
@@ -73,7 +73,8 @@ impl PageGuard {
         guard
     }
 
-    /// Told an accepted synchronisation of its page, alone or with others, with the kernel table's entry for it.
+    /// Told an accepted synchronisation of its page, alone or with others, with the kernel table's entry for it,
+    /// or the flat entry of the walk to it.
     pub fn told_synchronised(&mut self, kernel_entry: u64) {
         let kernel = Entry(kernel_entry);
         // K1: a kernel entry with any of bits 52 to 62 set is absent.

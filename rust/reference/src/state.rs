@@ -113,10 +113,11 @@ pub enum Refusal {
     CallCutShort = 14,
     UnknownKind = 15,
     BufferTooShort = 16,
+    Tree = 17,
 }
 
 impl Refusal {
-    pub const ALL: [Refusal; 16] = [
+    pub const ALL: [Refusal; 17] = [
         Refusal::RecordTooShort,
         Refusal::SizeOutOfRange,
         Refusal::CountOutOfRange,
@@ -133,6 +134,7 @@ impl Refusal {
         Refusal::CallCutShort,
         Refusal::UnknownKind,
         Refusal::BufferTooShort,
+        Refusal::Tree,
     ];
 
     #[inline]

@@ -1,4 +1,4 @@
-//! Synchronising one page or all pages with the kernel table.
+//! Synchronising one page or all pages with the kernel table, which is flat or a tree.
 //! One step serves the exact guard, the planted mistakes and the variant without approval; each is compiled apart.
 
 use crate::entry::{
@@ -7,12 +7,13 @@ use crate::entry::{
 };
 use crate::fault;
 use crate::state::{Answer, Refusal, State, MAX_FRAMES, MAX_VECTOR};
+use crate::tree::{Tree, WholeTree};
 
-/// Question 7 for the four tables that a synchronisation is lent.
+/// Question 7 for the tables that a synchronisation is lent: those with a place for each page, and the vector.
 #[inline(always)]
-fn fits(state: &State, kernel: &[u64], shadow: &[u64], map: &[u16], exclusion: &[u8]) -> bool {
+fn fits<const TABLES: usize>(state: &State, places: [usize; TABLES], exclusion: &[u8]) -> bool {
     let v = usize::from(state.v);
-    state.fits_vector(exclusion.len()) && kernel.len() == v && shadow.len() == v && map.len() == v
+    state.fits_vector(exclusion.len()) && places.into_iter().all(|count| count == v)
 }
 
 /// Steps 1 to 5 for one page: its shadow entry. `frames_end` is F in a frame's place.
@@ -74,25 +75,64 @@ pub(crate) fn one<const VARIANT: u8>(
     exclusion: &[u8],
     page: u64,
 ) -> Answer {
-    if !fits(state, kernel, shadow, map, exclusion) {
+    if !fits(state, [kernel.len(), shadow.len(), map.len()], exclusion) {
         return Err(Refusal::StateOrTable);
     }
     if page >= u64::from(state.v) {
         return Err(Refusal::DoesNotExist);
     }
     let page = page as usize;
+    Ok(put::<VARIANT>(state, kernel[page], shadow, map, exclusion, page))
+}
+
+#[inline(always)]
+pub(crate) fn one_from_tree<const VARIANT: u8>(
+    state: &State,
+    tree: Tree,
+    shadow: &mut [u64],
+    map: &mut [u16],
+    exclusion: &[u8],
+    page: u64,
+) -> Answer {
+    if VARIANT == fault::TREE_BEFORE_TABLES {
+        tree.whole()?;
+    }
+    if !fits(state, [shadow.len(), map.len()], exclusion) {
+        return Err(Refusal::StateOrTable);
+    }
+    if VARIANT == fault::PAGE_BEFORE_TREE && page >= u64::from(state.v) {
+        return Err(Refusal::DoesNotExist);
+    }
+    let tree = tree.whole()?;
+    if page >= u64::from(state.v) {
+        return Err(Refusal::DoesNotExist);
+    }
+    let kernel = tree.walk::<VARIANT>(page).entry;
+    Ok(put::<VARIANT>(state, kernel, shadow, map, exclusion, page as usize))
+}
+
+/// The step for one page: whether its entry changed, and whether it joined.
+#[inline(always)]
+fn put<const VARIANT: u8>(
+    state: &State,
+    kernel: u64,
+    shadow: &mut [u64],
+    map: &mut [u16],
+    exclusion: &[u8],
+    page: usize,
+) -> (u64, u64) {
     let frames_end = framed(state.f);
     let is_excluded = |frame| is_excluded(exclusion, frame);
     let place = &mut map[page];
     let mut joined = 0;
     let entry = if state.mode.is_user() {
-        step::<true, VARIANT>(kernel[page], place, frames_end, is_excluded, &mut joined)
+        step::<true, VARIANT>(kernel, place, frames_end, is_excluded, &mut joined)
     } else {
-        step::<false, VARIANT>(kernel[page], place, frames_end, is_excluded, &mut joined)
+        step::<false, VARIANT>(kernel, place, frames_end, is_excluded, &mut joined)
     };
     let changed = shadow[page] != entry;
     shadow[page] = entry;
-    Ok((changed.into(), joined))
+    (changed.into(), joined)
 }
 
 #[inline(always)]
@@ -103,21 +143,71 @@ pub(crate) fn all<const VARIANT: u8>(
     map: &mut [u16],
     exclusion: &[u8],
 ) -> Answer {
-    if !fits(state, kernel, shadow, map, exclusion) {
+    if !fits(state, [kernel.len(), shadow.len(), map.len()], exclusion) {
         return Err(Refusal::StateOrTable);
     }
-    Ok(if state.mode.is_user() {
-        run::<true, VARIANT>(state.f, kernel, shadow, map, exclusion)
-    } else {
-        run::<false, VARIANT>(state.f, kernel, shadow, map, exclusion)
+    Ok(all_pages::<VARIANT, _>(state, kernel.iter(), |&entry| entry, shadow, map, exclusion))
+}
+
+#[inline(always)]
+pub(crate) fn all_from_tree<const VARIANT: u8>(
+    state: &State,
+    tree: Tree,
+    shadow: &mut [u64],
+    map: &mut [u16],
+    exclusion: &[u8],
+) -> Answer {
+    if VARIANT == fault::TREE_BEFORE_TABLES {
+        tree.whole()?;
+    }
+    if !fits(state, [shadow.len(), map.len()], exclusion) {
+        return Err(Refusal::StateOrTable);
+    }
+    let tree = tree.whole()?;
+    Ok(match tree.depth() {
+        1 => all_walked::<1, VARIANT>(state, tree, shadow, map, exclusion),
+        2 => all_walked::<2, VARIANT>(state, tree, shadow, map, exclusion),
+        _ => all_walked::<3, VARIANT>(state, tree, shadow, map, exclusion),
     })
 }
 
-/// The step for each page in rising order: how many entries changed and how many pages joined.
+/// All pages by walks of one depth. It is a call of its own for each depth, so that its loops have the registers to themselves.
+#[inline(never)]
+fn all_walked<const DEPTH: u32, const VARIANT: u8>(
+    state: &State,
+    tree: WholeTree,
+    shadow: &mut [u64],
+    map: &mut [u16],
+    exclusion: &[u8],
+) -> (u64, u64) {
+    let pages = 0..u64::from(state.v);
+    let entry_of = |page| tree.walk_from::<DEPTH, VARIANT>(page).entry;
+    all_pages::<VARIANT, _>(state, pages, entry_of, shadow, map, exclusion)
+}
+
+/// A loop for each mode, which then is not asked in it.
 #[inline(always)]
-fn run<const IN_USER: bool, const VARIANT: u8>(
+fn all_pages<const VARIANT: u8, P>(
+    state: &State,
+    pages: impl Iterator<Item = P>,
+    entry_of: impl Fn(P) -> u64,
+    shadow: &mut [u64],
+    map: &mut [u16],
+    exclusion: &[u8],
+) -> (u64, u64) {
+    if state.mode.is_user() {
+        run::<true, VARIANT, P>(state.f, pages, entry_of, shadow, map, exclusion)
+    } else {
+        run::<false, VARIANT, P>(state.f, pages, entry_of, shadow, map, exclusion)
+    }
+}
+
+/// The step for each page in rising order, by its kernel entry: how many entries changed and how many pages joined.
+#[inline(always)]
+fn run<const IN_USER: bool, const VARIANT: u8, P>(
     frames: u16,
-    kernel: &[u64],
+    pages: impl Iterator<Item = P>,
+    entry_of: impl Fn(P) -> u64,
     shadow: &mut [u64],
     map: &mut [u16],
     exclusion: &[u8],
@@ -130,7 +220,8 @@ fn run<const IN_USER: bool, const VARIANT: u8>(
         |frame: u64| u64::from_le_bytes(words[(frame / 64) as usize]) >> (frame % 64) & 1 != 0;
     let frames_end = framed(frames.min(MAX_FRAMES));
     let (mut changed, mut joined) = (0, 0);
-    for ((&kernel, shadow), place) in kernel.iter().zip(shadow).zip(map) {
+    for ((page, shadow), place) in pages.zip(shadow).zip(map) {
+        let kernel = entry_of(page);
         let entry = step::<IN_USER, VARIANT>(kernel, place, frames_end, is_excluded, &mut joined);
         changed += u64::from(*shadow != entry);
         *shadow = entry;
@@ -161,6 +252,31 @@ pub fn synchronise_all(
     exclusion: &[u8],
 ) -> Answer {
     all::<{ fault::NONE }>(state, kernel, shadow, map, exclusion)
+}
+
+/// [`synchronise_one`] with the flat entry of the walk to the page as its kernel entry.
+#[inline(always)]
+pub fn synchronise_one_from_tree(
+    state: &State,
+    tree: Tree,
+    shadow: &mut [u64],
+    map: &mut [u16],
+    exclusion: &[u8],
+    page: u64,
+) -> Answer {
+    one_from_tree::<{ fault::NONE }>(state, tree, shadow, map, exclusion, page)
+}
+
+/// [`synchronise_all`] with the flat entries of the walks to all pages, each walked as it is synchronised.
+#[inline(always)]
+pub fn synchronise_all_from_tree(
+    state: &State,
+    tree: Tree,
+    shadow: &mut [u64],
+    map: &mut [u16],
+    exclusion: &[u8],
+) -> Answer {
+    all_from_tree::<{ fault::NONE }>(state, tree, shadow, map, exclusion)
 }
 
 /// Synchronising without steps 2 and 4: the kernel's frame is always taken and no page joins.
