@@ -2,10 +2,9 @@
 use Prim.Native.Nat.{ℕ, zero, suc, _+_, _*_, _^_, _≤_, _<_}
 use mathlib.Core.Bool.{Bool, true, false, cond}
 use mathlib.Core.List.{List, [], _∷_}
-use mathlib.Core.Path.{_≡_, refl, sym, ap, _∙_}
+use mathlib.Core.Path.{_≡_, refl, ap, _∙_}
 use lib.Dec.{ltb, eqb}
 use lib.ListN.{length, getD}
-use native.Mathlib.Nat.{suc-add, add-suc}
 use native.Mathlib.Omega.{arith}
 use borrow.Author.Tests.{eq-eqb, eqb-true}
 use Rattle.model.specs.declared.Entry.{Entry}
@@ -14,9 +13,9 @@ use Rattle.model.specs.Basics.{both, either, bit, table}
 use Rattle.model.specs.Keeps.{Guard}
 use Rattle.model.specs.Bits.{takenApart}
 use Rattle.model.specs.Tree.{Tree, tablesIn, treeInOrder, placeAbove, Rights, allRights, Walk, meeting, onward, walkFrom, walkOf, flatAt, readsAt}
-use Rattle.model.specs.Sync.{Slot, Sweep, before, sweepFrom, entryIn, stepFrom}
+use Rattle.model.specs.Sync.{Slot, before, sweepFrom, entryIn, stepFrom}
 use Rattle.model.specs.Questions.{Question, question, firstNo, seen, inOrder, syncAllQuestions, syncPageQuestions, syncAllTreeQuestions, syncPageTreeQuestions}
-use Rattle.model.specs.Calls.{Outcome, settle, refusedOf, Call, syncPage, syncAll, syncPageTree, syncAllTree, broughtBy, questionsOf, rulesOf, pageSynced, allSynced, pageFrom, allFrom, effectOf, answer}
+use Rattle.model.specs.Calls.{settle, refusedOf, Call, syncPage, syncAll, syncPageTree, syncAllTree, broughtBy, questionsOf, allSynced, pageFrom, allFrom, effectOf, answer}
 use Rattle.model.specs.Walks.{ReadsWithin, flatTable, TreeAsFlat, guardFits, TreeRefused}
 use Rattle.model.proofs.QuestionLaws.{both-first, asked, numbered, all-yes, firstNo-yes, firstNo-no}
 use Rattle.model.proofs.StateLaws.{in-order}

@@ -1,12 +1,11 @@
 -- Runs of pages: the slots of a run stored page by page, runs in a row, and all pages as one run.
 use Prim.Native.Nat.{ℕ, zero, suc, _+_, _-_, _≤_, _<_}
 use mathlib.Core.List.{List}
-use mathlib.Core.Path.{_≡_, refl, sym, ap, _∙_}
+use mathlib.Core.Path.{_≡_, refl, sym, _∙_}
 use native.Mathlib.Nat.{add-zero, zero-add, suc-add, add-suc}
 use native.Mathlib.Numerals.{add-one}
 use native.Mathlib.Omega.{arith}
-use lib.ListN.{length, getD, set, length-set}
-use Rattle.model.specs.Basics.{differs}
+use lib.ListN.{length, getD, length-set}
 use Rattle.model.specs.Sync.{Slot, Sweep, sweep, sweepFrom}
 use Rattle.model.proofs.SweepLaws.{whole, whole-start, whole-more, whole-over}
 use Rattle.sync.specs.Steps.{stored, sweptFrom}

@@ -2,13 +2,13 @@
 use Prim.Native.Nat.{ℕ, _+_, _-_, _*_, _/_, _%_, _^_, _≤_, _<_}
 use mathlib.Core.Bool.{Bool, true, false}
 use mathlib.Core.List.{List}
-use mathlib.Core.Path.{_≡_, refl, sym, ap, _∙_}
+use mathlib.Core.Path.{_≡_, sym, ap, _∙_}
 use native.Mathlib.Omega.{arith}
 use lib.ListN.{length, getD}
 use Rattle.model.specs.Basics.{both, bit}
 use Rattle.model.specs.Bits.{present, valid, takenApart}
 use Rattle.model.specs.Tree.{Tree, tablesIn, Rights, flatAt, readsAt}
-use Rattle.model.specs.Sync.{Rules, Slot, Sweep, sweep, sweepFrom, stepOf, step, stepFrom}
+use Rattle.model.specs.Sync.{Rules, Slot, Sweep, sweep, sweepFrom, step, stepFrom}
 use Rattle.tree.specs.declared.Below.the-variants.{Table, Large, Nowhere}
 use Rattle.tree.specs.declared.Part.{Part}
 use Rattle.tree.specs.Parts.{rightsBy, lastFlat, flatBelow, flatIn, readsIn, Sound}

@@ -16,36 +16,29 @@ use Rattle.model.proofs.VectorLaws.{flag-weight, flag-bit}
 use Rattle.model.proofs.BitLaws.{bits-below, taken-apart, present-valid, valid-parts, fields-apart}
 use Rattle.tree.specs.Parts.{rightsBy, lastFlat}
 
+-- What is made of two digits, by the four cases.
+two-digits : (f : ℕ → ℕ → ℕ) (g : Bool → Bool → Bool) → eqb (f 0 0) 1 ≡ g false false → eqb (f 0 1) 1 ≡ g false true → eqb (f 1 0) 1 ≡ g true false
+    → eqb (f 1 1) 1 ≡ g true true → (x y : ℕ) → x < 2 → y < 2 → eqb (f x y) 1 ≡ g (eqb x 1) (eqb y 1)
+two-digits f g a b c d zero zero p q = a
+two-digits f g a b c d zero (suc zero) p q = b
+two-digits f g a b c d (suc zero) zero p q = c
+two-digits f g a b c d (suc zero) (suc zero) p q = d
+two-digits f g a b c d (suc (suc x)) y p q = absurd (omega arith)
+two-digits f g a b c d zero (suc (suc y)) p q = absurd (omega arith)
+two-digits f g a b c d (suc zero) (suc (suc y)) p q = absurd (omega arith)
+
 -- A bit of what two words have together, and of what either has.
 bit-both : (k a b : ℕ) → bit k (bitAnd a b) ≡ both (bit k a) (bit k b)
 unfolding bit both
 bit-both k a b =
     ap (λ (d : ℕ). eqb d 1) (ap (λ (x : ℕ). x % 2) (and-shr a b k) ∙ and-mod (a / 2 ^ k) (b / 2 ^ k) 1)
-    ∙ digits (a / 2 ^ k % 2) (b / 2 ^ k % 2) (omega arith) (omega arith)
-  where
-    digits : (x y : ℕ) → x < 2 → y < 2 → eqb (bitAnd x y) 1 ≡ both (eqb x 1) (eqb y 1)
-    digits zero zero p q = refl
-    digits zero (suc zero) p q = refl
-    digits (suc zero) zero p q = refl
-    digits (suc zero) (suc zero) p q = refl
-    digits (suc (suc x)) y p q = absurd (omega arith)
-    digits zero (suc (suc y)) p q = absurd (omega arith)
-    digits (suc zero) (suc (suc y)) p q = absurd (omega arith)
+    ∙ two-digits bitAnd both refl refl refl refl (a / 2 ^ k % 2) (b / 2 ^ k % 2) (omega arith) (omega arith)
 
 bit-either : (k a b : ℕ) → bit k (bitOr a b) ≡ either (bit k a) (bit k b)
 unfolding bit either
 bit-either k a b =
     ap (λ (d : ℕ). eqb d 1) (ap (λ (x : ℕ). x % 2) (or-shr a b k) ∙ or-mod (a / 2 ^ k) (b / 2 ^ k) 1)
-    ∙ digits (a / 2 ^ k % 2) (b / 2 ^ k % 2) (omega arith) (omega arith)
-  where
-    digits : (x y : ℕ) → x < 2 → y < 2 → eqb (bitOr x y) 1 ≡ either (eqb x 1) (eqb y 1)
-    digits zero zero p q = refl
-    digits zero (suc zero) p q = refl
-    digits (suc zero) zero p q = refl
-    digits (suc zero) (suc zero) p q = refl
-    digits (suc (suc x)) y p q = absurd (omega arith)
-    digits zero (suc (suc y)) p q = absurd (omega arith)
-    digits (suc zero) (suc (suc y)) p q = absurd (omega arith)
+    ∙ two-digits bitOr either refl refl refl refl (a / 2 ^ k % 2) (b / 2 ^ k % 2) (omega arith) (omega arith)
 
 -- The rights that an entry of level 1 or 2 leaves, gathered in words.
 pub gathered-by : (level all any entry : ℕ) → eqb level 3 ≡ false → gathered level (rightsBy all any) (fieldsOf entry) ≡ rightsBy (bitAnd all entry) (bitOr any entry)

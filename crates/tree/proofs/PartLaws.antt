@@ -1,7 +1,7 @@
 -- A page of a part: where its entry lies, its flat entry and its reads, by how the part goes on.
-use Prim.Native.Nat.{ℕ, _+_, _*_, _/_, _%_, _^_, _≤_, _<_}
+use Prim.Native.Nat.{ℕ, _+_, _*_, _/_, _%_, _^_, _<_}
 use mathlib.Core.List.{List}
-use mathlib.Core.Path.{_≡_, sym, _∙_}
+use mathlib.Core.Path.{_≡_}
 use native.Mathlib.Omega.{arith}
 use lib.ListN.{length, getD}
 use Rattle.model.specs.Basics.{both, bit}
@@ -10,7 +10,7 @@ use Rattle.model.specs.Tree.{tablesIn}
 use Rattle.tree.specs.declared.Below.{Below}
 use Rattle.tree.specs.declared.Below.the-variants.{Table, Large, Nowhere}
 use Rattle.tree.specs.declared.Part.{Part}
-use Rattle.tree.specs.Parts.{rightsBy, lastFlat, flatBelow, flatIn, readsBelow, readsIn, SoundBelow, Sound}
+use Rattle.tree.specs.Parts.{rightsBy, lastFlat, flatBelow, flatIn, readsBelow, readsIn, Sound}
 
 module _ (words : List ℕ) (part : Part) (sound : Sound words part) where
   -- A table of the run has all its entries there, and a large page's entry has room for a page's low nine bits.

@@ -1,18 +1,18 @@
 -- What each way out of a level's walk gives to the pages of a part, and a walk from the root.
 use Prim.Native.Nat.{ℕ, zero, suc, _+_, _-_, _*_, _/_, _%_, _^_, _≤_, _<_}
-use mathlib.Core.Bool.{Bool, true, false, cond}
+use mathlib.Core.Bool.{true, false}
 use mathlib.Core.List.{List}
 use mathlib.Core.Path.{_≡_, refl, sym, ap, _∙_}
 use native.Mathlib.Omega.{arith}
 use lib.Bits.{bitAnd, bitOr}
-use lib.Dec.{ltb, eqb}
+use lib.Dec.{eqb}
 use lib.ListN.{length, getD}
 use borrow.Author.Tests.{eq-eqb, ne-eqb, lt-ltb, le-ltb}
 use Rattle.model.specs.declared.Entry.{Entry}
 use Rattle.model.specs.declared.Entry.the-variants.{Absent, Present}
 use Rattle.model.specs.declared.Fields.{Fields}
 use Rattle.model.specs.Basics.{both, bit}
-use Rattle.model.specs.Bits.{frameOf, fieldsOf, valid, takenApart}
+use Rattle.model.specs.Bits.{frameOf, fieldsOf, takenApart}
 use Rattle.model.specs.Tree.{tablesIn, placeAbove, Rights, gathered, flatEntry, largeEntry, treeOf, Walk, ending, meeting, onward, walkFrom, walkOf, flatAt, readsAt}
 use Rattle.model.proofs.BitLaws.{present-valid, valid-parts, fields-apart}
 use Rattle.tree.specs.declared.Below.{Below}
@@ -56,6 +56,20 @@ gives-alike words page level all any number reads r r′ alike gives p same =
 abbrev met : List ℕ → ℕ → ℕ → ℕ → ℕ
 met words page level number = getD words (number * 512 + page / 2 ^ (9 * (level - 1)) % 512) 0
 
+-- Every page of a part has the same bits from bit 9 on.
+bits-same : (p page d : ℕ) → 1 ≤ d → d ≤ 3 → p / 512 ≡ page / 512 → p / 2 ^ (9 * d) ≡ page / 2 ^ (9 * d)
+bits-same p page zero l m same = absurd (omega arith)
+bits-same p page (suc zero) l m same = same
+bits-same p page (suc (suc zero)) l m same =
+    let a : p / 2 ^ 18 ≡ p / 512 / 512 = omega arith in
+    let b : page / 2 ^ 18 ≡ page / 512 / 512 = omega arith in
+    a ∙ ap (λ (x : ℕ). x / 512) same ∙ sym b
+bits-same p page (suc (suc (suc zero))) l m same =
+    let a : p / 2 ^ 27 ≡ p / 512 / 2 ^ 18 = omega arith in
+    let b : page / 2 ^ 27 ≡ page / 512 / 2 ^ 18 = omega arith in
+    a ∙ ap (λ (x : ℕ). x / 2 ^ 18) same ∙ sym b
+bits-same p page (suc (suc (suc (suc d)))) l m same = absurd (omega arith)
+
 -- The place of a page at level 1, and at a level above it, where every page of a part has the same.
 low-place : (p : ℕ) → placeAbove 0 p ≡ p % 512
 unfolding placeAbove
@@ -63,13 +77,7 @@ low-place p = omega arith
 
 high-place : (p page lower : ℕ) → p / 512 ≡ page / 512 → 1 ≤ lower → lower ≤ 2 → placeAbove lower p ≡ page / 2 ^ (9 * lower) % 512
 unfolding placeAbove
-high-place p page zero same l m = absurd (omega arith)
-high-place p page (suc zero) same l m = ap (λ (x : ℕ). x % 512) same
-high-place p page (suc (suc zero)) same l m =
-    let a : p / 2 ^ 18 ≡ p / 512 / 512 = omega arith in
-    let b : page / 2 ^ 18 ≡ page / 512 / 512 = omega arith in
-    ap (λ (x : ℕ). x % 512) (a ∙ ap (λ (x : ℕ). x / 512) same ∙ sym b)
-high-place p page (suc (suc (suc lower))) same l m = absurd (omega arith)
+high-place p page lower same l m = ap (λ (x : ℕ). x % 512) (bits-same p page lower l (omega arith) same)
 
 module _ (words : List ℕ) (page all any number reads : ℕ) where
   -- A table number outside the run.
@@ -214,20 +222,7 @@ table-sound words number h = h
 pub met-in : (long number q : ℕ) → number < long / 512 → number * 512 + q % 512 < long
 met-in long number q h = omega arith
 
--- The bits that a page's number needs, and those of a depth: every page of a part needs as many.
-bits-same : (p page d : ℕ) → 1 ≤ d → d ≤ 3 → p / 512 ≡ page / 512 → p / 2 ^ (9 * d) ≡ page / 2 ^ (9 * d)
-bits-same p page zero l m same = absurd (omega arith)
-bits-same p page (suc zero) l m same = same
-bits-same p page (suc (suc zero)) l m same =
-    let a : p / 2 ^ 18 ≡ p / 512 / 512 = omega arith in
-    let b : page / 2 ^ 18 ≡ page / 512 / 512 = omega arith in
-    a ∙ ap (λ (x : ℕ). x / 512) same ∙ sym b
-bits-same p page (suc (suc (suc zero))) l m same =
-    let a : p / 2 ^ 27 ≡ p / 512 / 2 ^ 18 = omega arith in
-    let b : page / 2 ^ 27 ≡ page / 512 / 2 ^ 18 = omega arith in
-    a ∙ ap (λ (x : ℕ). x / 2 ^ 18) same ∙ sym b
-bits-same p page (suc (suc (suc (suc d)))) l m same = absurd (omega arith)
-
+-- The bits that a page's number needs, and those of a depth.
 few-bits : (p d : ℕ) → 1 ≤ d → d ≤ 3 → p / 2 ^ (9 * d) ≡ 0 → p < 2 ^ (9 * d)
 few-bits p zero l m few = absurd (omega arith)
 few-bits p (suc zero) l m few = omega arith

@@ -1,18 +1,16 @@
 -- A part in one word: what each kind of word says.
 use Prim.Native.Nat.{ℕ, _+_, _-_, _*_, _/_, _%_, _^_, _≤_, _<_}
-use mathlib.Core.Bool.{Bool, true, false, cond}
-use mathlib.Core.List.{List}
-use mathlib.Core.Path.{_≡_, refl, sym, ap, ap₂, _∙_}
+use mathlib.Core.Bool.{true, false}
+use mathlib.Core.Path.{_≡_, refl, sym, ap, _∙_}
 use native.Mathlib.Omega.{arith}
 use lib.Dec.{eqb}
 use borrow.Author.Tests.{eq-eqb, ne-eqb}
 use Rattle.model.specs.Basics.{bit}
 use Rattle.model.specs.Bits.{takenApart}
-use Rattle.model.specs.Tree.{Rights}
 use Rattle.tree.specs.declared.Below.{Below}
 use Rattle.tree.specs.declared.Below.the-variants.{Table, Large, Nowhere}
 use Rattle.tree.specs.declared.Part.{Part}
-use Rattle.tree.specs.Parts.{rightsBy, lastFlat, flatBelow, flatIn, readsBelow, readsIn, SoundBelow, Sound, belowBy, partBy, Alike}
+use Rattle.tree.specs.Parts.{rightsBy, lastFlat, flatBelow, flatIn, readsBelow, readsIn, belowBy, partBy, Alike}
 use Rattle.tree.proofs.BitLaws.{apart-same}
 
 bit-yes : (k x : ℕ) → x / 2 ^ k % 2 ≡ 1 → bit k x ≡ true

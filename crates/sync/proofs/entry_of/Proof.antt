@@ -1,7 +1,5 @@
 -- A large page's entry with a frame after its own, or an entry among the words.
-use Prim.Native.Nat.{_+_, _*_, _^_, _<_}
 use native.Mathlib.Omega.{arith}
-use lib.ListN.{length}
 use Rattle.sync.proofs.SourceLaws.{large-fits, few, word-in, word-large, word-table}
 use borrow.Author.Needs.{needs}
 use Rattle.sync.proofs.entry_of.Statement.{statement}

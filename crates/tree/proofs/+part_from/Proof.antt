@@ -1,6 +1,5 @@
 -- The walk's recursion, whose measure is the level: a law for each way out of a level.
 use Prim.Native.Nat.{ℕ, _+_, _-_, _*_, _/_, _%_, _^_, _<_}
-use mathlib.Core.Path.{refl}
 use native.Mathlib.Omega.{arith}
 use lib.ListN.{length}
 use Rattle.tree.proofs.WalkLaws.{gives-alike, gives-outside, gives-table, level-absent, level-3, level-2, level-misaligned, level-large-all, large-low, large-odd, table-sound, met-in}

@@ -1,5 +1,4 @@
 -- The narrowed entry and the flat one are taken apart alike.
-use native.Mathlib.Omega.{arith}
 use Rattle.tree.proofs.BitLaws.{narrowed-apart}
 use borrow.Author.Needs.{needs}
 use Rattle.tree.proofs.narrow.Statement.{statement}
