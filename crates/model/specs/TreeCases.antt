@@ -290,9 +290,7 @@ treeCases =
     ∷ row (answer started6 (syncAllTree (treeOf (runOf 2 (inRow 1 0 sixEntries)) 1 1))) sixSynced
     ∷ row (answer started6 (syncPageTree (treeOf (runOf 2 (at 0 5 0x6007 ∷ at 1 5 0x7003 ∷ [])) 1 1) 5))
     (outcome (accepted 1 0) (with6 (Kernel 1) (set shadow6 5 0x8000000000007003)))
-    -- Page 513 of a tree of depth 3, with all and alone: level 3's place 0, level 2's place 1, level 1's place 1
-    ∷ row (answer (ones 514) (syncAllTree (treeOf (runOf 3 (at 0 0 0x1001 ∷ at 1 1 0x2007 ∷ at 2 1 0x7005 ∷ [])) 0 3)))
-    (outcome (accepted 514 0) (shadowed 514 (replicate 513 0 ++ (0x8000000000007005 ∷ []))))
+    -- Page 513 of a tree of depth 3: level 3's place 0, level 2's place 1, level 1's place 1
     ∷ row (answer (ones 514) (syncPageTree (treeOf (runOf 3 (at 0 0 0x1007 ∷ at 1 1 0x2007 ∷ at 2 1 0x7005 ∷ [])) 0 3) 513))
     (outcome (accepted 1 0) (shadowed 514 (set (replicate 514 1) 513 0x8000000000007005)))
     -- A large page over all six: frames 0 to 5, of which 3 and 5 are excluded, so that pages 3 and 5 join; a large page past F
@@ -371,24 +369,4 @@ treeCases =
     ∷ stays (ofLengths (Kernel 1) 6 5 1) (syncAllTree (oneTable 511 0x7007)) (refused 7)
     -- 17 and 9 together
     ∷ stays started6 (syncPageTree (oneTable 511 0x7007) 6) (refused 17)
-    ∷ []
-
--- Two tables: four upper entries in the first, three last entries in the second, at its places 0, 1 and 511. Written out, since a run made place by
--- place takes the prover longer.
-unfoldable pub fourUppers : List ℕ
-fourUppers =
-    (0x8000000000001005 ∷ 0x0087 ∷ 0x1006 ∷ 0x1003 ∷ [])
-    ++ (replicate 508 0 ++ ((0x6007 ∷ 0x7003 ∷ []) ++ (replicate 509 0 ++ (0x4007 ∷ []))))
-
--- A guard of 1,538 pages, apart from the others for the prover's limit of steps.
-unfoldable pub wideCases : List Case
-wideCases =
-    -- All pages of a tree of four upper entries: a table, a large page, an absent one, and the same table again, each with its own rights
-    row (answer (ones 1538) (syncAllTree (treeOf fourUppers 0 2)))
-    (outcome (accepted 1538 0)
-    (shadowed 1538
-    ((0x8000000000006205 ∷ 0x8000000000007201 ∷ [])
-    ++ (replicate 509 0
-    ++ ((0x8000000000004205 ∷ 0x8000000000000007 ∷ 0x8000000000001007 ∷ 0x8000000000002007 ∷ 0x8000000000003007 ∷ 0x8000000000004007 ∷ 0x8000000000005007 ∷ 0x8000000000006007 ∷ 0x8000000000007007 ∷ [])
-    ++ (replicate 1016 0 ++ (0x8000000000006003 ∷ 0x8000000000007003 ∷ [])))))))
     ∷ []

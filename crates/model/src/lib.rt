@@ -12,7 +12,7 @@ ghost use Rattle.model.specs.Further.{startCases, syncCases, orderCases,
 ghost use Rattle.model.specs.Orders.{startOrder, callOrder};
 ghost use Rattle.model.specs.Record.{WrittenStarts, WrittenAgain};
 ghost use Rattle.model.specs.RecordCases.{recordCases};
-ghost use Rattle.model.specs.TreeCases.{walkCases, walkRefusals, treeCases, wideCases};
+ghost use Rattle.model.specs.TreeCases.{walkCases, walkRefusals, treeCases};
 ghost use Rattle.model.specs.Walks.{ReadsWithin, TreeAsFlat, TreeRefused};
 ghost use Rattle.model.specs.Worked.{workedInput, workedOutput};
 
@@ -123,7 +123,7 @@ pub fn cache_bits()
 
 // Document 02, K4: what walks give, and what synchronising from a tree gives.
 pub fn tree_cases()
-    ensures { λ _. ⌜ Hold walkCases × Hold walkRefusals × Hold treeCases × Hold wideCases ⌝ }
+    ensures { λ _. ⌜ Hold walkCases × Hold walkRefusals × Hold treeCases ⌝ }
 {}
 
 // Document 02, K4: "the count of entries read, never above the depth".

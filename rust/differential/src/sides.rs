@@ -114,11 +114,11 @@ pub fn by_guard(guard: &mut Guard, call: &Listed) -> (u64, [u64; NUMBERS]) {
             guard.device_write(address, length).map(|frames| [frames.first, frames.last])
         }
         Listed::SynchroniseOneFromTree { tree, page } => guard
-            .sync_page_tree(&lent_to_guard(tree), page)
+            .synchronise_page_tree(&lent_to_guard(tree), page)
             .map(|counts| [counts.changed, counts.joined]),
-        Listed::SynchroniseAllFromTree { tree } => {
-            guard.sync_all_tree(&lent_to_guard(tree)).map(|counts| [counts.changed, counts.joined])
-        }
+        Listed::SynchroniseAllFromTree { tree } => guard
+            .synchronise_all_tree(&lent_to_guard(tree))
+            .map(|counts| [counts.changed, counts.joined]),
     };
     match answer {
         Ok(numbers) => (0, numbers),

@@ -82,7 +82,11 @@ impl Guard {
     }
 
     /// Makes the shadow entry of one page from the kernel's tree.
-    pub fn sync_page_tree(&mut self, tree: &Tree, page: u64) -> Result<Synchronised, Refusal> {
+    pub fn synchronise_page_tree(
+        &mut self,
+        tree: &Tree,
+        page: u64,
+    ) -> Result<Synchronised, Refusal> {
         let Guard { state, shadow, map, exclusion } = self;
         let Tree { words, root, depth } = *tree;
         let [changed, joined] = answer(|numbers| {
@@ -94,7 +98,7 @@ impl Guard {
     }
 
     /// Makes the shadow entries of all pages from the kernel's tree.
-    pub fn sync_all_tree(&mut self, tree: &Tree) -> Result<Synchronised, Refusal> {
+    pub fn synchronise_all_tree(&mut self, tree: &Tree) -> Result<Synchronised, Refusal> {
         let Guard { state, shadow, map, exclusion } = self;
         let Tree { words, root, depth } = *tree;
         let [changed, joined] = answer(|numbers| {

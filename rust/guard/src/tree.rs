@@ -31,7 +31,7 @@ pub const MAX_DEPTH: u64 = 3;
 ///
 /// // V 516 and F 1,024, page 1 with frame 2: it is absent, since the kernel has no entry for it.
 /// let mut guard = Guard::start(&Policy::new(516, 1024).entry_page(1, 2).record()?)?;
-/// assert_eq!(guard.sync_all_tree(&tree)?, Synchronised { changed: 6, joined: 0 });
+/// assert_eq!(guard.synchronise_all_tree(&tree)?, Synchronised { changed: 6, joined: 0 });
 /// assert_eq!(guard.shadow()[515], 1 << 63 | 0x20_3003);
 ///
 /// // There is no table 2.

@@ -176,10 +176,10 @@ fn other_runs_depths_and_roots_give_17() {
     let mut refused = |words: &[u64], root, depth| {
         let tree = Tree { words, root, depth };
         assert_eq!(tree.walk(0), Err(Refusal::Tree), "{} {root} {depth}", words.len());
-        assert_eq!(guard.sync_page_tree(&tree, 0), Err(Refusal::Tree));
+        assert_eq!(guard.synchronise_page_tree(&tree, 0), Err(Refusal::Tree));
         // 17 is asked before 9.
-        assert_eq!(guard.sync_page_tree(&tree, 4), Err(Refusal::Tree));
-        assert_eq!(guard.sync_all_tree(&tree), Err(Refusal::Tree));
+        assert_eq!(guard.synchronise_page_tree(&tree, 4), Err(Refusal::Tree));
+        assert_eq!(guard.synchronise_all_tree(&tree), Err(Refusal::Tree));
     };
     let words = [0x3007; 3 * TABLE_ENTRIES];
     for length in [0, 1, 511, 513, 768, 1023, 1025, 1280, 1535] {
@@ -211,17 +211,17 @@ fn one_page_from_a_tree() {
         let tree = Tree { words: &words, root, depth };
         let mut guard = started();
         let counts = |changed, joined| Ok(Synchronised { changed, joined });
-        assert_eq!(guard.sync_page_tree(&tree, 0), counts(1, 1));
-        assert_eq!(guard.sync_page_tree(&tree, 1), counts(0, 0));
-        assert_eq!(guard.sync_page_tree(&tree, 2), counts(0, 0));
-        assert_eq!(guard.sync_page_tree(&tree, 3), counts(1, 0));
+        assert_eq!(guard.synchronise_page_tree(&tree, 0), counts(1, 1));
+        assert_eq!(guard.synchronise_page_tree(&tree, 1), counts(0, 0));
+        assert_eq!(guard.synchronise_page_tree(&tree, 2), counts(0, 0));
+        assert_eq!(guard.synchronise_page_tree(&tree, 3), counts(1, 0));
         assert_eq!(guard.shadow(), [0x2401, 0x2401, 0, NO_EXECUTE | 0x301f]);
         assert_eq!(guard.map(), [2, 2, NO_FRAME, NO_FRAME]);
         let before = guard.clone();
         for page in [4, 65536, 1 << 32, u64::MAX] {
-            assert_eq!(guard.sync_page_tree(&tree, page), Err(Refusal::DoesNotExist));
+            assert_eq!(guard.synchronise_page_tree(&tree, page), Err(Refusal::DoesNotExist));
         }
-        assert_eq!(guard.sync_all_tree(&tree), counts(0, 0));
+        assert_eq!(guard.synchronise_all_tree(&tree), counts(0, 0));
         assert_eq!(guard, before);
     }
 }
@@ -233,14 +233,14 @@ fn all_pages_from_a_tree() {
     let words = run(2, &[(0, 0, 0x1005), (0, 1, 0x40_0097), (1, 1, 0x7003), (1, 4, 0x8003)]);
     let tree = Tree { words: &words, root: 0, depth: 2 };
     // Pages 4 and 512 to 1,023 come, page 1,030 goes, page 1 stays.
-    assert_eq!(guard.sync_all_tree(&tree), Ok(Synchronised { changed: 514, joined: 0 }));
+    assert_eq!(guard.synchronise_all_tree(&tree), Ok(Synchronised { changed: 514, joined: 0 }));
     assert_eq!((guard.shadow()[1], guard.shadow()[4]), (0x2401, NO_EXECUTE | 0x8001));
     assert_eq!(guard.shadow()[512], NO_EXECUTE | 0x40_0017);
     assert_eq!(guard.shadow()[1023], NO_EXECUTE | 0x5f_f017);
     assert_eq!((guard.shadow()[1030], guard.map()[1030]), (0, 9));
     // Table 1 as a tree of one level: pages from 512 on need too many bits.
     let tree = Tree { root: 1, depth: 1, ..tree };
-    assert_eq!(guard.sync_all_tree(&tree), Ok(Synchronised { changed: 513, joined: 0 }));
+    assert_eq!(guard.synchronise_all_tree(&tree), Ok(Synchronised { changed: 513, joined: 0 }));
     assert_eq!((guard.shadow()[4], guard.shadow()[512]), (NO_EXECUTE | 0x8003, 0));
 }
 
@@ -280,8 +280,8 @@ fn synchronising_from_a_tree_is_doing_so_from_the_flat_table_of_its_walks() {
             let before = guard.clone();
             let walks: Result<Vec<_>, _> = (0..guard.pages()).map(|page| tree.walk(page)).collect();
             let Ok(walks) = walks else {
-                assert_eq!(guard.sync_page_tree(&tree, 0), Err(Refusal::Tree));
-                assert_eq!(guard.sync_all_tree(&tree), Err(Refusal::Tree));
+                assert_eq!(guard.synchronise_page_tree(&tree, 0), Err(Refusal::Tree));
+                assert_eq!(guard.synchronise_all_tree(&tree), Err(Refusal::Tree));
                 assert_eq!(guard, before);
                 continue;
             };
@@ -290,11 +290,11 @@ fn synchronising_from_a_tree_is_doing_so_from_the_flat_table_of_its_walks() {
             accepted += 1;
             present += flat.iter().filter(|&&entry| entry != 0).count();
             for page in 0..8 {
-                let counts = guard.sync_page_tree(&tree, page);
+                let counts = guard.synchronise_page_tree(&tree, page);
                 assert_eq!(counts, flat_guard.synchronise_page(&flat, page));
             }
             assert_eq!(guard, flat_guard);
-            assert_eq!(guard.sync_all_tree(&tree), flat_guard.synchronise_all(&flat));
+            assert_eq!(guard.synchronise_all_tree(&tree), flat_guard.synchronise_all(&flat));
             assert_eq!(guard, flat_guard);
         }
     }

@@ -3,7 +3,7 @@ use mathlib.Core.Path.{refl}
 use Rattle.model.specs.Cases.{row, Hold}
 use Rattle.model.specs.Further.{sixPages, with6, shadow6, started6, stays, inState, ofLengths, filled}
 use Rattle.model.specs.Orders.{misfit}
-use Rattle.model.specs.TreeCases.{runOf, one, two, three, walked, gives, walkCases, walkedIn, walkRefusals, inRow, flatTree, twoTree, threeTree, oneTable, shadowed, ones, sixEntries, sixSynced, treeCases, fourUppers, wideCases}
+use Rattle.model.specs.TreeCases.{runOf, one, two, three, walked, gives, walkCases, walkedIn, walkRefusals, inRow, flatTree, twoTree, threeTree, oneTable, shadowed, ones, sixEntries, sixSynced, treeCases}
 use Rattle.model.proofs.Computed.{computed}
 use Rattle.model.proofs.CaseLaws.{hold}
 use Rattle.model.proofs.tree_cases.Statement.{statement}
@@ -18,12 +18,8 @@ trees : Hold treeCases
 unfolding computed row sixPages with6 shadow6 started6 stays inState ofLengths filled misfit runOf two inRow flatTree twoTree threeTree oneTable shadowed ones sixEntries sixSynced treeCases
 trees = hold treeCases refl
 
-wide : Hold wideCases
-unfolding computed row shadowed ones fourUppers wideCases
-wide = hold wideCases refl
-
 returns : tie.Need-returns
-returns c = (walks .0, walks .1, trees, wide)
+returns c = (walks .0, walks .1, trees)
 
 pub tree-cases-spec : {M : Type 1} → statement M
 tree-cases-spec = tie.close (tie.spec returns)
