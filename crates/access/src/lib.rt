@@ -3,19 +3,23 @@
 
 ghost use mathlib.Core.Path.{_≡_};
 ghost use mathlib.Core.Bool.{true, not};
-ghost use mathlib.Core.List.{[]};
+ghost use mathlib.Core.List.{List, []};
 ghost use Prim.Native.Nat.{_≤_, _<_};
 ghost use lib.ListN.{length};
+ghost use Rattle.model.specs.Basics;
 ghost use Rattle.model.specs.Basics.{either};
 ghost use Rattle.model.specs.Edges.{lastPage};
 ghost use Rattle.model.specs.Keeps.{Tables, withShadow, withExclusion, guardOf, vectorBytes};
+ghost use Rattle.model.specs.declared.Device.{Device};
+ghost use Rattle.model.specs.Devices.{deviceAt, inWindow};
 ghost use Rattle.model.specs.Bits.{userBit};
 ghost use Rattle.model.specs.Questions.{firstNo, fetchPermitted, writePermitted, fetchQuestions, writeQuestions, deviceWriteQuestions};
 ghost use Rattle.model.specs.Calls;
 ghost use Rattle.model.specs.Calls.{outcomeBy, keptBy, deviceWrite, answer};
-ghost use Rattle.access.specs.AccessView.{accessView, freeIn, entryQuestions};
+ghost use Rattle.access.specs.AccessView.{accessView, transferView, freeIn, entryQuestions};
 use model::Answer;
 use model::Called;
+use model::Device;
 use model::PAGE_BYTES;
 use model::State;
 use questions::both;
@@ -174,33 +178,66 @@ pub fn write(s: State, shadow: &[u64], exclusion: &[u8], address: u64, length: u
     Answer::Done(entry::frame_of(first), entry::frame_of(last))
 }
 
-// The number of the question that refuses a device write, or 0. Question 7 is answered yes, so that the vector has a bit for each frame.
-// Question 9 has settled that every frame touched is below F.
-fn device_write_refusal(frames: u16, exclusion: &[u8], address: u64, length: u64) -> u64
+// Question 19 of a transfer from one frame to another: both ends of it lie in the device's window.
+fn in_window(window: Device, first: u64, last: u64) -> bool
+    requires { ⌜ first ≤ last ⌝ }
+    ensures { λ r. ⌜ r ≡ Basics.both (inWindow window first) (inWindow window last) ⌝ }
+{
+    both(window.first as u64 <= first, last <= window.last as u64)
+}
+
+// The number of the question that refuses a device write, or 0, by how long the list is and the device's record in it.
+// Question 7 is answered yes, so that the vector has a bit for each frame. Question 9 has settled that every frame touched is below F.
+fn device_write_refusal(
+    frames: u16,
+    exclusion: &[u8],
+    listed: usize,
+    window: Device,
+    device: u64,
+    address: u64,
+    length: u64,
+) -> u64
     requires { ⌜ lib.ListN.length (now exclusion) ≡ vectorBytes frames ⌝ }
-    ensures { λ r. ⌜ r ≡ firstNo (deviceWriteQuestions (accessView true 0 frames [] (now (exclusion .entry))) address length) ⌝ }
+    ensures { λ r. ⌜ r ≡ firstNo (deviceWriteQuestions (transferView listed frames (now (exclusion .entry))) listed window device address length) ⌝ }
 {
     if !questions::device_length(length) {
         return 8;
     }
+    if listed as u64 <= device {
+        return 18;
+    }
     if !questions::transfer_exists(address, length, frames) {
         return 9;
     }
+    let first = address / PAGE_BYTES;
     let last = last_page(address, length);
-    if !bitmap::none_excluded(exclusion, address / PAGE_BYTES, last) {
+    if !in_window(window, first, last) {
+        return 19;
+    }
+    if !bitmap::none_excluded(exclusion, first, last) {
         return 13;
     }
     0
 }
 
-pub fn device_write(s: State, exclusion: &[u8], address: u64, length: u64) -> Answer
-    ensures { λ r. ⌜ ((t : Tables) → keptBy r s (withExclusion (now (exclusion .entry)) t)
-        ≡ answer (guardOf s (withExclusion (now (exclusion .entry)) t)) (deviceWrite address length)) ⌝ }
+// A device write, by how long the list of devices is and the device's record in it: whatever the list has elsewhere, the answer is the same.
+pub fn device_write(
+    s: State,
+    exclusion: &[u8],
+    listed: usize,
+    window: Device,
+    device: u64,
+    address: u64,
+    length: u64,
+) -> Answer
+    ensures { λ r. ⌜ ((t : Tables) (devices : List Device) → lib.ListN.length devices ≡ listed → deviceAt devices device ≡ window
+        → keptBy r s (withExclusion (now (exclusion .entry)) t)
+        ≡ answer (guardOf s (withExclusion (now (exclusion .entry)) t)) (deviceWrite devices device address length)) ⌝ }
 {
-    if !questions::device_write_in_order(s, exclusion.len()) {
+    if !questions::device_write_in_order(s, exclusion.len(), listed) {
         return Answer::Refused(7);
     }
-    let number = device_write_refusal(s.frames, exclusion, address, length);
+    let number = device_write_refusal(s.frames, exclusion, listed, window, device, address, length);
     if number != 0 {
         return Answer::Refused(number);
     }

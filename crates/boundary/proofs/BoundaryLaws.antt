@@ -9,13 +9,15 @@ use Rattle.model.specs.declared.Answer.{Answer}
 use Rattle.model.specs.declared.Answer.the-variants.{Refused}
 use Rattle.model.specs.declared.Called.{Called}
 use Rattle.model.specs.declared.State.{State}
+use Rattle.model.specs.declared.Device.{Device}
 use Rattle.model.specs.Basics.{both}
 use Rattle.model.specs.Keeps.{Tables, withShadow, withExclusion, withThree, guardOf}
+use Rattle.model.specs.Devices.{deviceAt}
 use Rattle.model.specs.Questions.{stateInOrder}
-use Rattle.model.specs.Calls.{replyOf, settle, outcomeBy, keptBy, Call, answer}
+use Rattle.model.specs.Calls.{replyOf, settle, outcomeBy, keptBy, Call, deviceWrite, answer}
 use Rattle.model.proofs.QuestionLaws.{both-first}
 use Rattle.model.proofs.CallLaws.{answer-unfit}
-use Rattle.words.specs.Words.{stateWords, stateIn, numbersBy, changedBy, withWords, withNumbers, lendable, runAfter}
+use Rattle.words.specs.Words.{stateWords, stateIn, answerNumbers, numbersBy, changedBy, withWords, withNumbers, lendable, runAfter}
 use Rattle.words.proofs.WordLaws.{run-lent}
 use Rattle.boundary.specs.Boundary.{returned, replied, callAt}
 
@@ -79,7 +81,7 @@ module _ (run numbers : List ℕ) (b : Bool) (call : Call) (asks : b ≡ usable 
     write-kept shadow exclusion shadow′ exclusion′ a none e n w =
         kept s in-run after r (λ t. withShadow shadow (withExclusion exclusion t)) (λ t. withShadow shadow′ (withExclusion exclusion′ t)) none a e (n, w)
 
-    pub vector-kept : (exclusion exclusion′ : List ℕ) (a : Answer) → changedBy call ≡ []
+    vector-kept : (exclusion exclusion′ : List ℕ) (a : Answer) → changedBy call ≡ []
         → ((t : Tables) → keptBy a s (withExclusion exclusion′ t) ≡ answer (guardOf s (withExclusion exclusion t)) call)
         → r ≡ replyOf a .number → after ≡ withNumbers (numbersBy call) numbers (replyOf a)
         → (t : Tables) → returned r run after (withExclusion exclusion′ t) ≡ callAt run numbers (withExclusion exclusion t) call
@@ -91,3 +93,17 @@ module _ (run numbers : List ℕ) (b : Bool) (call : Call) (asks : b ≡ usable 
         → (t : Tables) → returned r run after (withThree shadow′ map′ exclusion′ t) ≡ callAt run numbers (withThree shadow map exclusion t) call
     sync-kept shadow map exclusion shadow′ map′ exclusion′ a none e n w =
         kept s in-run after r (withThree shadow map exclusion) (withThree shadow′ map′ exclusion′) none a e (n, w)
+
+-- A device write, of every list so long and with this record for its device (K5).
+module _ (run numbers : List ℕ) (b : Bool) (asks : b ≡ usable answerNumbers run numbers) (used : not b ≡ false) (s : State) (in-run : s ≡ stateIn run)
+    (after : List ℕ) (r : ℕ) (listed : ℕ) (d : Device) (device address size : ℕ) where
+  abbrev OfEvery : ((t : Tables) → Call → Type 0) → Type 0
+  OfEvery holds =
+      (t : Tables) (devices : List Device) → length devices ≡ listed → deviceAt devices device ≡ d → holds t (deviceWrite devices device address size)
+
+  pub transfer-kept : (exclusion exclusion′ : List ℕ) (a : Answer)
+      → OfEvery (λ t call. keptBy a s (withExclusion exclusion′ t) ≡ answer (guardOf s (withExclusion exclusion t)) call)
+      → r ≡ replyOf a .number → after ≡ withNumbers answerNumbers numbers (replyOf a)
+      → OfEvery (λ t call. returned r run after (withExclusion exclusion′ t) ≡ callAt run numbers (withExclusion exclusion t) call)
+  transfer-kept exclusion exclusion′ a e n w t devices long is =
+      vector-kept run numbers b (deviceWrite devices device address size) asks used s in-run after r exclusion exclusion′ a refl (λ t. e t devices long is) n w t

@@ -1,29 +1,35 @@
 // The guard's calls on numbers and lent runs: a number out. The crate `exports` hands them to C, and include/guard.h documents them.
 // Each promises what the model answers, on the decoded state where it is lent one, by one equation on all inputs.
 
+ghost use mathlib.Core.List.{List};
 ghost use mathlib.Core.Path.{_≡_};
+ghost use lib.ListN;
 ghost use Rattle.model.specs.Keeps.{Tables, tables, withShadow, withExclusion, withThree};
-ghost use Rattle.model.specs.Policy.{nothingGiven, policyOf};
+ghost use Rattle.model.specs.Policy.{givenOf, policyOf};
 ghost use Rattle.model.specs.Questions.{firstNo, recordQuestions};
 ghost use Rattle.model.specs.Calls;
 ghost use Rattle.model.specs.Tree.{treeOf};
+ghost use Rattle.model.specs.declared.Device.{Device};
+ghost use Rattle.model.specs.Devices.{deviceAt};
 ghost use Rattle.model.specs.Calls.{settle, syncPage, syncAll, syncPageTree, syncAllTree, deviceWrite};
 ghost use Rattle.model.specs.Record.{policyBy};
 ghost use Rattle.model.specs.Cases.{Hold};
 ghost use Rattle.boundary.specs.Boundary.{returned, startAt, callAt, recorded, recordAt, walked, walkAt, StateHeld};
 ghost use Rattle.boundary.specs.ExportCases.{exportCases, walkExportCases};
 use model::Answer;
+use model::Device;
 
 // The refusal of a start whose runs do not fit: the record's questions come first.
-fn start_refusal(policy: &[u8]) -> u64
-    ensures { λ r. ⌜ r ≡ settle (firstNo (recordQuestions nothingGiven (now (policy .entry)) (policyOf (now (policy .entry))))) 7 (λ n. n) ⌝ }
+fn start_refusal(policy: &[u8], devices: u64) -> u64
+    ensures { λ r. ⌜ r ≡ settle (firstNo (recordQuestions (givenOf devices) (now (policy .entry)) (policyOf (now (policy .entry))))) 7 (λ n. n) ⌝ }
 {
-    let number = policy::record_question(policy);
+    let number = policy::record_question(policy, devices);
     if number == 0 { 7 } else { number }
 }
 
 pub fn start(
     policy: &[u8],
+    devices: u64,
     state: &mut [u64],
     shadow: &mut [u64],
     map: &mut [u16],
@@ -31,13 +37,13 @@ pub fn start(
     numbers: &mut [u64],
 ) -> u64
     ensures { λ r. ⌜ returned r (now (state .exit)) (now (numbers .exit)) (tables (now (shadow .exit)) (now (map .exit)) (now (exclusion .exit)))
-        ≡ startAt nothingGiven (now (policy .entry)) (now (state .entry)) (now (numbers .entry)) (tables (now (shadow .entry)) (now (map .entry)) (now (exclusion .entry))) ⌝ }
+        ≡ startAt (givenOf devices) (now (policy .entry)) (now (state .entry)) (now (numbers .entry)) (tables (now (shadow .entry)) (now (map .entry)) (now (exclusion .entry))) ⌝ }
 {
     if !words::runs_fit(state, numbers, words::NUMBERS) {
-        let number = start_refusal(policy);
+        let number = start_refusal(policy, devices);
         return words::reply(numbers, Answer::Refused(number));
     }
-    let called = start::start(policy, shadow, map, exclusion);
+    let called = start::start(policy, devices, shadow, map, exclusion);
     words::put_started(state, numbers, called)
 }
 
@@ -230,20 +236,33 @@ pub fn leave(state: &mut [u64], shadow: &mut [u64], page: u64, numbers: &mut [u6
     words::put_switched(state, numbers, called)
 }
 
+// A device write, by how long the list of devices is and the device's record in it (K5).
 pub fn device_write(
     state: &[u64],
     exclusion: &[u8],
+    listed: usize,
+    window: Device,
+    device: u64,
     address: u64,
     length: u64,
     numbers: &mut [u64],
 ) -> u64
-    ensures { λ r. ⌜ ((t : Tables) → returned r (now (state .entry)) (now (numbers .exit)) (withExclusion (now (exclusion .entry)) t)
-        ≡ callAt (now (state .entry)) (now (numbers .entry)) (withExclusion (now (exclusion .entry)) t) (deviceWrite address length)) ⌝ }
+    ensures { λ r. ⌜ ((t : Tables) (devices : List Device) → ListN.length devices ≡ listed → deviceAt devices device ≡ window
+        → returned r (now (state .entry)) (now (numbers .exit)) (withExclusion (now (exclusion .entry)) t)
+        ≡ callAt (now (state .entry)) (now (numbers .entry)) (withExclusion (now (exclusion .entry)) t) (deviceWrite devices device address length)) ⌝ }
 {
     if !words::usable(state, numbers, words::NUMBERS) {
         return words::reply(numbers, Answer::Refused(7));
     }
-    let answer = access::device_write(words::state_in(state), exclusion, address, length);
+    let answer = access::device_write(
+        words::state_in(state),
+        exclusion,
+        listed,
+        window,
+        device,
+        address,
+        length,
+    );
     words::reply(numbers, answer)
 }
 

@@ -7,6 +7,8 @@ ghost use lib.ListN.{length};
 use libc::STDIN_FILENO;
 use libc::STDOUT_FILENO;
 use lines::Line;
+use model::Device;
+use model::MOST_DEVICES;
 use model::MOST_PAGES;
 use model::State;
 use model::VECTOR_BYTES;
@@ -40,10 +42,11 @@ fn take_turn(
     shadow: &mut [u64],
     map: &mut [u16],
     exclusion: &[u8],
+    devices: [Device; MOST_DEVICES],
 ) -> TurnResult {
     let mut call = [0u8; CALL_BYTES];
     let taken = io::read_full(STDIN_FILENO, &mut call);
-    let result = turns::turn(s, kernel, shadow, map, exclusion, &call[..taken]);
+    let result = turns::turn(s, kernel, shadow, map, exclusion, devices, &call[..taken]);
     write_line(result.line);
     result
 }
@@ -56,10 +59,11 @@ fn take_turns(
     map: &mut [u16],
     exclusion: &[u8],
 ) {
+    let devices = turns::windows(first.frames);
     let mut s = first;
     let mut left = turns::call_limit();
     while turns::goes_on(left) {
-        let result = take_turn(s, kernel, shadow, map, exclusion);
+        let result = take_turn(s, kernel, shadow, map, exclusion, devices);
         let next = result.state;
         s = next;
         left = turns::left_after(left, result.goes);

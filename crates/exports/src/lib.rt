@@ -3,15 +3,17 @@
 
 ghost use mathlib.Core.Path.{_≡_};
 ghost use Rattle.model.specs.Keeps.{Tables, tables, withShadow, withExclusion, withThree};
-ghost use Rattle.model.specs.Policy.{nothingGiven};
+ghost use Rattle.model.specs.Policy.{givenOf};
 ghost use Rattle.model.specs.Tree.{treeOf};
 ghost use Rattle.model.specs.Calls.{syncPage, syncAll, syncPageTree, syncAllTree, fetch, write, enter, leave, deviceWrite};
 ghost use Rattle.model.specs.Record.{policyBy};
 ghost use Rattle.boundary.specs.Boundary.{returned, startAt, callAt, recorded, recordAt, walked, walkAt};
+use model::Device;
 
 #[no_mangle]
 pub extern "C" fn guard_start(
     policy: &[u8],
+    devices: u64,
     state: &mut [u64],
     shadow: &mut [u64],
     map: &mut [u16],
@@ -19,9 +21,9 @@ pub extern "C" fn guard_start(
     numbers: &mut [u64],
 ) -> u64
     ensures { λ r. ⌜ returned r (now (state .exit)) (now (numbers .exit)) (tables (now (shadow .exit)) (now (map .exit)) (now (exclusion .exit)))
-        ≡ startAt nothingGiven (now (policy .entry)) (now (state .entry)) (now (numbers .entry)) (tables (now (shadow .entry)) (now (map .entry)) (now (exclusion .entry))) ⌝ }
+        ≡ startAt (givenOf devices) (now (policy .entry)) (now (state .entry)) (now (numbers .entry)) (tables (now (shadow .entry)) (now (map .entry)) (now (exclusion .entry))) ⌝ }
 {
-    boundary::start(policy, state, shadow, map, exclusion, numbers)
+    boundary::start(policy, devices, state, shadow, map, exclusion, numbers)
 }
 
 // Writes a policy record.
@@ -201,16 +203,29 @@ pub extern "C" fn guard_leave(
     boundary::leave(state, shadow, page, numbers)
 }
 
+// The list of devices is lent as it stands in memory, and no copy is made of it (K5).
 #[no_mangle]
 pub extern "C" fn guard_device_write(
     state: &[u64],
     exclusion: &[u8],
+    devices: &[Device],
+    device: u64,
     address: u64,
     length: u64,
     numbers: &mut [u64],
 ) -> u64
     ensures { λ r. ⌜ ((t : Tables) → returned r (now (state .entry)) (now (numbers .exit)) (withExclusion (now (exclusion .entry)) t)
-        ≡ callAt (now (state .entry)) (now (numbers .entry)) (withExclusion (now (exclusion .entry)) t) (deviceWrite address length)) ⌝ }
+        ≡ callAt (now (state .entry)) (now (numbers .entry)) (withExclusion (now (exclusion .entry)) t) (deviceWrite (now (devices .entry)) device address length)) ⌝ }
 {
-    boundary::device_write(state, exclusion, address, length, numbers)
+    let window = devices::look_up(devices, device as usize);
+    boundary::device_write(
+        state,
+        exclusion,
+        devices.len(),
+        window,
+        device,
+        address,
+        length,
+        numbers,
+    )
 }

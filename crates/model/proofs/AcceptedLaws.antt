@@ -9,9 +9,11 @@ use borrow.Author.Tests.{ltb-true, not-true}
 use Rattle.model.specs.Basics.{both, either}
 use Rattle.model.specs.Edges.{pageBytes, lastByte, lastPage}
 use Rattle.model.specs.Bits.{present, noExecute, frameOf}
+use Rattle.model.specs.declared.Device.{Device}
 use Rattle.model.specs.Tree.{Tree}
+use Rattle.model.specs.Devices.{inWindow}
 use Rattle.model.specs.Questions.{View, firstNo, syncPageQuestions, syncPageTreeQuestions, fetchPermitted, fetchQuestions, free, everyTouched, writeQuestions, enterQuestions, leaveQuestions, deviceWriteQuestions}
-use Rattle.model.proofs.QuestionLaws.{asked, numbered, all-yes, both-first, both-second, within-low}
+use Rattle.model.proofs.QuestionLaws.{asked, numbered, all-yes, both-first, both-second, within-low, within-high, within-yes}
 use Rattle.model.proofs.TouchLaws.{touched-at}
 
 -- A test of every page (or frame) that an access touches holds of that of each of its bytes.
@@ -44,7 +46,7 @@ module _ (v : View) where
   unfolding leaveQuestions asked numbered both either
   leave-page page h = ltb-true page (v .pages) (both-first _ _ (all-yes 9 (leaveQuestions v page) refl h))
 
-  -- The length of a write or device write, and where its last byte lies.
+  -- The length of a write, and where its last byte lies.
   pub write-some : (address length : ℕ) → firstNo (writeQuestions v address length) ≡ 0 → 1 ≤ length
   unfolding writeQuestions asked numbered both either
   write-some address length h = within-low 1 16 length (both-first _ _ (all-yes 8 (writeQuestions v address length) refl h))
@@ -53,15 +55,7 @@ module _ (v : View) where
   unfolding writeQuestions asked numbered both either
   write-page address length h = ltb-true (lastPage address length) (v .pages) (both-first _ _ (all-yes 9 (writeQuestions v address length) refl h))
 
-  pub deviceWrite-some : (address length : ℕ) → firstNo (deviceWriteQuestions v address length) ≡ 0 → 1 ≤ length
-  unfolding deviceWriteQuestions asked numbered both either
-  deviceWrite-some address length h = within-low 1 1048576 length (both-first _ _ (all-yes 8 (deviceWriteQuestions v address length) refl h))
-
-  pub deviceWrite-byte : (address length : ℕ) → firstNo (deviceWriteQuestions v address length) ≡ 0 → lastByte address length < v .frames * pageBytes
-  unfolding deviceWriteQuestions asked numbered both either
-  deviceWrite-byte address length h = ltb-true (lastByte address length) (v .frames * pageBytes) (both-first _ _ (all-yes 9 (deviceWriteQuestions v address length) refl h))
-
-  -- What a fetch finds there, and what a write or device write may cover.
+  -- What a fetch finds there, and what a write may cover.
   pub fetch-there : (page : ℕ) → firstNo (fetchQuestions v page) ≡ 0 → present (v .shadow page) ≡ true
   unfolding fetchQuestions asked numbered both either
   fetch-there page h = both-first _ _ (all-yes 11 (fetchQuestions v page) refl h)
@@ -76,8 +70,32 @@ module _ (v : View) where
   write-free address length a h l m =
       every-byte (λ p. free v (frameOf (v .shadow p))) address length a (both-first _ _ (all-yes 13 (writeQuestions v address length) refl h)) l m
 
-  pub deviceWrite-free : (address length a : ℕ) → firstNo (deviceWriteQuestions v address length) ≡ 0 → address ≤ a → a < address + length
-      → free v (a / pageBytes) ≡ true
-  unfolding deviceWriteQuestions asked numbered both either
-  deviceWrite-free address length a h l m =
-      every-byte (free v) address length a (both-first _ _ (all-yes 13 (deviceWriteQuestions v address length) refl h)) l m
+  -- Of a device write: its length, where its last byte lies, and what it may cover.
+  module _ (listed : ℕ) (d : Device) (device address size : ℕ) (h : firstNo (deviceWriteQuestions v listed d device address size) ≡ 0) where
+    pub deviceWrite-some : 1 ≤ size
+    unfolding deviceWriteQuestions asked numbered both either
+    deviceWrite-some = within-low 1 1048576 size (both-first _ _ (all-yes 8 (deviceWriteQuestions v listed d device address size) refl h))
+
+    pub deviceWrite-byte : lastByte address size < v .frames * pageBytes
+    unfolding deviceWriteQuestions asked numbered both either
+    deviceWrite-byte =
+        ltb-true (lastByte address size) (v .frames * pageBytes) (both-first _ _ (all-yes 9 (deviceWriteQuestions v listed d device address size) refl h))
+
+    pub deviceWrite-free : (a : ℕ) → address ≤ a → a < address + size → free v (a / pageBytes) ≡ true
+    unfolding deviceWriteQuestions asked numbered both either
+    deviceWrite-free a l m =
+        every-byte (free v) address size a (both-first _ _ (all-yes 13 (deviceWriteQuestions v listed d device address size) refl h)) l m
+
+    -- The frame of each of its bytes is between those of its first and its last.
+    window-ends : both (inWindow d (address / pageBytes)) (inWindow d (lastPage address size)) ≡ true
+    unfolding deviceWriteQuestions asked numbered both either
+    window-ends = both-first _ _ (all-yes 19 (deviceWriteQuestions v listed d device address size) refl h)
+
+    pub deviceWrite-windowed : (a : ℕ) → address ≤ a → a < address + size → inWindow d (a / pageBytes) ≡ true
+    unfolding inWindow lastPage lastByte
+    deviceWrite-windowed a l m =
+        let low : d .first ≤ address / pageBytes =
+        within-low (d .first) (d .last) (address / pageBytes) (both-first (inWindow d (address / pageBytes)) (inWindow d (lastPage address size)) window-ends) in
+        let high : lastPage address size ≤ d .last =
+        within-high (d .first) (d .last) (lastPage address size) (both-second (inWindow d (address / pageBytes)) (inWindow d (lastPage address size)) window-ends) in
+        within-yes (d .first) (d .last) (a / pageBytes) (omega arith) (omega arith)

@@ -58,7 +58,7 @@ state-refused v (fetch page) p = firstNo-no 7 _ (state-no _ _ p)
 state-refused v (write address length) p = firstNo-no 7 _ (state-no _ _ p)
 state-refused v (enter index) p = firstNo-no 7 _ (state-no _ _ p)
 state-refused v (leave page) p = firstNo-no 7 _ (state-no _ _ p)
-state-refused v (deviceWrite address length) p = firstNo-no 7 _ (state-no _ _ p)
+state-refused v (deviceWrite devices device address size) p = firstNo-no 7 _ (state-no _ _ p)
 
 -- An accepted call has no number, and says that it is allowed.
 pub effect-reply : (g : Guard) (call : Call) → ((effectOf g call) .reply .number ≡ 0) × ((effectOf g call) .reply .allowed ≡ true)
@@ -71,7 +71,7 @@ effect-reply g (fetch page) = (refl, refl)
 effect-reply g (write address length) = (refl, refl)
 effect-reply g (enter index) = (refl, refl)
 effect-reply g (leave page) = (refl, refl)
-effect-reply g (deviceWrite address length) = (refl, refl)
+effect-reply g (deviceWrite devices device address size) = (refl, refl)
 
 -- An accepted call changes the mode of the state alone, and a page that runs then is below V, where one ran below V before.
 pub effect-state : (g : Guard) (call : Call) → effectOf g call .guard .state ≡ inMode (g .state) (effectOf g call .guard .state .mode)
@@ -84,7 +84,7 @@ effect-state g (fetch page) = refl
 effect-state g (write address length) = refl
 effect-state g (enter index) = refl
 effect-state g (leave page) = refl
-effect-state g (deviceWrite address length) = refl
+effect-state g (deviceWrite devices device address size) = refl
 
 pub effect-runs : (g : Guard) (call : Call) (limit : ℕ) → g .state .pages ≤ limit → running (g .state .mode) < limit
     → firstNo (questionsOf (seen g) call) ≡ 0 → running (effectOf g call .guard .state .mode) < limit
@@ -97,7 +97,7 @@ effect-runs g (fetch page) limit few now passed = rw running-modeOf (let b : pag
 effect-runs g (write address length) limit few now passed = now
 effect-runs g (enter index) limit few now passed = let b : getD (g .state .«entry_pages») index 0 < g .state .pages = enter-page (seen g) index passed in omega arith
 effect-runs g (leave page) limit few now passed = let b : page < g .state .pages = leave-page (seen g) page passed in omega arith
-effect-runs g (deviceWrite address length) limit few now passed = now
+effect-runs g (deviceWrite devices device address size) limit few now passed = now
 
 pub answer-unfit : (g : Guard) (call : Call) → stateInOrder (g .state) ≡ false → answer g call ≡ refusedOf g (broughtBy call) 7
 unfolding answer

@@ -99,7 +99,7 @@ module _ (policy : Policy) (carried : Carried) (g : Guard) (h : Kept policy carr
   commutes (write address size) passed p = refl
   commutes (enter index) passed p = rw switched-at
   commutes (leave page) passed p = rw switched-at
-  commutes (deviceWrite address size) passed p = refl
+  commutes (deviceWrite devices device address size) passed p = refl
 
   -- Every page stays good.
   good-after : (call : Call) → settled policy (pageOf g) g call ≡ 0 → (p : ℕ) → Good (carried .code) (pageOf ((effectOf g call) .guard) p)
@@ -162,4 +162,4 @@ module _ (policy : Policy) (carried : Carried) (g : Guard) (h : Kept policy carr
   kept (leave page) passed =
       kept-with (User page) (switchedAll true (g .tables .shadow)) (g .tables .map) (leave-page (seenBy policy (pageOf g) g) page passed) (length-switched true (g .tables .shadow) ∙ h .shadowLength)
       (h .mapLength) (good-after (leave page) passed)
-  kept (deviceWrite address size) passed = h
+  kept (deviceWrite devices device address size) passed = h

@@ -52,6 +52,7 @@ module _ (policy : Policy) (carried : Carried) (g : Guard) (h : Kept policy carr
         frames = h .frames i;
         entryCount = h .entryCount i;
         entryPage = λ n. getD (h .entryPages i) n 0;
+        devices = g .state .devices;
         user = inUser (g .state .mode);
         shadow = λ p. getD (g .tables .shadow) p 0;
         approval = λ p. getD (g .tables .map) p none;

@@ -3,20 +3,21 @@ use Prim.Native.Nat.{ℕ, _+_, _*_, _/_, _%_, _<_}
 use mathlib.Core.Bool.{true, not}
 use mathlib.Core.Path.{_≡_, refl, sym, _∙_}
 use lib.Dec.{ltb}
-use lib.ListN.{getD}
+use lib.ListN.{length, getD}
 use native.Mathlib.Omega.{arith}
 use borrow.Author.Tests.{ltb-true, not-true}
 use Rattle.model.specs.Edges.{pageBytes, lastByte, lastPage}
 use Rattle.model.specs.Keeps.{Guard, excludedIn}
 use Rattle.model.specs.Policy.{Policy}
 use Rattle.model.specs.Bits.{frameOf}
+use Rattle.model.specs.Devices.{deviceAt}
 use Rattle.model.specs.Questions.{free}
 use Rattle.model.specs.Calls.{Call, syncPage, syncAll, syncPageTree, syncAllTree, fetch, write, enter, leave, deviceWrite, questionsOf, effectOf}
 use Rattle.model.specs.OnePage.{seenBy, settled}
 use Rattle.model.specs.Claim.{Carried, Clear, coveredBy, Safe}
 use Rattle.model.proofs.QuestionLaws.{both-first, both-second}
 use Rattle.model.proofs.ClaimPages.{good-code}
-use Rattle.model.proofs.AcceptedLaws.{fetch-there, fetch-executable, write-free, deviceWrite-free}
+use Rattle.model.proofs.AcceptedLaws.{fetch-there, fetch-executable, write-free, deviceWrite-free, deviceWrite-windowed}
 use Rattle.model.proofs.ClaimKept.{Kept, pageOf}
 
 module _ (policy : Policy) (carried : Carried) (g : Guard) (h : Kept policy carried g) where
@@ -55,5 +56,9 @@ module _ (policy : Policy) (carried : Carried) (g : Guard) (h : Kept policy carr
       }
   safe (enter index) passed = tt
   safe (leave page) passed = tt
-  safe (deviceWrite address size) passed =
-      record { bytes = λ a l m. free-clear (a / pageBytes) a (deviceWrite-free (seenBy policy (pageOf g) g) address size a passed l m) refl }
+  safe (deviceWrite devices device address size) passed =
+      let v = seenBy policy (pageOf g) g in
+      record {
+        bytes = λ a l m. free-clear (a / pageBytes) a (deviceWrite-free v (length devices) (deviceAt devices device) device address size passed a l m) refl;
+        windowed = λ a l m. deviceWrite-windowed v (length devices) (deviceAt devices device) device address size passed a l m;
+      }

@@ -14,13 +14,13 @@ use Rattle.model.specs.Edges.{pagesInRange, framesInRange}
 use Rattle.model.specs.Keeps.{none, vectorBytes, excludedIn, byteOf, vectorOf, inUser, running}
 use Rattle.model.specs.Policy.{Givens, Policy, policyOf, frameFor, approvalFor, named, firstEntry, startState, startTables, startGuard}
 use Rattle.model.specs.Bits.{approved}
-use Rattle.model.specs.Questions.{firstNo, stateInOrder, Lengths, startQuestions, rising}
+use Rattle.model.specs.Questions.{firstNo, stateInOrder, givensInRange, Lengths, startQuestions, rising}
 use Rattle.model.specs.OnePage.{Page, indexIn, firstPage}
 use Rattle.model.specs.Claim.{carriedFirst}
 use Rattle.model.proofs.QuestionLaws.{both-first, both-second, within-yes}
 use Rattle.model.proofs.StateLaws.{state-whole}
 use Rattle.model.proofs.TableLaws.{length-table, getD-table}
-use Rattle.model.proofs.PolicyLaws.{Passed, start-passed, length-numbersAt, allBelow-getD, allBelow-member, member-here, member-there, member-later, frameFor-unlisted, frameFor-member}
+use Rattle.model.proofs.PolicyLaws.{Passed, start-passed, start-given, length-numbersAt, allBelow-getD, allBelow-member, member-here, member-there, member-later, frameFor-unlisted, frameFor-member}
 use Rattle.model.proofs.VectorLaws.{byteOf-bit, byteOf-ext, vectorOf-length}
 use Rattle.model.proofs.ClaimPages.{Good, good-absent, good-approved}
 use Rattle.model.proofs.ClaimKept.{Kept, pageOf}
@@ -123,7 +123,7 @@ module _ (given : Givens) (bytes : List ℕ) (l : Lengths) (accepted : firstNo (
   named-below f e = allBelow-member (policy .frames) f (policy .listedFrames) (passed .frames-below) e
 
   start-fits : stateInOrder (startState given policy) ≡ true
-  unfolding startState pagesInRange framesInRange running
+  unfolding startState pagesInRange framesInRange givensInRange running
   start-fits =
       state-whole (startState given policy)
       (record {
@@ -131,6 +131,7 @@ module _ (given : Givens) (bytes : List ℕ) (l : Lengths) (accepted : firstNo (
         frames = within-yes 1 4096 (policy .frames) (passed .frames-low) (passed .frames-high);
         entryCount = within-yes 1 16 (policy .entryCount) (passed .entry-count-low) (passed .entry-count-high);
         running-below = allBelow-getD (policy .pages) (policy .listedPages) 0 (passed .pages-below) (omega (arith, passed .count-low, pages-length));
+        devices = start-given given bytes policy l accepted;
       })
 
   -- The frame of a listed page is named in the policy, so it is not 65535. No page past V is listed.

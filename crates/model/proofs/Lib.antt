@@ -17,6 +17,7 @@ pub mod SwitchLaws
 pub mod TreeLaws
 pub mod ClaimPages
 mod CacheLaws
+mod DeviceLaws
 pub mod ClaimKept
 pub mod ClaimCalls
 pub mod ClaimSafe

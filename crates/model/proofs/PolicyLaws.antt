@@ -14,7 +14,7 @@ use Rattle.model.specs.Basics.{both, either, within, member}
 use Rattle.model.specs.Edges.{pagesInRange, framesInRange}
 use Rattle.model.specs.Keeps.{vectorBytes}
 use Rattle.model.specs.Policy.{Givens, Policy, numberAt, numbersAt, frameFor}
-use Rattle.model.specs.Questions.{firstNo, sizesInRange, countsInRange, rising, allBelow, policyQuestions, recordQuestions, Lengths, lengthsFit, startQuestions}
+use Rattle.model.specs.Questions.{firstNo, sizesInRange, countsInRange, rising, allBelow, policyQuestions, givensInRange, recordQuestions, Lengths, lengthsFit, startQuestions}
 use Rattle.model.proofs.QuestionLaws.{either-second, both-yes, both-no, both-first, both-second, within-low, within-high, asked, numbered, all-yes, firstNo-both}
 use Rattle.model.proofs.StateLaws.{in-order}
 
@@ -276,6 +276,11 @@ module _ (given : Givens) (bytes : List ℕ) (policy : Policy) (l : Lengths) (h 
   pub start-passed : Passed policy
   unfolding recordQuestions
   start-passed = policy-passed _ _ _ policy start-record
+
+  -- And by what it was given.
+  pub start-given : givensInRange given ≡ true
+  unfolding recordQuestions
+  start-given = more-yes _ _ _ policy start-record
 
   lengths-yes : lengthsFit policy l ≡ true
   unfolding startQuestions recordQuestions policyQuestions asked numbered both either

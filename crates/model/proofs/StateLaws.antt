@@ -9,7 +9,7 @@ use borrow.Author.Tests.{lt-ltb, ltb-true, eqb-true, not-false}
 use Rattle.model.specs.declared.Mode.{Mode}
 use Rattle.model.specs.declared.State.{State}
 use Rattle.model.specs.Basics.{within}
-use Rattle.model.specs.Edges.{pagesInRange, framesInRange}
+use Rattle.model.specs.Edges.{pagesInRange, framesInRange, devicesInRange}
 use Rattle.model.specs.Keeps.{inUser, running, modeOf, inMode}
 use Rattle.model.specs.Questions.{stateInOrder, inOrder}
 use Rattle.model.proofs.QuestionLaws.{both-yes, both-no-after, both-first, both-second, within-high}
@@ -31,22 +31,26 @@ pub record Fits (s : State) : Type 0 where
   pub frames : framesInRange (s .frames) ≡ true
   pub entryCount : within 1 16 (s .«entry_count») ≡ true
   pub running-below : running (s .mode) < s .pages
+  pub devices : devicesInRange (s .devices) ≡ true
 
 pub state-parts : (s : State) → stateInOrder s ≡ true → Fits s
 unfolding stateInOrder
 state-parts s p =
     let rest = both-second _ _ p in
-    let last = both-second _ _ rest in
+    let more = both-second _ _ rest in
+    let last = both-second _ _ more in
     record {
       pages = both-first _ _ p;
       frames = both-first _ _ rest;
-      entryCount = both-first _ _ last;
-      running-below = ltb-true (running (s .mode)) (s .pages) (both-second _ _ last);
+      entryCount = both-first _ _ more;
+      running-below = ltb-true (running (s .mode)) (s .pages) (both-first _ _ last);
+      devices = both-second _ _ last;
     }
 
 pub state-whole : (s : State) → Fits s → stateInOrder s ≡ true
 unfolding stateInOrder
-state-whole s f = both-yes (f .pages) (both-yes (f .frames) (both-yes (f .entryCount) (lt-ltb (running (s .mode)) (s .pages) (f .running-below))))
+state-whole s f =
+    both-yes (f .pages) (both-yes (f .frames) (both-yes (f .entryCount) (both-yes (lt-ltb (running (s .mode)) (s .pages) (f .running-below)) (f .devices))))
 
 pub pages-few : (s : State) → stateInOrder s ≡ true → s .pages ≤ 2048
 unfolding pagesInRange
@@ -60,7 +64,7 @@ pub mode-fits : (s : State) (m : Mode) → stateInOrder s ≡ true → running m
 unfolding inMode
 mode-fits s m p r =
     let f : Fits s = state-parts s p in
-    state-whole (inMode s m) (record { pages = f .pages; frames = f .frames; entryCount = f .entryCount; running-below = r })
+    state-whole (inMode s m) (record { pages = f .pages; frames = f .frames; entryCount = f .entryCount; running-below = r; devices = f .devices })
 
 -- Question 7 was answered yes: so was each part of it.
 abbrev pub Fit : List Bool → Type 0

@@ -4,6 +4,7 @@ use mathlib.Core.Bool.{Bool, true, false}
 use mathlib.Core.List.{List}
 use lib.ListN.{length, getD, set}
 use Rattle.model.specs.declared.State.{State}
+use Rattle.model.specs.declared.Device.{Device}
 use Rattle.model.specs.declared.Mode.{Mode}
 use Rattle.model.specs.declared.Mode.the-variants.{Kernel, User}
 use Rattle.model.specs.declared.Answer.{Answer}
@@ -15,6 +16,7 @@ use Rattle.model.specs.Keeps.{none, Tables, withShadow, withMap, Guard, 
 use Rattle.model.specs.Policy.{Givens, Policy, policyOf, startGuard, zeroState}
 use Rattle.model.specs.Bits.{frameOf}
 use Rattle.model.specs.Tree.{Tree, flatAt}
+use Rattle.model.specs.Devices.{deviceAt}
 use Rattle.model.specs.Sync.{Rules, rules, Slot, Sweep, sweepFrom, entryIn, stepFrom}
 use Rattle.model.specs.Switch.{switchedAll, changes}
 use Rattle.model.specs.Questions.{Question, firstNo, View, seen, lengthsOf, startQuestions, syncPageQuestions, syncAllQuestions, syncPageTreeQuestions, syncAllTreeQuestions, fetchQuestions, writeQuestions, enterQuestions, leaveQuestions, deviceWriteQuestions}
@@ -80,6 +82,7 @@ startOf given bytes t =
 
 -- The other calls. "A list has synchronise one, synchronise all, fetch, write, enter, leave and device write calls [..] with any arguments".
 -- "Each synchronising call brings a kernel table of any contents and length." K4 adds both synchronising calls from a tree, of any run, root and depth.
+-- A device write brings a list of devices of any contents and length (K5).
 pub data Call : Type 0 where
   syncPage : (kernel : List ℕ) (page : ℕ) → Call
   syncAll : (kernel : List ℕ) → Call
@@ -89,7 +92,7 @@ pub data Call : Type 0 where
   write : (address length : ℕ) → Call
   enter : (index : ℕ) → Call
   leave : (page : ℕ) → Call
-  deviceWrite : (address length : ℕ) → Call
+  deviceWrite : (devices : List Device) (device address size : ℕ) → Call
 
 -- What a call brings and may change.
 unfoldable pub broughtBy : Call → Brought
@@ -105,7 +108,7 @@ questionsOf v (fetch page) = fetchQuestions v page
 questionsOf v (write address length) = writeQuestions v address length
 questionsOf v (enter index) = enterQuestions v index
 questionsOf v (leave page) = leaveQuestions v page
-questionsOf v (deviceWrite address length) = deviceWriteQuestions v address length
+questionsOf v (deviceWrite devices device address size) = deviceWriteQuestions v (length devices) (deviceAt devices device) device address size
 
 -- What the step of a page reads of the state and of the exclusion vector.
 abbrev pub rulesOf : State → List ℕ → Rules
@@ -154,7 +157,7 @@ effectOf g (write address length) =
     outcome (accepted (frameOf (getD (g .tables .shadow) (address / pageBytes) 0)) (frameOf (getD (g .tables .shadow) (lastPage address length) 0))) g
 effectOf g (enter index) = switchTo g (Kernel (getD (g .state .«entry_pages») index 0))
 effectOf g (leave page) = switchTo g (User page)
-effectOf g (deviceWrite address length) = outcome (accepted (address / pageBytes) (lastPage address length)) g
+effectOf g (deviceWrite devices device address size) = outcome (accepted (address / pageBytes) (lastPage address size)) g
 
 -- What the guard answers to a call, and leaves. "Each call gets these as the last one returned or left them": what a call does not change
 -- stays as it is, and a refused call changes nothing.

@@ -7,17 +7,23 @@ use lib.ListN.{replicate, set}
 use Rattle.model.specs.declared.State.{State}
 use Rattle.model.specs.declared.Mode.{Mode}
 use Rattle.model.specs.declared.Mode.the-variants.{Kernel, User}
+use Rattle.model.specs.declared.Device.{Device}
 use Rattle.model.specs.Keeps.{Guard, guardOf, inMode, stateOf}
-use Rattle.model.specs.Policy.{nothingGiven}
+use Rattle.model.specs.Policy.{givenOf}
+use Rattle.model.specs.Devices.{deviceOf}
 use Rattle.model.specs.Calls.{Outcome, outcome, accepted, refused, startOf, syncPage, write, deviceWrite, answer}
 
 -- "Policy V 4, F 4, n 1, e 1, page 1, frame 2."
 unfoldable pub policyBytes : List ℕ
 policyBytes = 4 ∷ 0 ∷ 4 ∷ 0 ∷ 1 ∷ 0 ∷ 1 ∷ 0 ∷ 1 ∷ 0 ∷ 2 ∷ 0 ∷ []
 
+-- K5: two devices, each with all frames as window.
+unfoldable pub twoDevices : List Device
+twoDevices = deviceOf 0 3 ∷ deviceOf 0 3 ∷ []
+
 -- The start on that policy, whatever the lent tables held.
 unfoldable pub theStart : Outcome
-theStart = startOf nothingGiven policyBytes (record { shadow = 5 ∷ 6 ∷ 7 ∷ 8 ∷ []; map = 1 ∷ 2 ∷ 3 ∷ 4 ∷ []; exclusion = 255 ∷ [] })
+theStart = startOf (givenOf 2) policyBytes (record { shadow = 5 ∷ 6 ∷ 7 ∷ 8 ∷ []; map = 1 ∷ 2 ∷ 3 ∷ 4 ∷ []; exclusion = 255 ∷ [] })
 
 -- The started guard, and for a case that names user mode the same guard with the mode replaced.
 unfoldable pub started : Guard
@@ -36,7 +42,7 @@ startedWritable = (answer started (syncPage (only 0 0x3003) 0)) .guard
 
 -- The state after the start, with its mode.
 unfoldable pub fourPages : Mode → State
-fourPages mode = stateOf 4 4 1 (1 ∷ replicate 15 0) mode
+fourPages mode = stateOf 4 4 1 (1 ∷ replicate 15 0) mode 2
 
 -- A guard of that policy with these contents. No call changes the exclusion vector, whose one byte is 0x04.
 unfoldable pub holding : Mode → List ℕ → List ℕ → Guard
@@ -86,14 +92,14 @@ cases =
     ∷ row (answer startedUser (syncPage (only 0 0x3003) 0))
     (outcome (accepted 1 0) (holding (User 1) (0x8000000000003003 ∷ 0x2401 ∷ 0 ∷ 0 ∷ []) mapStarted))
     -- C9 device write at 16383: 1 byte gives 3 and 3; 2 bytes give 9.
-    ∷ row (answer started (deviceWrite 16383 1))
+    ∷ row (answer started (deviceWrite twoDevices 1 16383 1))
     (outcome (accepted 3 3) (holding (Kernel 1) shadowStarted mapStarted))
-    ∷ row (answer started (deviceWrite 16383 2))
+    ∷ row (answer started (deviceWrite twoDevices 1 16383 2))
     (outcome (refused 9) (holding (Kernel 1) shadowStarted mapStarted))
     -- C10 device write at 4096: 4,096 bytes give 1 and 1; 4,097 give 13.
-    ∷ row (answer started (deviceWrite 4096 4096))
+    ∷ row (answer started (deviceWrite twoDevices 0 4096 4096))
     (outcome (accepted 1 1) (holding (Kernel 1) shadowStarted mapStarted))
-    ∷ row (answer started (deviceWrite 4096 4097))
+    ∷ row (answer started (deviceWrite twoDevices 0 4096 4097))
     (outcome (refused 13) (holding (Kernel 1) shadowStarted mapStarted))
     -- C11 write of 0 or 17 bytes: 8. (1 and 16 bytes at that address are allowed: nothing else refuses there.)
     ∷ row (answer startedWritable (write 0 0))

@@ -5,10 +5,12 @@ use mathlib.Core.List.{List, [], _∷_}
 use mathlib.Core.Path.{_≡_}
 use lib.ListN.{length, getD}
 use lib.Dec.{eqb}
+use Rattle.model.specs.declared.Device.{Device}
 use Rattle.model.specs.Edges.{pageBytes}
 use Rattle.model.specs.Keeps.{none, Tables, Guard, vectorBytes, inUser}
 use Rattle.model.specs.Policy.{Givens, Policy, policyOf, named}
 use Rattle.model.specs.Bits.{frameOf}
+use Rattle.model.specs.Devices.{deviceAt, inWindow}
 use Rattle.model.specs.Calls.{Reply, Outcome, startOf, Call, syncPage, syncAll, syncPageTree, syncAllTree, fetch, write, enter, leave, deviceWrite, answer}
 use Rattle.model.specs.OnePage.{Page, firstPage, settled, pagesAfter}
 
@@ -59,9 +61,10 @@ pub record WriteSafe (policy : Policy) (carried : Carried) (ps : ℕ → Page) (
   pub second : reply .second ≡ frameOf ((ps ((address + size - 1) / pageBytes)) .entry)
   pub bytes : (a : ℕ) → address ≤ a → a < address + size → Clear policy carried (coveredBy ps a)
 
--- "An allowed device write covers its bytes at their own addresses."
-pub record DeviceWriteSafe (policy : Policy) (carried : Carried) (address size : ℕ) : Type 0 where
+-- "An allowed device write covers its bytes at their own addresses." Each lies in its device's window too, by the list that reaches the call (K5).
+pub record DeviceWriteSafe (policy : Policy) (carried : Carried) (window : Device) (address size : ℕ) : Type 0 where
   pub bytes : (a : ℕ) → address ≤ a → a < address + size → Clear policy carried a
+  pub windowed : (a : ℕ) → address ≤ a → a < address + size → inWindow window (a / pageBytes) ≡ true
 
 -- What an allowed call reads and covers, by the one-page guards as they are at the call.
 abbrev pub Safe : Policy → Carried → (ℕ → Page) → Call → Reply → Type 0
@@ -73,7 +76,7 @@ Safe policy carried ps (fetch page) reply = FetchSafe carried ps page reply
 Safe policy carried ps (write address size) reply = WriteSafe policy carried ps address size reply
 Safe policy carried ps (enter index) reply = Unit {0}
 Safe policy carried ps (leave page) reply = Unit {0}
-Safe policy carried ps (deviceWrite address size) reply = DeviceWriteSafe policy carried address size
+Safe policy carried ps (deviceWrite devices device address size) reply = DeviceWriteSafe policy carried (deviceAt devices device) address size
 
 -- The guard and the one-page guards agree now; "the guard answers the same number, or none" as they settle, and says that the call is
 -- allowed just where there is none; an allowed call is safe; and all of this again after the call, for the rest of the list.

@@ -1,14 +1,16 @@
 -- Document 01, "The drill program": what it takes of its input, what each call makes of the guard and the kernel table, and every byte that it
 -- writes.
-use Prim.Native.Nat.{ℕ, zero, suc, _+_, _*_, _/_, _%_, _^_}
+use Prim.Native.Nat.{ℕ, zero, suc, _+_, _-_, _*_, _/_, _%_, _^_}
 use mathlib.Core.Bool.{Bool, true, false, cond}
 use mathlib.Core.List.{List, [], _∷_, _++_}
 use lib.ListN.{length, getD, take, drop, replicate, set}
 use lib.Dec.{ltb, eqb}
 use Rattle.model.specs.declared.Mode.{Mode}
+use Rattle.model.specs.declared.Device.{Device}
 use Rattle.model.specs.Basics.{within}
 use Rattle.model.specs.Keeps.{Guard, vectorBytes, excludedIn, inUser, running}
-use Rattle.model.specs.Policy.{Givens, nothingGiven, Policy, policyOf, numberAt}
+use Rattle.model.specs.Devices.{deviceOf}
+use Rattle.model.specs.Policy.{Givens, givenOf, Policy, policyOf, numberAt}
 use Rattle.model.specs.Questions.{question, firstNo}
 use Rattle.model.specs.Calls.{Reply, accepted, refused, settle, Outcome, startOf, Call, syncPage, syncAll, fetch, write, enter, leave, deviceWrite, answer}
 
@@ -16,14 +18,22 @@ use Rattle.model.specs.Calls.{Reply, accepted, refused, settle, Outcome,
 unfoldable pub policyExtent : List ℕ → ℕ
 policyExtent input = 8 + cond (within 1 2048 (numberAt input 4)) (4 * numberAt input 4) 0
 
--- The guard of the drill, with the kernel table that its edits change.
+-- The guard of the drill, with the kernel table that its edits change and its list of devices (K5).
 pub record Drill : Type 0 where
   pub guard : Guard
   pub kernel : List ℕ
+  pub devices : List Device
+
+-- "The drill has 64 devices with all frames as window" (K5): frames 0 to F - 1.
+abbrev pub drillDevices : ℕ
+drillDevices = 64
+
+unfoldable pub windowsOf : ℕ → List Device
+windowsOf frames = replicate drillDevices (deviceOf 0 (frames - 1))
 
 -- What the drill's start is given beside the record, and the start on tables of the record's own sizes, all zeros.
 abbrev pub drillGiven : Givens
-drillGiven = nothingGiven
+drillGiven = givenOf drillDevices
 
 unfoldable pub drillStart : List ℕ → Outcome
 drillStart record′ =
@@ -37,7 +47,7 @@ drillStart record′ =
 
 -- "The kernel table begins as zeros."
 unfoldable pub begun : Guard → Drill
-begun g = record { guard = g; kernel = replicate (g .state .pages) 0 }
+begun g = record { guard = g; kernel = replicate (g .state .pages) 0; devices = windowsOf (g .state .frames) }
 
 -- "A call: byte 0 kind, byte 1 ignored, 2 to 3 index, 4 to 7 length, 8 to 15 value."
 unfoldable pub kindOf : List ℕ → ℕ
@@ -58,31 +68,32 @@ pub record Drilled : Type 0 where
   pub drill : Drill
 
 unfoldable pub withGuard : Drill → Outcome → Drilled
-withGuard d outcome = record { reply = outcome .reply; drill = record { guard = outcome .guard; kernel = d .kernel } }
+withGuard d outcome = record { reply = outcome .reply; drill = record { guard = outcome .guard; kernel = d .kernel; devices = d .devices } }
 
 -- "0 edit the kernel table (index, value; question 9)". "An accepted edit gives 0 and 0."
 unfoldable pub edited : Drill → ℕ → ℕ → Drilled
 edited d page value =
     settle (firstNo (question 9 (ltb page (d .guard .state .pages)) ∷ []))
-    (record { reply = accepted 0 0; drill = record { guard = d .guard; kernel = set (d .kernel) page value } })
+    (record { reply = accepted 0 0; drill = record { guard = d .guard; kernel = set (d .kernel) page value; devices = d .devices } })
     (λ n. record { reply = refused n; drill = d })
 
 -- "Kinds: 0 edit the kernel table [..], 1 synchronise one (index), 2 all, 3 fetch (index), 4 write (length; value is the address), 5 enter
--- (index of the entry), 6 leave (index), 7 device write (length; value is the address)." Arguments: kernel table, kind, index, length, value.
-unfoldable pub callOf : List ℕ → ℕ → ℕ → ℕ → ℕ → Call
-callOf kernel kind index length value =
+-- (index of the entry), 6 leave (index), 7 device write (length; value is the address)." K5: the drill "puts the device in the index field". Arguments: kernel table,
+-- devices, kind, index, length, value.
+unfoldable pub callOf : List ℕ → List Device → ℕ → ℕ → ℕ → ℕ → Call
+callOf kernel devices kind index length value =
     cond (eqb kind 1) (syncPage kernel index)
     (cond (eqb kind 2) (syncAll kernel)
     (cond (eqb kind 3) (fetch index)
     (cond (eqb kind 4) (write value length)
     (cond (eqb kind 5) (enter index)
     (cond (eqb kind 6) (leave index)
-    (deviceWrite value length))))))
+    (deviceWrite devices index value length))))))
 
 unfoldable pub performed : Drill → ℕ → ℕ → ℕ → ℕ → Drilled
 performed d kind index length value =
     cond (eqb kind 0) (edited d index value)
-    (withGuard d (answer (d .guard) (callOf (d .kernel) kind index length value)))
+    (withGuard d (answer (d .guard) (callOf (d .kernel) (d .devices) kind index length value)))
 
 -- Decimal digits with no leading zero; 20 of them hold every number of 64 bits.
 unfoldable pub digits : ℕ → ℕ → List ℕ

@@ -16,6 +16,10 @@ pagesInRange pages = within 1 2048 pages
 unfoldable pub framesInRange : ℕ → Bool
 framesInRange frames = within 1 4096 frames
 
+-- "the number of devices, 1 to 64" (K5)
+unfoldable pub devicesInRange : ℕ → Bool
+devicesInRange devices = within 1 64 devices
+
 -- The bytes from an address on, length of them, lie in the pages (or frames) from `address / pageBytes` to `lastPage`. The sum is exact.
 unfoldable pub lastByte : ℕ → ℕ → ℕ
 lastByte address length = address + length - 1

@@ -10,8 +10,10 @@ use Rattle.model.specs.declared.State.{State}
 use Rattle.model.specs.declared.Mode.{Mode}
 use Rattle.model.specs.declared.Mode.the-variants.{Kernel, User}
 use Rattle.model.specs.declared.Answer.the-variants.{Done, Refused}
+use Rattle.model.specs.declared.Device.{Device}
 use Rattle.model.specs.Keeps.{tables, withShadow, withMap, withExclusion, Guard, guardOf, withBit, stateOf}
-use Rattle.model.specs.Policy.{nothingGiven}
+use Rattle.model.specs.Policy.{givenOf}
+use Rattle.model.specs.Devices.{deviceOf}
 use Rattle.model.specs.Bits.{takenApart}
 use Rattle.model.specs.Calls.{Reply, Outcome, outcome, outcomeBy, accepted, refused, startOf, Call, syncPage, syncAll, fetch, write, enter, leave, deviceWrite, answer}
 use Rattle.model.specs.Cases.{started, startedUser, holding, mapStarted, Row, Case, row}
@@ -27,7 +29,7 @@ everyPage = 3 ∷ 0 ∷ 9 ∷ 0 ∷ 3 ∷ 0 ∷ 1 ∷ 0 ∷ 0 ∷ 0 ∷ 1 ∷ 0 
 -- A start on tables of these lengths that hold ones.
 unfoldable pub startOn : List ℕ → ℕ → ℕ → ℕ → Outcome
 startOn bytes shadow map exclusion =
-    startOf nothingGiven bytes (record { shadow = replicate shadow 1; map = replicate map 1; exclusion = replicate exclusion 1 })
+    startOf (givenOf 3) bytes (record { shadow = replicate shadow 1; map = replicate map 1; exclusion = replicate exclusion 1 })
 
 -- "answers a state of zeros in user mode on page 0", number by number.
 unfoldable pub zeros : State
@@ -38,6 +40,7 @@ zeros =
       «entry_count» = 0;
       «entry_pages» = 0 ∷ 0 ∷ 0 ∷ 0 ∷ 0 ∷ 0 ∷ 0 ∷ 0 ∷ 0 ∷ 0 ∷ 0 ∷ 0 ∷ 0 ∷ 0 ∷ 0 ∷ 0 ∷ [];
       mode = User 0;
+      devices = 0;
     }
 
 -- A refused start leaves those tables, and answers the state of zeros.
@@ -45,8 +48,12 @@ unfoldable pub startRefused : ℕ → ℕ → ℕ → ℕ → Outcome
 startRefused number shadow map exclusion =
     outcome (refused number) (guardOf zeros (record { shadow = replicate shadow 1; map = replicate map 1; exclusion = replicate exclusion 1 }))
 
+-- K5: its three devices, each with all frames as window.
+unfoldable pub threeDevices : List Device
+threeDevices = replicate 3 (deviceOf 0 7)
+
 unfoldable pub sixPages : Mode → State
-sixPages mode = stateOf 6 8 2 (1 ∷ 2 ∷ replicate 14 0) mode
+sixPages mode = stateOf 6 8 2 (1 ∷ 2 ∷ replicate 14 0) mode 3
 
 -- A guard of that policy in a mode, with these shadow entries; map and vector as the start leaves them.
 unfoldable pub with6 : Mode → List ℕ → Guard
@@ -72,12 +79,12 @@ stays g call reply = row (answer g call) (outcome reply g)
 
 -- The started guard with a state of these V, F and e, these entry pages and this mode.
 unfoldable pub inState : ℕ → ℕ → ℕ → List ℕ → Mode → Guard
-inState pages frames entryCount entryPages mode = guardOf (stateOf pages frames entryCount entryPages mode) (started6 .tables)
+inState pages frames entryCount entryPages mode = guardOf (stateOf pages frames entryCount entryPages mode 3) (started6 .tables)
 
 -- A guard of so many pages, none present.
 unfoldable pub manyPages : ℕ → Guard
 manyPages pages =
-    guardOf (stateOf pages 8 1 (replicate 16 0) (Kernel 0))
+    guardOf (stateOf pages 8 1 (replicate 16 0) (Kernel 0) 1)
     (record { shadow = replicate pages 0; map = []; exclusion = [] })
 
 -- A guard of that policy in a mode, whose tables hold zeros and have these lengths.
@@ -128,7 +135,7 @@ startCases =
     -- Page 0 first, every page listed up to V - 1, frame F - 1, and a vector of two bytes.
     ∷ row (startOn everyPage 3 3 2)
     (outcome (accepted 3 1)
-    (guardOf (stateOf 3 9 1 (replicate 16 0) (Kernel 0))
+    (guardOf (stateOf 3 9 1 (replicate 16 0) (Kernel 0) 3)
     (record { shadow = 0x8401 ∷ 0x401 ∷ 0x8401 ∷ []; map = 8 ∷ 0 ∷ 8 ∷ []; exclusion = 1 ∷ 1 ∷ [] })))
     -- 1 to 7, each with all before it yes
     ∷ row (startOn (6 ∷ 0 ∷ 8 ∷ 0 ∷ 3 ∷ 0 ∷ 2 ∷ []) 6 6 1) (startRefused 1 6 6 1)
@@ -314,7 +321,7 @@ orderCases =
     ∷ stays (with6 (Kernel 6) shadow6) (write 0 1) (refused 7)
     ∷ stays (with6 (User 6) left6) (enter 0) (refused 7)
     ∷ stays (with6 (Kernel 6) leaving) (leave 5) (refused 7)
-    ∷ stays (with6 (Kernel 6) shadow6) (deviceWrite 0 1) (refused 7)
+    ∷ stays (with6 (Kernel 6) shadow6) (deviceWrite threeDevices 2 0 1) (refused 7)
     ∷ stays (ofLengths (Kernel 1) 6 6 1) (syncPage (replicate 5 0) 0) (refused 7)
     ∷ stays (ofLengths (Kernel 1) 7 6 1) (syncPage (replicate 6 0) 0) (refused 7)
     ∷ stays (ofLengths (Kernel 1) 6 7 1) (syncPage (replicate 6 0) 0) (refused 7)
@@ -332,8 +339,8 @@ orderCases =
     ∷ stays (ofLengths (User 1) 6 0 0) (enter 0) (refused 11)
     ∷ stays (ofLengths (Kernel 1) 7 0 0) (leave 0) (refused 7)
     ∷ stays (ofLengths (Kernel 1) 6 0 0) (leave 0) (refused 11)
-    ∷ stays (ofLengths (Kernel 1) 0 0 2) (deviceWrite 0 1) (refused 7)
-    ∷ stays (ofLengths (Kernel 1) 0 0 1) (deviceWrite 0 1) (accepted 0 0)
+    ∷ stays (ofLengths (Kernel 1) 0 0 2) (deviceWrite threeDevices 2 0 1) (refused 7)
+    ∷ stays (ofLengths (Kernel 1) 0 0 1) (deviceWrite threeDevices 2 0 1) (accepted 0 0)
     ∷ []
 
 unfoldable pub accessCases : List Case
@@ -384,15 +391,15 @@ accessCases =
     ∷ stays started6 (write 24575 2) (refused 9)
     ∷ stays started6 (write 18446744073709551615 16) (refused 9)
     -- Device write: "all touched frames"; 8 before 9; sums are exact
-    ∷ stays started6 (deviceWrite 1 12287) (accepted 0 2)
-    ∷ stays started6 (deviceWrite 1 12288) (refused 13)
-    ∷ stays started6 (deviceWrite 16384 4097) (refused 13)
-    ∷ stays started6 (deviceWrite 20480 4097) (refused 13)
-    ∷ stays started6 (deviceWrite 8192 12288) (refused 13)
-    ∷ stays started6 (deviceWrite 32767 1) (accepted 7 7)
-    ∷ stays started6 (deviceWrite 0 0) (refused 8)
-    ∷ stays started6 (deviceWrite 0 1048577) (refused 8)
-    ∷ stays started6 (deviceWrite 18446744073709551615 1048576) (refused 9)
+    ∷ stays started6 (deviceWrite threeDevices 2 1 12287) (accepted 0 2)
+    ∷ stays started6 (deviceWrite threeDevices 2 1 12288) (refused 13)
+    ∷ stays started6 (deviceWrite threeDevices 2 16384 4097) (refused 13)
+    ∷ stays started6 (deviceWrite threeDevices 2 20480 4097) (refused 13)
+    ∷ stays started6 (deviceWrite threeDevices 2 8192 12288) (refused 13)
+    ∷ stays started6 (deviceWrite threeDevices 2 32767 1) (accepted 7 7)
+    ∷ stays started6 (deviceWrite threeDevices 2 0 0) (refused 8)
+    ∷ stays started6 (deviceWrite threeDevices 2 0 1048577) (refused 8)
+    ∷ stays started6 (deviceWrite threeDevices 2 18446744073709551615 1048576) (refused 9)
     ∷ []
 
 unfoldable pub switchCases : List Case

@@ -79,11 +79,11 @@ unfoldable pub modeOf : Bool → ℕ → Mode
 modeOf false page = Kernel page
 modeOf true page = User page
 
--- A state by V, F, e, its sixteen entry pages and its mode.
-abbrev pub stateOf : ℕ → ℕ → ℕ → List ℕ → Mode → State
-stateOf pages frames entryCount entryPages mode =
-    record { pages = pages; frames = frames; «entry_count» = entryCount; «entry_pages» = entryPages; mode = mode }
+-- A state by V, F, e, its sixteen entry pages, its mode and its number of devices (K5).
+abbrev pub stateOf : ℕ → ℕ → ℕ → List ℕ → Mode → ℕ → State
+stateOf pages frames entryCount entryPages mode devices =
+    record { pages = pages; frames = frames; «entry_count» = entryCount; «entry_pages» = entryPages; mode = mode; devices = devices }
 
 -- The state with another mode.
 unfoldable pub inMode : State → Mode → State
-inMode s m = stateOf (s .pages) (s .frames) (s .«entry_count») (s .«entry_pages») m
+inMode s m = stateOf (s .pages) (s .frames) (s .«entry_count») (s .«entry_pages») m (s .devices)

@@ -6,6 +6,7 @@ pub mod Keeps
 pub mod Policy
 pub mod Bits
 pub mod Tree
+pub mod Devices
 pub mod Sync
 pub mod Switch
 pub mod Calls
@@ -13,6 +14,7 @@ pub mod Questions
 pub mod Record
 pub mod Walks
 pub mod Cache
+pub mod Windows
 pub mod OnePage
 pub mod Claim
 pub mod Drill
@@ -21,5 +23,6 @@ pub mod Further
 pub mod Orders
 pub mod RecordCases
 pub mod TreeCases
+pub mod DeviceCases
 pub mod Worked
 pub mod DrillCases

@@ -87,11 +87,11 @@ news policy p (fetch page) = nothing
 news policy p (write address length) = nothing
 news policy p (enter index) = entered
 news policy p (leave page) = exited
-news policy p (deviceWrite address length) = nothing
+news policy p (deviceWrite devices device address size) = nothing
 
 -- What the questions look at, made of the policy and the one-page guards. They were all told the same switches, so that the mode, and the
 -- excluded frames, are read off page 0's. "the state and guard tables pass question 7". "Only what else a later request asks about is read from
--- the state and tables that reach the call": the last guard argument, of which the base reads nothing.
+-- the state and tables that reach the call": the number of devices (K5).
 abbrev pub seenBy : Policy → (ℕ → Page) → Guard → View
 seenBy policy ps reaching =
     record {
@@ -99,6 +99,7 @@ seenBy policy ps reaching =
       frames = policy .frames;
       entryCount = policy .entryCount;
       entryPage = λ i. getD (entryPages policy) i 0;
+      devices = reaching .state .devices;
       user = (ps 0) .user;
       shadow = λ p. (ps p) .entry;
       approval = λ p. (ps p) .approval;

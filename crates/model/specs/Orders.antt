@@ -6,9 +6,10 @@ use lib.ListN.{replicate, set}
 use Rattle.model.specs.declared.Mode.{Mode}
 use Rattle.model.specs.declared.Mode.the-variants.{Kernel, User}
 use Rattle.model.specs.Keeps.{Guard, guardOf}
+use Rattle.model.specs.Devices.{deviceOf}
 use Rattle.model.specs.Calls.{refused, syncPage, fetch, write, enter, leave, deviceWrite}
 use Rattle.model.specs.Cases.{Case, row}
-use Rattle.model.specs.Further.{twoEntries, startOn, startRefused, sixPages, with6, shadow6, started6, at0, stays, left6}
+use Rattle.model.specs.Further.{threeDevices, twoEntries, startOn, startRefused, sixPages, with6, shadow6, started6, at0, stays, left6}
 
 -- A guard in a mode with these shadow entries and an exclusion vector that is a byte too long. A shadow table of five entries is one too short.
 unfoldable pub misfit : Mode → List ℕ → Guard
@@ -57,8 +58,10 @@ callOrder =
     ∷ stays (with6 (User 5) left6) (leave 6) (refused 9)
     ∷ stays (with6 (User 5) left6) (leave 0) (refused 10)
     ∷ stays started6 (leave 0) (refused 11)
-    -- Device write, 7 to 13: 1,048,577 bytes from the excluded frame 5 on; then 8 to 13, 9 and 13.
-    ∷ stays (misfit (Kernel 1) shadow6) (deviceWrite 20480 1048577) (refused 7)
-    ∷ stays started6 (deviceWrite 20480 1048577) (refused 8)
-    ∷ stays started6 (deviceWrite 20480 1048576) (refused 9)
+    -- Device write, 7, 8, 18, 9, 19, 13: 1,048,577 bytes by device 3 of 3 from the excluded frame 5 on; then 8 to 13, 18 to 13, 9 to 13, 19 and 13.
+    ∷ stays (misfit (Kernel 1) shadow6) (deviceWrite threeDevices 3 20480 1048577) (refused 7)
+    ∷ stays started6 (deviceWrite threeDevices 3 20480 1048577) (refused 8)
+    ∷ stays started6 (deviceWrite threeDevices 3 20480 1048576) (refused 18)
+    ∷ stays started6 (deviceWrite (replicate 3 (deviceOf 0 4)) 2 20480 1048576) (refused 9)
+    ∷ stays started6 (deviceWrite (replicate 3 (deviceOf 0 4)) 2 20480 1) (refused 19)
     ∷ []

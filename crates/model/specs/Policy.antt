@@ -10,11 +10,12 @@ use Rattle.model.specs.Basics.{table, member}
 use Rattle.model.specs.Keeps.{none, Tables, Guard, guardOf, vectorOf, stateOf}
 use Rattle.model.specs.Bits.{approved}
 
--- What the start is given beside the policy record: nothing so far.
+-- What the start is given beside the policy record: "the number of devices, 1 to 64, which the start is given" (K5).
 pub record Givens : Type 0 where
+  pub devices : ℕ
 
-abbrev pub nothingGiven : Givens
-nothingGiven = record {}
+abbrev pub givenOf : ℕ → Givens
+givenOf devices = record { devices = devices }
 
 pub record Policy : Type 0 where
   -- V
@@ -76,7 +77,7 @@ entryPages policy = table 16 (λ i. cond (ltb i (policy .entryCount)) (getD (pol
 -- "stands in kernel mode on the first entry page"
 unfoldable pub startState : Givens → Policy → State
 startState given policy =
-    stateOf (policy .pages) (policy .frames) (policy .entryCount) (entryPages policy) (Kernel (getD (policy .listedPages) 0 0))
+    stateOf (policy .pages) (policy .frames) (policy .entryCount) (entryPages policy) (Kernel (getD (policy .listedPages) 0 0)) (given .devices)
 
 -- "An accepted start sets the map and exclusion bits from the arrays, every other map place to 65535 and every other exclusion bit to 0,
 -- makes the shadow entry of each listed page an approved one, zeroes the others, and stands in kernel mode on the first entry page."
@@ -93,4 +94,4 @@ startGuard given policy = guardOf (startState given policy) (startTables policy)
 
 -- "A refused start, which has no state to keep, answers a state of zeros in user mode on page 0."
 unfoldable pub zeroState : State
-zeroState = stateOf 0 0 0 (table 16 (λ i. 0)) (User 0)
+zeroState = stateOf 0 0 0 (table 16 (λ i. 0)) (User 0) 0

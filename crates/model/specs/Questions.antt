@@ -5,11 +5,13 @@ use mathlib.Core.List.{List, [], _∷_, _++_}
 use lib.ListN.{length, getD}
 use lib.Dec.{leb, ltb, eqb}
 use Rattle.model.specs.declared.State.{State}
+use Rattle.model.specs.declared.Device.{Device}
 use Rattle.model.specs.Basics.{both, either, within, everyFrom}
-use Rattle.model.specs.Edges.{pageBytes, pagesInRange, framesInRange, lastByte, lastPage, touched}
+use Rattle.model.specs.Edges.{pageBytes, pagesInRange, framesInRange, devicesInRange, lastByte, lastPage, touched}
 use Rattle.model.specs.Keeps.{none, Tables, Guard, vectorBytes, excludedIn, inUser, running}
 use Rattle.model.specs.Policy.{Policy, Givens}
 use Rattle.model.specs.Tree.{Tree, treeInOrder}
+use Rattle.model.specs.Devices.{inWindow}
 use Rattle.model.specs.Bits.{present, writable, userBit, noExecute, kernelNoExecute, approvedMark, frameOf}
 
 -- A question with its number, and whether its answer is yes.
@@ -32,6 +34,8 @@ pub record View : Type 0 where
   pub frames : ℕ
   pub entryCount : ℕ
   pub entryPage : ℕ → ℕ
+  -- how many devices there are (K5)
+  pub devices : ℕ
   -- user mode
   pub user : Bool
   -- the shadow entry and the approval of a page, and whether a frame is excluded
@@ -44,10 +48,11 @@ pub record View : Type 0 where
   pub mapFits : Bool
   pub exclusionFits : Bool
 
--- "7. Are the state's V, F within range, e from 1 to 16, the running page below V"
+-- "7. Are the state's V, F within range, e from 1 to 16, the running page below V"; K5: a number of devices outside its range gives "7 later".
 unfoldable pub stateInOrder : State → Bool
 stateInOrder s =
-    both (pagesInRange (s .pages)) (both (framesInRange (s .frames)) (both (within 1 16 (s .«entry_count»)) (ltb (running (s .mode)) (s .pages))))
+    both (pagesInRange (s .pages)) (both (framesInRange (s .frames))
+    (both (within 1 16 (s .«entry_count»)) (both (ltb (running (s .mode)) (s .pages)) (devicesInRange (s .devices)))))
 
 -- The guard's view. The questions of a call look only at the tables that it is lent.
 abbrev pub seen : Guard → View
@@ -57,6 +62,7 @@ seen g =
       frames = g .state .frames;
       entryCount = g .state .«entry_count»;
       entryPage = λ i. getD (g .state .«entry_pages») i 0;
+      devices = g .state .devices;
       user = inUser (g .state .mode);
       shadow = λ p. getD (g .tables .shadow) p 0;
       approval = λ p. getD (g .tables .map) p none;
@@ -104,9 +110,9 @@ policyQuestions long more exact policy =
     ∷ question 6 (allBelow (policy .frames) (policy .listedFrames))
     ∷ []
 
--- What else question 3 asks of what the start is given.
+-- What else question 3 asks, of what the start is given: "a number outside that gives 3 at the start" (K5).
 unfoldable pub givensInRange : Givens → Bool
-givensInRange given = true
+givensInRange given = devicesInRange (given .devices)
 
 -- They are asked of a record's bytes, with its policy and what the start is given.
 unfoldable pub recordQuestions : Givens → List ℕ → Policy → List Question
@@ -217,11 +223,15 @@ leaveQuestions v page =
     ∷ question 12 (leavePermitted (v .shadow page))
     ∷ []
 
--- Device write: "last transfer byte below F × 4,096"; the frames that it touches are numbered by its addresses.
-unfoldable pub deviceWriteQuestions : View → ℕ → ℕ → List Question
-deviceWriteQuestions v address length =
-    question 7 (inOrder (v .stateFits) (v .exclusionFits ∷ []))
-    ∷ question 8 (within 1 1048576 length)
-    ∷ question 9 (ltb (lastByte address length) (v .frames * pageBytes))
-    ∷ question 13 (everyTouched (free v) address length)
+-- Device write: "last transfer byte below F × 4,096"; the frames that it touches are numbered by its addresses. K5: "a list of another length gives
+-- 7", and it "refuses with 18, after 8, a device not in the list, and with 19, after 9, a transfer outside its window": of how long the list is, and
+-- the device's record in it.
+unfoldable pub deviceWriteQuestions : View → ℕ → Device → ℕ → ℕ → ℕ → List Question
+deviceWriteQuestions v listed d device address size =
+    question 7 (inOrder (v .stateFits) (v .exclusionFits ∷ eqb listed (v .devices) ∷ []))
+    ∷ question 8 (within 1 1048576 size)
+    ∷ question 18 (ltb device listed)
+    ∷ question 9 (ltb (lastByte address size) (v .frames * pageBytes))
+    ∷ question 19 (both (inWindow d (address / pageBytes)) (inWindow d (lastPage address size)))
+    ∷ question 13 (everyTouched (free v) address size)
     ∷ []

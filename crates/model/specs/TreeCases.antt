@@ -254,7 +254,7 @@ oneTable count entry = treeOf (replicate count entry) 0 1
 -- A guard of so many pages with these shadow entries, none approved, no frame excluded; and with entry 1 at each.
 unfoldable pub shadowed : ℕ → List ℕ → Guard
 shadowed pages shadow =
-    guardOf (stateOf pages 8 1 (replicate 16 0) (Kernel 0)) (tables shadow (replicate pages 65535) (0 ∷ []))
+    guardOf (stateOf pages 8 1 (replicate 16 0) (Kernel 0) 1) (tables shadow (replicate pages 65535) (0 ∷ []))
 
 unfoldable pub ones : ℕ → Guard
 ones pages = shadowed pages (replicate pages 1)

@@ -6,6 +6,7 @@ ghost use mathlib.Core.List.{_++_};
 ghost use Rattle.model.specs.Cache.{ApartYields, OrdinaryCarries, StepCarries, SwitchKeeps};
 ghost use Rattle.model.specs.Cases.{cases, Hold};
 ghost use Rattle.model.specs.Claim.{Claim};
+ghost use Rattle.model.specs.DeviceCases.{deviceCases, windowCases};
 ghost use Rattle.model.specs.Drill.{drillOutput};
 ghost use Rattle.model.specs.DrillCases.{drillCases, Limit};
 ghost use Rattle.model.specs.Further.{startCases, syncCases, orderCases, accessCases, switchCases, answerCases, apartCases, vectorCases};
@@ -14,6 +15,7 @@ ghost use Rattle.model.specs.Record.{WrittenStarts, WrittenAgain};
 ghost use Rattle.model.specs.RecordCases.{recordCases};
 ghost use Rattle.model.specs.TreeCases.{walkCases, walkRefusals, treeCases};
 ghost use Rattle.model.specs.Walks.{ReadsWithin, TreeAsFlat, TreeRefused};
+ghost use Rattle.model.specs.Windows.{WindowsApart, DevicesKept};
 ghost use Rattle.model.specs.Worked.{workedInput, workedOutput};
 
 // Document 01, "The guard and its edges": the size of a page in bytes, and the most that V and F may be.
@@ -36,6 +38,9 @@ pub const MOST_WRITTEN: u64 = 16;
 
 pub const MOST_TRANSFERRED: u64 = 1048576;
 
+// Document 02, K5: the most devices that a state may have.
+pub const MOST_DEVICES: usize = 64;
+
 // Document 01, "What the guard keeps": the mode, kernel or user, together with the page now running.
 pub enum Mode {
     Kernel(u16),
@@ -53,6 +58,15 @@ pub struct State {
     // The sixteen entry pages; unused ones are 0.
     pub entry_pages: [u16; ENTRY_PAGES],
     pub mode: Mode,
+    // K5: the number of devices, which the start is given.
+    pub devices: u16,
+}
+
+// Document 02, K5: "a list of devices, one record each, with first and last permitted frame". C lays it out as it stands.
+#[repr(C)]
+pub struct Device {
+    pub first: u16,
+    pub last: u16,
 }
 
 // Document 01, "Entry bits": the fields of a kernel entry that is present.
@@ -134,6 +148,16 @@ pub fn reads_within_depth()
 // Document 02, K4: "synchronising from a tree equals doing so from the flat table of its walks", or "it refuses with 17, after question 7".
 pub fn tree_as_flat()
     ensures { λ _. ⌜ TreeAsFlat × TreeRefused ⌝ }
+{}
+
+// Document 02, K5: the number of devices, and what a device write answers by its list.
+pub fn device_cases()
+    ensures { λ _. ⌜ Hold deviceCases × Hold windowCases ⌝ }
+{}
+
+// Document 02, K5: "Changing one device's window changes no answer given to another", and no call changes the number of devices.
+pub fn windows_apart()
+    ensures { λ _. ⌜ WindowsApart × DevicesKept ⌝ }
 {}
 
 // Document 01, the worked example: every byte of its output follows from the drill's definitions.

@@ -9,8 +9,8 @@ use lib.ListN.{length, getD, List·getD-eq-default}
 use native.Mathlib.Omega.{arith}
 use borrow.Author.Tests.{le-leb, lt-leb, eq-eqb, ne-eqb}
 use Rattle.model.specs.Basics.{both, within}
-use Rattle.model.specs.Edges.{pagesInRange, framesInRange}
-use Rattle.model.specs.Policy.{Policy, Givens, nothingGiven, numberAt, numbersAt, policyOf}
+use Rattle.model.specs.Edges.{pagesInRange, framesInRange, devicesInRange}
+use Rattle.model.specs.Policy.{Policy, Givens, numberAt, numbersAt, policyOf}
 use Rattle.model.specs.Questions.{Question, question, firstNo, sizesInRange, countsInRange, rising, allBelow, policyQuestions, givensInRange, recordQuestions, Lengths, lengthsFit, startQuestions}
 use Rattle.model.proofs.QuestionLaws.{both-true, firstNo-yes, firstNo-no, firstNo-front, firstNo-back, numbered}
 use Rattle.model.proofs.CallLaws.{passed, stopped, none-left}
@@ -62,11 +62,6 @@ module _ (bytes : List ℕ) (limit at left : ℕ) (whole : Bool) (e : allBelow l
     pub below-goes-on : not r ≡ false → allBelow limit (numbersAt bytes (at + 2) (left - 1)) ≡ whole
     below-goes-on h = sym (allBelow-more limit frame _ asks h) ∙ listed
 
--- Of nothing that is given, question 3 asks nothing.
-pub nothing-asked : givensInRange nothingGiven ≡ true
-unfolding givensInRange
-nothing-asked = refl
-
 -- Questions 1 to 6 in order, of a policy wherever it comes from, by the tests that the code makes.
 module _ (long more exact : Bool) (policy : Policy) where
   pub asked-1 : long ≡ false → 1 ≡ firstNo (policyQuestions long more exact policy)
@@ -113,8 +108,8 @@ module _ (long more exact : Bool) (policy : Policy) where
             unfolding policyQuestions
             asked-none h = past4 0 _ (passed 5 0 rises _ _ e5 h5 (passed 6 0 below _ _ e6 h none-left))
 
--- The same of a record, by the numbers that the code read. What else is given is in its range.
-module _ (given : Givens) (in-range : givensInRange given ≡ true) (bytes : List ℕ) where
+-- The same of a record, by the numbers that the code read.
+module _ (given : Givens) (bytes : List ℕ) where
   pub record-1 : length bytes < 8 → 1 ≡ firstNo (recordQuestions given bytes (policyOf bytes))
   unfolding recordQuestions
   record-1 h = asked-1 _ _ _ (policyOf bytes) (lt-leb 8 (length bytes) h)
@@ -132,11 +127,12 @@ module _ (given : Givens) (in-range : givensInRange given ≡ true) (bytes : Lis
     unfolding recordQuestions
     record-2 h = asked-2 _ _ _ (policyOf bytes) long sizes is2 h
 
-    module _ (h2 : not sizes ≡ false) (count entries : ℕ) (eN : count ≡ numberAt bytes 4) (eE : entries ≡ numberAt bytes 6) (counts : Bool)
-        (e3 : counts ≡ both (within 1 pages count) (within 1 (min count 16) entries)) where
+    module _ (h2 : not sizes ≡ false) (count entries : ℕ) (eN : count ≡ numberAt bytes 4) (eE : entries ≡ numberAt bytes 6) (numbers more counts : Bool)
+        (eC : numbers ≡ both (within 1 pages count) (within 1 (min count 16) entries)) (eG : more ≡ devicesInRange (given .devices))
+        (e3 : counts ≡ both numbers more) where
       is3 : counts ≡ both (countsInRange (policyOf bytes)) (givensInRange given)
-      unfolding countsInRange policyOf
-      is3 = rw (← eV, ← eN, ← eE, in-range) (e3 ∙ sym (both-true _))
+      unfolding countsInRange givensInRange policyOf
+      is3 = rw (← eV, ← eN, ← eE) (e3 ∙ rw (eC, eG) refl)
 
       pub record-3 : not counts ≡ true → 3 ≡ firstNo (recordQuestions given bytes (policyOf bytes))
       unfolding recordQuestions

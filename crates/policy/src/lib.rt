@@ -8,7 +8,7 @@ ghost use lib.Dec.{leb, ltb};
 ghost use lib.ListN.{length};
 ghost use Rattle.model.specs.Basics.{both, within};
 ghost use Rattle.model.specs.Edges.{pagesInRange, framesInRange};
-ghost use Rattle.model.specs.Policy.{nothingGiven, numberAt, numbersAt, policyOf};
+ghost use Rattle.model.specs.Policy.{givenOf, numberAt, numbersAt, policyOf};
 ghost use Rattle.model.specs.Questions.{firstNo, rising, allBelow, recordQuestions};
 
 // Two bytes as a number, the lower one first.
@@ -161,9 +161,9 @@ fn frames_below(bytes: &[u8], frames: u16, count: u16) -> bool
     true
 }
 
-// The first no among questions 1 to 6, or 0.
-pub fn record_question(bytes: &[u8]) -> u64
-    ensures { λ r. ⌜ r ≡ firstNo (recordQuestions nothingGiven (now (bytes .entry)) (policyOf (now (bytes .entry)))) ⌝ }
+// The first no among questions 1 to 6, or 0, where the start is given so many devices (K5).
+pub fn record_question(bytes: &[u8], devices: u64) -> u64
+    ensures { λ r. ⌜ r ≡ firstNo (recordQuestions (givenOf devices) (now (bytes .entry)) (policyOf (now (bytes .entry)))) ⌝ }
 {
     if bytes.len() < 8 {
         return 1;
@@ -175,7 +175,8 @@ pub fn record_question(bytes: &[u8]) -> u64
     }
     let count = number_from(bytes, 4);
     let entry_count = number_from(bytes, 6);
-    if !counts_in_range(pages as u64, count as u64, entry_count as u64) {
+    let counts = counts_in_range(pages as u64, count as u64, entry_count as u64);
+    if !questions::both(counts, questions::devices_in_range(devices)) {
         return 3;
     }
     if bytes.len() != 8 + 4 * count as usize {

@@ -10,13 +10,14 @@ ghost use lib.ListN.{getD};
 ghost use Rattle.model.specs.declared.Answer.the-variants.{Refused};
 ghost use Rattle.model.specs.Basics;
 ghost use Rattle.model.specs.Basics.{within};
-ghost use Rattle.model.specs.Edges.{pageBytes, pagesInRange, framesInRange, lastByte, lastPage};
+ghost use Rattle.model.specs.Edges.{pageBytes, pagesInRange, framesInRange, devicesInRange, lastByte, lastPage};
 ghost use Rattle.model.specs.Keeps;
 ghost use Rattle.model.specs.Keeps.{vectorBytes, inUser, modeOf, inMode};
 ghost use Rattle.model.specs.Questions.{stateInOrder, inOrder};
 use model::Answer;
 use model::Called;
 use model::ENTRY_PAGES;
+use model::MOST_DEVICES;
 use model::MOST_FRAMES;
 use model::MOST_PAGES;
 use model::MOST_TRANSFERRED;
@@ -67,6 +68,7 @@ pub fn in_mode(s: State, m: Mode) -> State
         entry_count: s.entry_count,
         entry_pages,
         mode: m,
+        devices: s.devices,
     }
 }
 
@@ -115,15 +117,26 @@ pub fn entry_count_in_range(count: u64) -> bool
     in_range(1, ENTRY_PAGES as u64, count)
 }
 
+// The number of devices (K5), as the start may be given it and a state may have it.
+pub fn devices_in_range(count: u64) -> bool
+    ensures { λ r. ⌜ r ≡ devicesInRange count ⌝ }
+{
+    in_range(1, MOST_DEVICES as u64, count)
+}
+
 pub fn state_in_order(s: State) -> bool
     ensures { λ r. ⌜ r ≡ stateInOrder s ⌝ }
 {
     let mode = s.mode;
     let entries = entry_count_in_range(s.entry_count as u64);
     let exists = running(mode) < s.pages;
+    let devices = devices_in_range(s.devices as u64);
     both(
         pages_in_range(s.pages as u64),
-        both(frames_in_range(s.frames as u64), both(entries, exists)),
+        both(
+            frames_in_range(s.frames as u64),
+            both(entries, both(exists, devices)),
+        ),
     )
 }
 
@@ -134,7 +147,7 @@ pub fn vector_bytes(frames: u16) -> usize
     (frames as usize + 7) / 8
 }
 
-// A table with an entry for each page.
+// A table with an entry for each page, or a list with a record for each device.
 pub fn entries_fit(length: usize, pages: u16) -> bool
     ensures { λ r. ⌜ r ≡ eqb length pages ⌝ }
 {
@@ -199,11 +212,14 @@ pub fn write_in_order(s: State, shadow: usize, exclusion: usize) -> bool
     )
 }
 
-// Question 7 of a device write.
-pub fn device_write_in_order(s: State, exclusion: usize) -> bool
-    ensures { λ r. ⌜ r ≡ inOrder (stateInOrder s) (eqb exclusion (vectorBytes (s .frames)) ∷ []) ⌝ }
+// Question 7 of a device write, which is lent a list of devices too.
+pub fn device_write_in_order(s: State, exclusion: usize, listed: usize) -> bool
+    ensures { λ r. ⌜ r ≡ inOrder (stateInOrder s) (eqb exclusion (vectorBytes (s .frames)) ∷ eqb listed (s .devices) ∷ []) ⌝ }
 {
-    both(vector_fits(exclusion, s.frames), state_in_order(s))
+    both(
+        vector_fits(exclusion, s.frames),
+        both(entries_fit(listed, s.devices), state_in_order(s)),
+    )
 }
 
 // Question 8.

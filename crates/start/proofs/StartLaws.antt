@@ -10,27 +10,28 @@ use borrow.Author.Tests.{not-true, not-false}
 use Rattle.model.specs.declared.Called.{Called}
 use Rattle.model.specs.declared.Answer.the-variants.{Done}
 use Rattle.model.specs.declared.Mode.the-variants.{Kernel}
+use Rattle.model.specs.Edges.{devicesInRange}
 use Rattle.model.specs.Keeps.{Tables, tables, vectorBytes}
 use Rattle.model.specs.Policy.{Givens, numberAt, policyOf, startState, startTables, startGuard}
-use Rattle.model.specs.Questions.{firstNo, allBelow, inOrder, recordQuestions, Lengths, lengthsOf, lengthsFit, startQuestions}
+use Rattle.model.specs.Questions.{firstNo, allBelow, inOrder, givensInRange, recordQuestions, Lengths, lengthsOf, lengthsFit, startQuestions}
 use Rattle.model.specs.Calls.{replyOf, outcomeBy, startOf}
-use Rattle.model.proofs.QuestionLaws.{settle-accepted}
+use Rattle.model.proofs.QuestionLaws.{settle-accepted, within-high}
 use Rattle.model.proofs.CallLaws.{settle-refused-by}
-use Rattle.model.proofs.PolicyLaws.{allBelow-wider, Passed, Fitting, start-record, start-passed, start-fitting, record-length}
+use Rattle.model.proofs.PolicyLaws.{allBelow-wider, Passed, Fitting, start-record, start-passed, start-given, start-fitting, record-length}
 use Rattle.policy.proofs.RecordLaws.{start-refused, start-asked}
 use Rattle.start.specs.Start.{refusedStart, acceptedStart, entryTable, withEach}
 use Rattle.start.proofs.TablesSet.{entries-are, first-is, each-length}
 
 -- The answer of an accepted start, made of the numbers that were read.
-pub accepted-is : (given : Givens) (bytes : List ℕ) (count entries pages frames first : ℕ) (entry : List ℕ) → count ≡ numberAt bytes 4 → entries ≡ numberAt bytes 6
+pub accepted-is : (given : Givens) (bytes : List ℕ) (count entries pages frames first devices : ℕ) (entry : List ℕ) → count ≡ numberAt bytes 4 → entries ≡ numberAt bytes 6
     → entry ≡ entryTable bytes entries → pages ≡ numberAt bytes 0 → frames ≡ numberAt bytes 2 → first ≡ numberAt bytes 8
-    → policyOf bytes .entryCount ≤ policyOf bytes .count → 1 ≤ policyOf bytes .count
+    → policyOf bytes .entryCount ≤ policyOf bytes .count → 1 ≤ policyOf bytes .count → devices ≡ given .devices
     → _≡_ {A = Called}
-    (record { answer = Done count entries; state = record { pages = pages; frames = frames; «entry_count» = entries; «entry_pages» = entry; mode = Kernel first } })
+    (record { answer = Done count entries; state = record { pages = pages; frames = frames; «entry_count» = entries; «entry_pages» = entry; mode = Kernel first; devices = devices } })
     (acceptedStart given bytes)
 unfolding acceptedStart startState policyOf
-accepted-is given bytes count entries pages frames first entry n e t v f p listed some =
-    rw (t, entries-are bytes entries e listed, n, e, v, f, p, first-is bytes some) refl
+accepted-is given bytes count entries pages frames first devices entry n e t v f p listed some d =
+    rw (t, entries-are bytes entries e listed, n, e, v, f, p, first-is bytes some, d) refl
 
 -- The buffer is as long as every vector, whatever it began with.
 pub buffer-room : (frames n v : ℕ) (fs buffer : List ℕ) → n ≡ vectorBytes frames → frames ≤ 4096 → buffer ≡ withEach fs (replicate 512 v) → n ≤ length buffer
@@ -83,8 +84,15 @@ module _ (given : Givens) (bytes : List ℕ) (l : Lengths) (question : ℕ) (ask
   vector-ready = (long, fitting .exclusion, passed .frames-high, frames-small)
 
   pub answer-ready : (length bytes ≡ 8 + 4 * policyOf bytes .count) × (policyOf bytes .entryCount ≤ 16)
-      × (policyOf bytes .entryCount ≤ policyOf bytes .count) × (1 ≤ policyOf bytes .count)
-  answer-ready = (long, passed .entry-count-high, passed .entry-count-listed, passed .count-low)
+      × (policyOf bytes .entryCount ≤ policyOf bytes .count) × (1 ≤ policyOf bytes .count) × (given .devices ≤ 64)
+  unfolding givensInRange devicesInRange
+  answer-ready = (
+    long,
+    passed .entry-count-high,
+    passed .entry-count-listed,
+    passed .count-low,
+    within-high 1 64 (given .devices) (start-given given bytes (policyOf bytes) l (sym asked ∙ none)),
+  )
 
 -- The two answers. A refused start leaves the tables as they were.
 module _ (given : Givens) (bytes : List ℕ) (t : Tables) (question : ℕ) (r : Called)

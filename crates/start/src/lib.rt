@@ -6,7 +6,7 @@ ghost use mathlib.Core.Bool.{true};
 ghost use Prim.Native.Nat.{_+_, _*_, _≤_};
 ghost use lib.ListN.{length, take, replicate};
 ghost use Rattle.model.specs.Keeps.{none, tables, vectorBytes};
-ghost use Rattle.model.specs.Policy.{nothingGiven, numbersAt, policyOf, startTables};
+ghost use Rattle.model.specs.Policy.{givenOf, numbersAt, policyOf, startTables};
 ghost use Rattle.model.specs.Questions.{firstNo, allBelow, lengths, startQuestions};
 ghost use Rattle.model.specs.Calls.{outcomeBy, startOf};
 ghost use Rattle.start.specs.Start.{refusedStart, acceptedStart, storedEach, approvedEach, withEach, entryTable};
@@ -144,15 +144,16 @@ fn refused_start(number: u64) -> Called
             entry_count: 0,
             entry_pages: [0u16; ENTRY_PAGES],
             mode: Mode::User(0),
+            devices: 0,
         },
     }
 }
 
 // An accepted start stands in kernel mode on the first entry page. Questions 3 and 4 have shown what is required.
-fn accepted_start(bytes: &[u8]) -> Called
+fn accepted_start(bytes: &[u8], devices: u64) -> Called
     requires { ⌜ (length (now bytes) ≡ 8 + 4 * policyOf (now bytes) .count) × (policyOf (now bytes) .entryCount ≤ 16)
-        × (policyOf (now bytes) .entryCount ≤ policyOf (now bytes) .count) × (1 ≤ policyOf (now bytes) .count) ⌝ }
-    ensures { λ r. ⌜ r ≡ acceptedStart nothingGiven (now (bytes .entry)) ⌝ }
+        × (policyOf (now bytes) .entryCount ≤ policyOf (now bytes) .count) × (1 ≤ policyOf (now bytes) .count) × (devices ≤ 64) ⌝ }
+    ensures { λ r. ⌜ r ≡ acceptedStart (givenOf devices) (now (bytes .entry)) ⌝ }
 {
     let count = policy::number_from(bytes, 4);
     let entry_count = policy::number_from(bytes, 6);
@@ -165,15 +166,16 @@ fn accepted_start(bytes: &[u8]) -> Called
             entry_count,
             entry_pages: pages,
             mode: Mode::Kernel(policy::number_from(bytes, PAGES)),
+            devices: devices as u16,
         },
     }
 }
 
 // The first no of the start's questions, or 0. Its arguments are the lengths of the tables. Past the record's questions V and F are there.
-fn start_question(bytes: &[u8], shadow: usize, map: usize, exclusion: usize) -> u64
-    ensures { λ r. ⌜ r ≡ firstNo (startQuestions nothingGiven (now (bytes .entry)) (policyOf (now (bytes .entry))) (lengths shadow map exclusion)) ⌝ }
+fn start_question(bytes: &[u8], devices: u64, shadow: usize, map: usize, exclusion: usize) -> u64
+    ensures { λ r. ⌜ r ≡ firstNo (startQuestions (givenOf devices) (now (bytes .entry)) (policyOf (now (bytes .entry))) (lengths shadow map exclusion)) ⌝ }
 {
-    let question = policy::record_question(bytes);
+    let question = policy::record_question(bytes, devices);
     if question != 0 {
         return question;
     }
@@ -185,15 +187,21 @@ fn start_question(bytes: &[u8], shadow: usize, map: usize, exclusion: usize) -> 
     0
 }
 
-pub fn start(bytes: &[u8], shadow: &mut [u64], map: &mut [u16], exclusion: &mut [u8]) -> Called
+pub fn start(
+    bytes: &[u8],
+    devices: u64,
+    shadow: &mut [u64],
+    map: &mut [u16],
+    exclusion: &mut [u8],
+) -> Called
     ensures { λ r. ⌜ outcomeBy r (tables (now (shadow .exit)) (now (map .exit)) (now (exclusion .exit)))
-        ≡ startOf nothingGiven (now (bytes .entry)) (tables (now (shadow .entry)) (now (map .entry)) (now (exclusion .entry))) ⌝ }
+        ≡ startOf (givenOf devices) (now (bytes .entry)) (tables (now (shadow .entry)) (now (map .entry)) (now (exclusion .entry))) ⌝ }
 {
-    let refusal = start_question(bytes, shadow.len(), map.len(), exclusion.len());
+    let refusal = start_question(bytes, devices, shadow.len(), map.len(), exclusion.len());
     if refusal != 0 {
         return refused_start(refusal);
     }
     set_pages(bytes, shadow, map);
     set_vector(bytes, exclusion);
-    accepted_start(bytes)
+    accepted_start(bytes, devices)
 }

@@ -4,7 +4,7 @@ use mathlib.Core.Bool.{Bool, true, false, not}
 use mathlib.Core.List.{List, [], _∷_}
 use mathlib.Core.Path.{_≡_, refl, sym, _∙_}
 use lib.Dec.{ltb, eqb}
-use lib.ListN.{length, getD, set}
+use lib.ListN.{length, getD, set, replicate}
 use lib.Seq.{set-out}
 use native.Mathlib.Omega.{arith}
 use borrow.Author.Tests.{not-true, not-false, eq-eqb, ne-eqb, lt-ltb, le-ltb, ltb-true}
@@ -12,15 +12,17 @@ use Rattle.model.specs.declared.State.{State}
 use Rattle.model.specs.declared.Answer.{Answer}
 use Rattle.model.specs.declared.Answer.the-variants.{Done, Refused}
 use Rattle.model.specs.declared.Called.{Called}
+use Rattle.model.specs.declared.Device.{Device}
 use Rattle.lines.specs.declared.Line.{Line}
 use Rattle.lines.specs.Text.{text}
 use Rattle.model.specs.Basics.{within}
 use Rattle.model.specs.Edges.{pagesInRange, framesInRange}
 use Rattle.model.specs.Keeps.{Tables, Guard, guardOf, vectorBytes}
+use Rattle.model.specs.Devices.{deviceOf}
 use Rattle.model.specs.Policy.{policyOf, numberAt}
 use Rattle.model.specs.Questions.{firstNo}
 use Rattle.model.specs.Calls.{Outcome, refused, replyOf, outcomeBy, settle, answer}
-use Rattle.model.specs.Drill.{policyExtent, kindOf, indexOf, lengthOf, valueOf, edited, callOf, withGuard, performed, line, startLine, turnOf, turn}
+use Rattle.model.specs.Drill.{policyExtent, windowsOf, kindOf, indexOf, lengthOf, valueOf, edited, callOf, withGuard, performed, line, startLine, turnOf, turn}
 use Rattle.model.proofs.QuestionLaws.{within-high}
 use Rattle.turns.specs.declared.TurnResult.{TurnResult}
 use Rattle.turns.specs.Turns.{drillOf, editedBy, performedBy, turnBy, openingOf, openedBy, pagesLent, bytesLent, goesOn, leftAfter}
@@ -62,6 +64,11 @@ bytes-bounded frames f p h = let q : frames ≤ 4096 = within-high 1 4096 frames
 pub bytes-none : {frames : ℕ} {t : Bool} (bytes : List ℕ) → frames ≡ numberAt bytes 2 → t ≡ framesInRange frames → t ≡ false → 0 ≡ bytesLent bytes
 unfolding bytesLent policyOf
 bytes-none bytes e f p = rw (← e, ← f, p)
+
+-- The drill's windows end at F - 1.
+pub windows-are : (frames last : ℕ) → last ≡ frames - 1 → replicate 64 (deviceOf 0 last) ≡ windowsOf frames
+unfolding windowsOf
+windows-are frames last e = rw e refl
 
 -- Whether a call was accepted, by its answer.
 pub refused-by : {r : Answer} (n : ℕ) → r ≡ Refused n → eqb n 0 ≡ eqb (replyOf r .number) 0
@@ -107,62 +114,62 @@ value-is call e f g h p q = omega arith
 
 -- An edit: of a page that does not exist, of one that the kernel table has, and of one past its end.
 pub edit-refused : {t : Bool} (page pages value : ℕ) (kernel : List ℕ) → t ≡ ltb page pages → not t ≡ true
-    → (g : Guard) → g .state .pages ≡ pages → editedBy (Refused 9) (drillOf g kernel) ≡ edited (drillOf g kernel) page value
+    → (g : Guard) (devices : List Device) → g .state .pages ≡ pages → editedBy (Refused 9) (drillOf g kernel devices) ≡ edited (drillOf g kernel devices) page value
 unfolding edited editedBy replyOf firstNo settle
-edit-refused {t} page pages value kernel e p g h = rw (h, ← e, not-true t p)
+edit-refused {t} page pages value kernel e p g devices h = rw (h, ← e, not-true t p)
 
 pub edit-done : {t : Bool} (page pages value : ℕ) (kernel : List ℕ) → t ≡ ltb page pages → not t ≡ false
-    → (g : Guard) → g .state .pages ≡ pages → editedBy (Done 0 0) (drillOf g (set kernel page value)) ≡ edited (drillOf g kernel) page value
+    → (g : Guard) (devices : List Device) → g .state .pages ≡ pages → editedBy (Done 0 0) (drillOf g (set kernel page value) devices) ≡ edited (drillOf g kernel devices) page value
 unfolding edited editedBy replyOf firstNo settle
-edit-done {t} page pages value kernel e p g h = rw (h, ← e, not-false t p)
+edit-done {t} page pages value kernel e p g devices h = rw (h, ← e, not-false t p)
 
 pub edit-past : {t : Bool} (page pages value : ℕ) (kernel : List ℕ) → t ≡ ltb page pages → not t ≡ false → length kernel ≤ page
-    → (g : Guard) → g .state .pages ≡ pages → editedBy (Done 0 0) (drillOf g kernel) ≡ edited (drillOf g kernel) page value
-edit-past page pages value kernel e p q g h = rw (set-out kernel page value q) at (edit-done page pages value kernel e p g h)
+    → (g : Guard) (devices : List Device) → g .state .pages ≡ pages → editedBy (Done 0 0) (drillOf g kernel devices) ≡ edited (drillOf g kernel devices) page value
+edit-past page pages value kernel e p q g devices h = rw (set-out kernel page value q) at (edit-done page pages value kernel e p g devices h)
 
 -- The call of a kind: an edit, and a guard's call.
-module _ (s : State) (kernel : List ℕ) (t : Tables) (kind index length value : ℕ) where
+module _ (s : State) (kernel : List ℕ) (devices : List Device) (t : Tables) (kind index length value : ℕ) where
   pub edit-performed : (r : Answer) (kernel′ : List ℕ) → kind ≡ 0
-      → ((g : Guard) → g .state .pages ≡ s .pages → editedBy r (drillOf g kernel′) ≡ edited (drillOf g kernel) index value)
-      → performedBy (record { answer = r; state = s }) kernel′ t
-      ≡ performed (drillOf (guardOf s t) kernel) kind index length value
+      → ((g : Guard) (devices : List Device) → g .state .pages ≡ s .pages → editedBy r (drillOf g kernel′ devices) ≡ edited (drillOf g kernel devices) index value)
+      → performedBy (record { answer = r; state = s }) kernel′ devices t
+      ≡ performed (drillOf (guardOf s t) kernel devices) kind index length value
   unfolding performed performedBy editedBy
-  edit-performed r kernel′ p h = rw p (h (guardOf s t) refl)
+  edit-performed r kernel′ p h = rw p (h (guardOf s t) devices refl)
 
   pub call-performed : (r : Called) (t′ : Tables) → (kind ≡ 0 → ⊥)
-      → outcomeBy r t′ ≡ answer (guardOf s t) (callOf kernel kind index length value)
-      → performedBy r kernel t′ ≡ performed (drillOf (guardOf s t) kernel) kind index length value
+      → outcomeBy r t′ ≡ answer (guardOf s t) (callOf kernel devices kind index length value)
+      → performedBy r kernel devices t′ ≡ performed (drillOf (guardOf s t) kernel devices) kind index length value
   unfolding performed performedBy outcomeBy withGuard
   call-performed r t′ p e = rw (ne-eqb kind 0 p, ← e)
 
 -- A turn: of no bytes, of too few or too many, of no kind, and of a call.
-module _ (s : State) (kernel : List ℕ) (t : Tables) where
+module _ (s : State) (kernel : List ℕ) (devices : List Device) (t : Tables) where
   pub turn-none : (call : List ℕ) (l : Line) → length call ≡ 0 → text l ≡ []
-      → turnBy (record { state = s; line = l; goes = false }) kernel t ≡ turn (drillOf (guardOf s t) kernel) call
+      → turnBy (record { state = s; line = l; goes = false }) kernel devices t ≡ turn (drillOf (guardOf s t) kernel devices) call
   unfolding turn turnBy
   turn-none [] l p e = rw e
   turn-none (kind ∷ rest) l p e = absurd (let q : ⊥ = omega arith in q)
 
   pub turn-cut : (call : List ℕ) (r : TurnResult) → (length call ≡ 0 → ⊥) → (length call ≡ 16 → ⊥) → r .state ≡ s
       → text (r .line) ≡ line 88 (refused 14) (s .mode) → r .goes ≡ false
-      → turnBy r kernel t ≡ turn (drillOf (guardOf s t) kernel) call
+      → turnBy r kernel devices t ≡ turn (drillOf (guardOf s t) kernel devices) call
   unfolding turn turnBy kindOf firstNo settle
   turn-cut [] r p q e f g = absurd (p refl)
   turn-cut (kind ∷ rest) r p q e f g = rw (e, f, g, ne-eqb (length (kind ∷ rest)) 16 q)
 
   pub turn-unknown : (call : List ℕ) (r : TurnResult) → (length call ≡ 0 → ⊥) → length call ≡ 16 → 7 < getD call 0 0 → r .state ≡ s
       → text (r .line) ≡ line 88 (refused 15) (s .mode) → r .goes ≡ false
-      → turnBy r kernel t ≡ turn (drillOf (guardOf s t) kernel) call
+      → turnBy r kernel devices t ≡ turn (drillOf (guardOf s t) kernel devices) call
   unfolding turn turnBy kindOf firstNo settle
   turn-unknown [] r p q h e f g = absurd (p refl)
   turn-unknown (kind ∷ rest) r p q h e f g = rw (e, f, g, eq-eqb (length (kind ∷ rest)) 16 q, le-ltb kind 8 h)
 
   pub turn-made : (call : List ℕ) (r : Called) (l : Line) (kernel′ : List ℕ) (t′ : Tables) (index size value : ℕ) → (length call ≡ 0 → ⊥)
       → length call ≡ 16 → getD call 0 0 ≤ 7 → index ≡ indexOf call → size ≡ lengthOf call → value ≡ valueOf call
-      → performedBy r kernel′ t′ ≡ performed (drillOf (guardOf s t) kernel) (getD call 0 0) index size value
+      → performedBy r kernel′ devices t′ ≡ performed (drillOf (guardOf s t) kernel devices) (getD call 0 0) index size value
       → text l ≡ line (48 + getD call 0 0) (replyOf (r .answer)) (r .state .mode)
-      → turnBy (record { state = r .state; line = l; goes = true }) kernel′ t′
-      ≡ turn (drillOf (guardOf s t) kernel) call
+      → turnBy (record { state = r .state; line = l; goes = true }) kernel′ devices t′
+      ≡ turn (drillOf (guardOf s t) kernel devices) call
   unfolding turn turnBy kindOf turnOf performedBy firstNo settle
   turn-made [] r l kernel′ t′ index size value p q h a b c d f = absurd (p refl)
   turn-made (kind ∷ rest) r l kernel′ t′ index size value p q h a b c d f =

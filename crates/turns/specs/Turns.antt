@@ -1,4 +1,4 @@
--- The drill made of a guard and the kernel table, and what the functions of the drill leave, as records of the model.
+-- The drill made of a guard, the kernel table and the list of devices, and what the functions of the drill leave, as records of the model.
 use Prim.Native.Nat.{ℕ, _-_}
 use mathlib.Core.Bool.{Bool, true, cond}
 use mathlib.Core.List.{List, _++_}
@@ -7,6 +7,7 @@ use lib.Dec.{ltb, eqb}
 use lib.ListN.{take, drop, replicate}
 use Rattle.model.specs.declared.Answer.{Answer}
 use Rattle.model.specs.declared.Called.{Called}
+use Rattle.model.specs.declared.Device.{Device}
 use Rattle.model.specs.Edges.{pagesInRange, framesInRange}
 use Rattle.model.specs.Keeps.{Tables, tables, Guard, guardOf, vectorBytes}
 use Rattle.model.specs.Policy.{policyOf}
@@ -15,19 +16,19 @@ use Rattle.model.specs.Drill.{drillGiven, Drill, Drilled, Turn, drillStart, sta
 use Rattle.lines.specs.Text.{text}
 use Rattle.turns.specs.declared.TurnResult.{TurnResult}
 
-abbrev pub drillOf : Guard → List ℕ → Drill
-drillOf g kernel = record { guard = g; kernel = kernel }
+abbrev pub drillOf : Guard → List ℕ → List Device → Drill
+drillOf g kernel devices = record { guard = g; kernel = kernel; devices = devices }
 
 -- What an edit leaves, and what an edit or a guard call leaves of the drill.
 unfoldable pub editedBy : Answer → Drill → Drilled
 editedBy r d = record { reply = replyOf r; drill = d }
 
-unfoldable pub performedBy : Called → List ℕ → Tables → Drilled
-performedBy r kernel t = record { reply = replyOf (r .answer); drill = drillOf (guardOf (r .state) t) kernel }
+unfoldable pub performedBy : Called → List ℕ → List Device → Tables → Drilled
+performedBy r kernel devices t = record { reply = replyOf (r .answer); drill = drillOf (guardOf (r .state) t) kernel devices }
 
 -- What a turn leaves.
-unfoldable pub turnBy : TurnResult → List ℕ → Tables → Turn
-turnBy r kernel t = record { drill = drillOf (guardOf (r .state) t) kernel; line = text (r .line); goes = r .goes }
+unfoldable pub turnBy : TurnResult → List ℕ → List Device → Tables → Turn
+turnBy r kernel devices t = record { drill = drillOf (guardOf (r .state) t) kernel devices; line = text (r .line); goes = r .goes }
 
 -- The start's guard, its line, and whether calls follow it: "A refused start prints its line alone."
 pub record Opening : Type 0 where

@@ -4,16 +4,20 @@
 ghost use mathlib.Core.Path.{_≡_};
 ghost use Prim.Native.Nat.{_+_, _*_, _^_, _≤_, _<_};
 ghost use mathlib.Core.Bool.{false};
+ghost use mathlib.Core.List.{List};
 ghost use lib.Dec.{eqb};
 ghost use Rattle.model.specs.Keeps.{tables, Guard, guardOf};
+ghost use Rattle.model.specs.declared.Device.{Device};
 ghost use Rattle.model.specs.Calls.{refused, replyOf, outcomeBy, startOf, answer};
 ghost use Rattle.model.specs.Drill;
-ghost use Rattle.model.specs.Drill.{drillGiven, callLimit, policyExtent, indexOf, lengthOf, valueOf, edited, callOf, performed, line};
+ghost use Rattle.model.specs.Drill.{drillGiven, windowsOf, callLimit, policyExtent, indexOf, lengthOf, valueOf, edited, callOf, performed, line};
 ghost use Rattle.lines.specs.Text.{text};
 ghost use Rattle.turns.specs.Turns.{drillOf, editedBy, performedBy, turnBy, openingOf, openedBy, pagesLent, bytesLent, OpensAsDefined, goesOn, leftAfter, LoopsAsDefined};
 use lines::Line;
 use model::Answer;
 use model::Called;
+use model::Device;
+use model::MOST_DEVICES;
 use model::MOST_PAGES;
 use model::State;
 
@@ -80,7 +84,7 @@ pub fn open(bytes: &[u8], shadow: &mut [u64], map: &mut [u16], exclusion: &mut [
     ensures { λ r. ⌜ openedBy r (tables (now (shadow .exit)) (now (map .exit)) (now (exclusion .exit)))
         ≡ openingOf (startOf drillGiven (now (bytes .entry)) (tables (now (shadow .entry)) (now (map .entry)) (now (exclusion .entry)))) ⌝ }
 {
-    let started = start::start(bytes, shadow, map, exclusion);
+    let started = start::start(bytes, MOST_DEVICES as u64, shadow, map, exclusion);
     let answer = started.answer;
     let state = started.state;
     let mode = state.mode;
@@ -89,6 +93,14 @@ pub fn open(bytes: &[u8], shadow: &mut [u64], map: &mut [u16], exclusion: &mut [
         line: lines::call_line(b'S', answer, mode),
         goes: was_accepted(answer),
     }
+}
+
+// The drill's devices: as many as there may be, each with all frames as window (K5).
+pub fn windows(frames: u16) -> [Device; MOST_DEVICES]
+    ensures { λ r. ⌜ r ≡ windowsOf frames ⌝ }
+{
+    let last = if frames == 0 { 0 } else { frames - 1 };
+    [Device { first: 0, last }; MOST_DEVICES]
 }
 
 // What is lent makes no difference to the start of the drill as it is defined, on tables of the record's own sizes.
@@ -167,8 +179,8 @@ fn value_of(call: &[u8]) -> u64
 
 // Kind 0. The guard's part of the drill stays as it is, whatever it is; question 9 looks at its V alone.
 fn edit(pages: u16, kernel: &mut [u64], page: u64, value: u64) -> Answer
-    ensures { λ r. ⌜ ((g : Guard) → g .state .pages ≡ pages
-        → editedBy r (drillOf g (now (kernel .exit))) ≡ edited (drillOf g (now (kernel .entry))) page value) ⌝ }
+    ensures { λ r. ⌜ ((g : Guard) (devices : List Device) → g .state .pages ≡ pages
+        → editedBy r (drillOf g (now (kernel .exit)) devices) ≡ edited (drillOf g (now (kernel .entry)) devices) page value) ⌝ }
 {
     if !questions::page_exists(page, pages) {
         return Answer::Refused(9);
@@ -186,6 +198,7 @@ fn call(
     shadow: &mut [u64],
     map: &mut [u16],
     exclusion: &[u8],
+    devices: [Device; MOST_DEVICES],
     kind: u8,
     index: u64,
     length: u64,
@@ -193,7 +206,7 @@ fn call(
 ) -> Called
     ensures { λ r. ⌜ outcomeBy r (tables (now (shadow .exit)) (now (map .exit)) (now (exclusion .entry)))
         ≡ answer (guardOf s (tables (now (shadow .entry)) (now (map .entry)) (now (exclusion .entry))))
-        (callOf (now (kernel .entry)) kind index length value) ⌝ }
+        (callOf (now (kernel .entry)) devices kind index length value) ⌝ }
 {
     if kind == 1 {
         let answer = sync::sync_page(s, kernel, shadow, map, exclusion, index);
@@ -216,7 +229,8 @@ fn call(
     if kind == 6 {
         return modes::leave(s, shadow, index);
     }
-    let answer = access::device_write(s, exclusion, value, length);
+    let window = devices::look_up_in(devices, index);
+    let answer = access::device_write(s, exclusion, MOST_DEVICES, window, index, value, length);
     Called { answer, state: s }
 }
 
@@ -227,13 +241,14 @@ fn perform(
     shadow: &mut [u64],
     map: &mut [u16],
     exclusion: &[u8],
+    devices: [Device; MOST_DEVICES],
     kind: u8,
     index: u64,
     length: u64,
     value: u64,
 ) -> Called
-    ensures { λ r. ⌜ performedBy r (now (kernel .exit)) (tables (now (shadow .exit)) (now (map .exit)) (now (exclusion .entry)))
-        ≡ performed (drillOf (guardOf s (tables (now (shadow .entry)) (now (map .entry)) (now (exclusion .entry)))) (now (kernel .entry)))
+    ensures { λ r. ⌜ performedBy r (now (kernel .exit)) devices (tables (now (shadow .exit)) (now (map .exit)) (now (exclusion .entry)))
+        ≡ performed (drillOf (guardOf s (tables (now (shadow .entry)) (now (map .entry)) (now (exclusion .entry)))) (now (kernel .entry)) devices)
         kind index length value ⌝ }
 {
     if kind == 0 {
@@ -246,6 +261,7 @@ fn perform(
         shadow,
         map,
         exclusion,
+        devices,
         kind,
         index,
         length,
@@ -272,10 +288,11 @@ pub fn turn(
     shadow: &mut [u64],
     map: &mut [u16],
     exclusion: &[u8],
+    devices: [Device; MOST_DEVICES],
     call: &[u8],
 ) -> TurnResult
-    ensures { λ r. ⌜ turnBy r (now (kernel .exit)) (tables (now (shadow .exit)) (now (map .exit)) (now (exclusion .entry)))
-        ≡ Drill.turn (drillOf (guardOf s (tables (now (shadow .entry)) (now (map .entry)) (now (exclusion .entry)))) (now (kernel .entry)))
+    ensures { λ r. ⌜ turnBy r (now (kernel .exit)) devices (tables (now (shadow .exit)) (now (map .exit)) (now (exclusion .entry)))
+        ≡ Drill.turn (drillOf (guardOf s (tables (now (shadow .entry)) (now (map .entry)) (now (exclusion .entry)))) (now (kernel .entry)) devices)
         (now (call .entry)) ⌝ }
 {
     if call.len() == 0 {
@@ -301,6 +318,7 @@ pub fn turn(
         shadow,
         map,
         exclusion,
+        devices,
         kind,
         index,
         length,

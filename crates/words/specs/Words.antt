@@ -13,10 +13,10 @@ use Rattle.model.specs.Keeps.{inUser, running, modeOf, stateOf}
 use Rattle.model.specs.Questions.{stateInOrder}
 use Rattle.model.specs.Calls.{Reply, settle, Call, syncPage, syncAll, syncPageTree, syncAllTree, fetch, write, enter, leave, deviceWrite}
 
--- The layout of a state run: V, F and e, the sixteen entry pages, kernel or user, the page now running.
+-- The layout of a state run: V, F and e, the sixteen entry pages, kernel or user, the page now running, the number of devices (K5).
 -- The proofs speak of a place by its name.
 abbrev pub stateWords : ℕ
-stateWords = 21
+stateWords = 22
 
 abbrev pub pagesAt : ℕ
 pagesAt = 0
@@ -39,6 +39,9 @@ modeAt = 19
 abbrev pub runningAt : ℕ
 runningAt = 20
 
+abbrev pub devicesAt : ℕ
+devicesAt = 21
+
 -- The layout of a numbers run: the numbers of a reply in their order.
 abbrev pub firstAt : ℕ
 firstAt = 0
@@ -58,7 +61,7 @@ numbersBy call = answerNumbers
 unfoldable pub modeWord : Mode → ℕ
 modeWord mode = cond (inUser mode) 1 0
 
--- A word as a 16-bit field. A wider word is taken for the widest field, which is above every V, F and e, so that question 7 refuses it in those
+-- A word as a 16-bit field. A wider word is taken for the widest field, which is above every V, F, e and number of devices, so that question 7 refuses it in those
 -- fields and as the running page, and question 9 as the page of an entry index.
 abbrev pub widest : ℕ
 widest = 65535
@@ -76,10 +79,11 @@ entryPagesIn run = table entryWords (λ i. field run (entryPagesAt + i))
 unfoldable pub stateIn : List ℕ → State
 stateIn run =
     stateOf (field run pagesAt) (field run framesAt) (field run entryCountAt) (entryPagesIn run) (modeOf (eqb (getD run modeAt 0) 1) (field run runningAt))
+    (field run devicesAt)
 
 -- The words that hold a state, in their order; the last of them stand behind the entry pages.
 abbrev pub lastWords : State → List ℕ
-lastWords s = modeWord (s .mode) ∷ running (s .mode) ∷ []
+lastWords s = modeWord (s .mode) ∷ running (s .mode) ∷ s .devices ∷ []
 
 unfoldable pub wordsOf : State → List ℕ
 wordsOf s = s .pages ∷ s .frames ∷ s .«entry_count» ∷ (s .«entry_pages» ++ lastWords s)
@@ -105,7 +109,7 @@ changedBy (fetch page) = pagePlaces
 changedBy (write address length) = []
 changedBy (enter index) = modePlaces
 changedBy (leave page) = modePlaces
-changedBy (deviceWrite address length) = []
+changedBy (deviceWrite devices device address size) = []
 
 -- Values in a run that has a word for each. A run of another length is not written.
 unfoldable pub overwritten : List ℕ → List ℕ → List ℕ
@@ -132,9 +136,9 @@ runStarted run reply s = settle (reply .number) (wordsOf s) (λ _. run)
 
 -- The words that hold a number of 16 bits which question 7 asks of the state.
 abbrev pub fieldPlaces : List ℕ
-fieldPlaces = pagesAt ∷ framesAt ∷ entryCountAt ∷ runningAt ∷ []
+fieldPlaces = pagesAt ∷ framesAt ∷ entryCountAt ∷ runningAt ∷ devicesAt ∷ []
 
--- Beside the length and the mode word, the runs need no test of their own: a word wider than its field, as V, F, e or the running page, makes
+-- Beside the length and the mode word, the runs need no test of their own: a word wider than its field, as V, F, e, the running page or the number of devices, makes
 -- a state that question 7 of every call refuses.
 unfoldable pub WideRefused : Type 0
 WideRefused =

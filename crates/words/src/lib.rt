@@ -20,7 +20,7 @@ use model::Mode;
 use model::State;
 
 // The layout of a state run. include/guard.h has the same constants, which tests/header compares.
-pub const STATE_WORDS: usize = 21;
+pub const STATE_WORDS: usize = 22;
 
 pub const STATE_PAGES: usize = 0;
 
@@ -33,6 +33,8 @@ pub const STATE_ENTRY: usize = 3;
 pub const STATE_MODE: usize = 19;
 
 pub const STATE_RUNNING: usize = 20;
+
+pub const STATE_DEVICES: usize = 21;
 
 pub const MODE_KERNEL: u64 = 0;
 
@@ -114,6 +116,7 @@ pub fn state_in(run: &[u64]) -> State
         entry_count,
         entry_pages: pages_in,
         mode,
+        devices: field(run, STATE_DEVICES),
     }
 }
 
@@ -160,6 +163,7 @@ fn put_state(run: &mut [u64], s: State)
     run[STATE_ENTRIES] = s.entry_count as u64;
     put_entry_pages(run, entry);
     put_mode(run, s);
+    run[STATE_DEVICES] = s.devices as u64;
 }
 
 // The boundary's part of question 7: the lengths of both runs, which the start asks for. A call's numbers run has a word for each of its numbers.
@@ -191,7 +195,9 @@ fn words_in_order(run: &[u64]) -> bool
     }
     let frames = questions::frames_in_range(run[STATE_FRAMES]);
     let entries = questions::entry_count_in_range(run[STATE_ENTRIES]);
-    questions::both(frames, questions::both(entries, run[STATE_RUNNING] < pages))
+    let devices = questions::devices_in_range(run[STATE_DEVICES]);
+    let running = questions::both(run[STATE_RUNNING] < pages, devices);
+    questions::both(frames, questions::both(entries, running))
 }
 
 // Both runs can be lent, and the state is in order.

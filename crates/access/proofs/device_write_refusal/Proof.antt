@@ -1,6 +1,6 @@
 -- `access::device_write_refusal` meets its contract.
 use borrow.Author.Needs.{needs}
-use Rattle.access.proofs.TransferLaws.{transfer-unlike, transfer-absent, transfer-last, transfer-frames, transfer-excluded, transfer-fits}
+use Rattle.access.proofs.TransferLaws.{transfer-unlike, transfer-unlisted, transfer-absent, transfer-last, transfer-rises, transfer-frames, transfer-outside, transfer-excluded, transfer-fits}
 use Rattle.access.proofs.device_write_refusal.Statement.{statement}
 use Rattle.access.proofs.device_write_refusal.Tie as tie
 
@@ -8,24 +8,44 @@ returns : tie.Need-returns
 returns c = search (needs, transfer-unlike)
 
 returns-2 : tie.Need-returns-2
-returns-2 c = search (needs, transfer-absent)
+returns-2 c = search (needs, transfer-unlisted)
+
+returns-3 : tie.Need-returns-3
+returns-3 c = search (needs, transfer-absent)
 
 last-page-requires : tie.Need-last-page-requires
 last-page-requires c κs =
-    transfer-last _ _ _ _ _ (c .before .before .before .device-length .ensures) (c .before .before .if1 .left) (c .before .transfer-exists .ensures) (c .if2 .left) (c .before .before .before .before .before .fits .frames)
+    let b = c .before .before in
+    let a = b .before .before .before .before .args in
+    transfer-last _ _ (a .exclusion .now) (a .window) _ _ _ _ (b .before .before .device-length .ensures) (b .before .if1 .left) (b .if2 .left) _ (c .before .transfer-exists .ensures) (c .if3 .left)
+    (b .before .before .before .before .fits .frames)
+
+in-window-requires : tie.Need-in-window-requires
+in-window-requires c κs =
+    let b = c .before .before .before in
+    let a = b .before .before .before .before .args in
+    transfer-rises _ _ (a .exclusion .now) (a .window) _ _ _ _ (b .before .before .device-length .ensures) (b .before .if1 .left) (b .if2 .left) _ (c .before .before .transfer-exists .ensures) (c .before .if3 .left)
+    _ (c .last-page .ensures)
+
+returns-4 : tie.Need-returns-4
+returns-4 c = search (needs, transfer-outside)
 
 none-excluded-requires : tie.Need-none-excluded-requires
 none-excluded-requires c κs =
-    transfer-frames _ _ _ _ _ (c .before .before .before .before .device-length .ensures) (c .before .before .before .if1 .left) (c .before .before .transfer-exists .ensures) (c .before .if2 .left) _ _ (c .last-page .ensures) (search needs)
+    let b = c .before .before .before in
+    let d = b .before .before in
+    let a = d .before .before .before .before .args in
+    transfer-frames _ _ (a .exclusion .now) (a .window) _ _ _ _ (d .before .before .device-length .ensures) (d .before .if1 .left) (d .if2 .left) _ (b .before .transfer-exists .ensures) (b .if3 .left)
+    _ _ (c .before .before .last-page .ensures) (search needs)
 
-returns-3 : tie.Need-returns-3
-returns-3 c = search (needs, transfer-excluded)
+returns-5 : tie.Need-returns-5
+returns-5 c = search (needs, transfer-excluded)
 
-returns-4 : tie.Need-returns-4
-returns-4 c = search (needs, transfer-fits)
+returns-6 : tie.Need-returns-6
+returns-6 c = search (needs, transfer-fits)
 
 pub device-write-refusal-spec : {M : Type 1} → statement M
 device-write-refusal-spec =
     tie.close
-    (tie.spec (λ c κs. search needs) returns (λ c κs. search needs) returns-2 last-page-requires none-excluded-requires
-    returns-3 returns-4)
+    (tie.spec (λ c κs. search needs) returns returns-2 (λ c κs. search needs) returns-3 last-page-requires
+    in-window-requires returns-4 none-excluded-requires returns-5 returns-6)

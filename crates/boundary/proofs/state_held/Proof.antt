@@ -62,7 +62,7 @@ module _ (run : List ℕ) (t : Tables) where
     words-hold (write address length) small = refl
     words-hold (enter index) small = switched (enter index) small
     words-hold (leave page) small = switched (leave page) small
-    words-hold (deviceWrite address length) small = refl
+    words-hold (deviceWrite devices device address size) small = refl
 
     held : (call : Call) (n : ℕ) → firstNo (questionsOf (seen g) call) ≡ n
         → let o : Outcome = settle n (effectOf g call) (refusedOf g (broughtBy call)) in

@@ -7,11 +7,11 @@ use Rattle.drill.proofs.take_turns.Statement.{statement}
 use Rattle.drill.proofs.take_turns.Tie as tie
 
 abbrev Inv-loop : tie.InvT-loop
-Inv-loop kernel₀ shadow₀ map₀ exclusion s₀ left₀ kernel shadow map s left =
+Inv-loop kernel₀ shadow₀ map₀ exclusion devices s₀ left₀ kernel shadow map s left =
     (length kernel ≡ length kernel₀) × (length shadow ≡ length shadow₀) × (length map ≡ length map₀)
 
 abbrev μ-loop : tie.MeasureT-loop
-μ-loop kernel₀ shadow₀ map₀ exclusion s₀ left₀ kernel shadow map s left = left
+μ-loop kernel₀ shadow₀ map₀ exclusion devices s₀ left₀ kernel shadow map s left = left
 
 loop-holds : tie.Need-loop-holds Inv-loop μ-loop
 loop-holds c = search needs
@@ -37,5 +37,5 @@ returns c = search needs
 pub take-turns-spec : {M : Type 1} → statement M
 take-turns-spec =
     tie.close
-    (tie.spec Inv-loop μ-loop (λ c κs. tt) loop-holds (λ c κs. tt) (λ c κs. search needs) (λ c κs. tt) loop-less
+    (tie.spec Inv-loop μ-loop (λ c κs. search needs) (λ c κs. tt) loop-holds (λ c κs. tt) (λ c κs. search needs) (λ c κs. tt) loop-less
     loop-again same-length same-length-2 same-length-3 returns)

@@ -11,4 +11,5 @@ returns c = cc
 pub device-write-in-order-spec : {M : Type 1} → statement M
 device-write-in-order-spec =
     tie.close
-    (tie.spec (λ c κs. search needs) (λ c κs. search needs) (λ c κs. search needs) returns)
+    (tie.spec (λ c κs. search needs) (λ c κs. search needs) (λ c κs. search needs) (λ c κs. search needs)
+    (λ c κs. search needs) returns)

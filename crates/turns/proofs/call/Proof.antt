@@ -31,4 +31,4 @@ call-spec =
     (tie.spec (λ c κs. search needs) (λ c. search needs) (λ c. search needs) returns (λ c κs. search needs)
     (λ c. search needs) (λ c. search needs) returns-2 (λ c κs. search needs) (λ c. search needs) returns-3
     (λ c κs. search needs) (λ c. search needs) returns-4 (λ c κs. search needs) (λ c. search needs) returns-5
-    (λ c κs. search needs) (λ c. search needs) returns-6 (λ c κs. search needs) returns-7)
+    (λ c κs. search needs) (λ c. search needs) returns-6 (λ c κs. search needs) (λ c κs. search needs) returns-7)

@@ -1,4 +1,4 @@
--- `words::wide_words` meets its contract: 65535 is above every V, F and e, and no running page below V.
+-- `words::wide_words` meets its contract: 65535 is above every V, F, e and number of devices, and no running page below V.
 use Prim.Native.Nat.{ℕ, _<_}
 use mathlib.Core.Bool.{Bool, true, false, false≢true}
 use mathlib.Core.List.{List, [], _∷_}
@@ -8,11 +8,11 @@ use lib.Dec.{eqb}
 use native.Mathlib.Omega.{arith}
 use borrow.Author.Tests.{eqb-true}
 use Rattle.model.specs.Basics.{either, within, member}
-use Rattle.model.specs.Edges.{pagesInRange, framesInRange}
+use Rattle.model.specs.Edges.{pagesInRange, framesInRange, devicesInRange}
 use Rattle.model.specs.Questions.{stateInOrder}
 use Rattle.model.proofs.QuestionLaws.{within-high}
 use Rattle.model.proofs.StateLaws.{running-modeOf, Fits, state-parts}
-use Rattle.words.specs.Words.{pagesAt, framesAt, entryCountAt, runningAt, widest, field, stateIn, fieldPlaces, WideRefused}
+use Rattle.words.specs.Words.{pagesAt, framesAt, entryCountAt, runningAt, devicesAt, widest, field, stateIn, fieldPlaces, WideRefused}
 use Rattle.words.proofs.WordLaws.{narrow-wide, narrow-below}
 use Rattle.words.proofs.wide_words.Statement.{statement}
 use Rattle.words.proofs.wide_words.Tie as tie
@@ -53,6 +53,10 @@ module _ (run : List ℕ) where
   wide-running p =
       unfit (λ f. omega (arith, rw running-modeOf at (f .running-below), wide-field run runningAt p, narrow-below (getD run pagesAt 0)))
 
+  wide-devices : widest < getD run devicesAt 0 → Refused
+  unfolding stateIn devicesInRange
+  wide-devices p = unfit (λ f. too-wide 1 64 devicesAt (omega arith) p (f .devices))
+
   -- Each place of the list, and no other.
   at-place : (at place : ℕ) (places : List ℕ) → (widest < getD run place 0 → Refused) → (member at places ≡ true → Refused) → widest < getD run at 0
       → member at (place ∷ places) ≡ true → Refused
@@ -72,7 +76,8 @@ module _ (run : List ℕ) where
       at-place at pagesAt _ wide-pages
       (at-place at framesAt _ wide-frames
       (at-place at entryCountAt _ wide-entries
-      (at-place at runningAt _ wide-running (nowhere at) p) p) p) p
+      (at-place at runningAt _ wide-running
+      (at-place at devicesAt _ wide-devices (nowhere at) p) p) p) p) p
 
 returns : tie.Need-returns
 unfolding WideRefused

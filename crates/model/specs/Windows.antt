@@ -1,0 +1,24 @@
+-- Document 02, K5: what is claimed of the devices' windows beside the list of demand 3.
+use Prim.Native.Nat.{ℕ}
+use mathlib.Core.List.{List}
+use mathlib.Core.Path.{_≡_}
+use lib.ListN.{length}
+use Rattle.model.specs.declared.Device.{Device}
+use Rattle.model.specs.Keeps.{Guard}
+use Rattle.model.specs.Devices.{deviceAt}
+use Rattle.model.specs.Calls.{Outcome, Call, deviceWrite, answer}
+
+-- Two lists of one length that have the same record for every device but one.
+pub record SameBut (changed : ℕ) (before after : List Device) : Type 0 where
+  pub long : length before ≡ length after
+  pub others : (device : ℕ) → (device ≡ changed → ⊥) → deviceAt before device ≡ deviceAt after device
+
+-- "Changing one device's window changes no answer given to another", nor what the call leaves.
+unfoldable pub WindowsApart : Type 0
+WindowsApart =
+    (g : Guard) (changed : ℕ) (before after : List Device) → SameBut changed before after → (device address size : ℕ) → (device ≡ changed → ⊥)
+    → answer g (deviceWrite before device address size) ≡ answer g (deviceWrite after device address size)
+
+-- The number of devices stays the one that the start was given: no call changes it.
+unfoldable pub DevicesKept : Type 0
+DevicesKept = (g : Guard) (call : Call) → answer g call .guard .state .devices ≡ g .state .devices
