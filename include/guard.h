@@ -5,25 +5,27 @@
  * Build the library with `rt staticlib exports`, and link target/staticlib/libexports.a. docs/INTEGRATION.md has what it needs
  * beside that (memcpy, memset, SSE, stack), how the processor is set up, and what to do around each call.
  *
- * Runs. A table, a run of tables, a policy record, an array, a buffer, the state and the two numbers of a call each cross as a
- * pointer and the number of its elements. The guard keeps nothing between calls: the caller holds every run and lends it.
- *   - A pointer is valid for as many elements as its length says, is aligned to its element (8 bytes for 64 bits, 2 for 16), and
- *     is not NULL, even where the length is 0.
+ * Runs. A table, a run of tables, a list of devices, a policy record, an array, a buffer, the state and the two numbers of a call
+ * each cross as a pointer and the number of its elements. The guard keeps nothing between calls: the caller holds every run and
+ * lends it.
+ *   - A pointer is valid for as many elements as its length says, is aligned to its element (8 bytes for 64 bits, 2 for 16, a
+ *     struct as C aligns it), and is not NULL, even where the length is 0.
  *   - A run that is lent for writing overlaps no other run of the same call.
  *   - One run is lent to one call at a time, and nobody else writes it during the call, neither processor nor device.
  * These three are the caller's part, and the only part that the guard does not test. State, shadow, map and exclusion go from
  * one call to the next as the last one left them: that is what the guarantee about all calls rests on.
  *
- * Numbers. Sizes, counts, roots, depths, the pages that a call names, entry indices, addresses and lengths are 64 bits wide and
- * are never cut: page 65537 is refused with 9, and is not taken for page 1. Sums of address and length are exact.
+ * Numbers. Sizes, counts, roots, depths, the pages and devices that a call names, entry indices, addresses and lengths are 64 bits
+ * wide and are never cut: page 65537 is refused with 9, and is not taken for page 1. Sums of address and length are exact.
  *
  * Answers. A call returns 0 where it is accepted, and else the number of the first question that was answered no (enum
  * guard_refusal). Its two numbers go to the numbers run, a run of GUARD_NUMBERS words: 0 and 0 where it is refused.
- * A refused call changes nothing else: the state run, every table and a buffer stay as they were.
+ * A refused call changes nothing else: the state run, every table, a list of devices and a buffer stay as they were.
  *
- * The state run and the numbers run are part of question 7. A state run that has not GUARD_STATE_WORDS words, a V, F, e or running page in it
- * that is wider than 16 bits, a mode word that is neither GUARD_MODE_KERNEL nor GUARD_MODE_USER, or a numbers run that has
- * not GUARD_NUMBERS words gives 7. A numbers run of another length is not written.
+ * The state run and the numbers run are part of question 7. A state run that has not GUARD_STATE_WORDS words, a V, F, e, running
+ * page or number of devices in it that is wider than 16 bits, a mode word that is neither GUARD_MODE_KERNEL nor GUARD_MODE_USER,
+ * or a numbers run that has not GUARD_NUMBERS words gives 7. So does a state run of an older version, which has fewer words. A
+ * numbers run of another length is not written.
  */
 #ifndef GUARD_H
 #define GUARD_H
@@ -36,18 +38,19 @@ extern "C" {
 #endif
 
 /*
- * The layout of a state run. V, F, e and the running page are 16-bit fields, each in a word of its own. An entry page that is
- * wider than 16 bits counts as one that is not below V. guard_start writes all words; guard_enter and guard_leave write
- * GUARD_STATE_MODE and GUARD_STATE_RUNNING alone; guard_fetch writes GUARD_STATE_RUNNING alone; the other calls write none. A
- * later version appends its fields.
+ * The layout of a state run. V, F, e, the running page and the number of devices are 16-bit fields, each in a word of its own. An
+ * entry page that is wider than 16 bits counts as one that is not below V. guard_start writes all words; guard_enter and
+ * guard_leave write GUARD_STATE_MODE and GUARD_STATE_RUNNING alone; guard_fetch writes GUARD_STATE_RUNNING alone; the other calls
+ * write none. A later version appends its fields.
  */
-#define GUARD_STATE_WORDS 21
+#define GUARD_STATE_WORDS 22
 #define GUARD_STATE_PAGES 0    /* V, the number of virtual pages, 1 to 2048 */
 #define GUARD_STATE_FRAMES 1   /* F, the number of physical frames, 1 to 4096 */
 #define GUARD_STATE_ENTRIES 2  /* e, the number of entry pages, 1 to 16 */
 #define GUARD_STATE_ENTRY 3    /* the sixteen entry pages, words 3 to 18; unused ones are 0 */
 #define GUARD_STATE_MODE 19    /* GUARD_MODE_KERNEL or GUARD_MODE_USER */
 #define GUARD_STATE_RUNNING 20 /* the page now running, below V */
+#define GUARD_STATE_DEVICES 21 /* the number of devices, 1 to 64 */
 
 #define GUARD_MODE_KERNEL 0
 #define GUARD_MODE_USER 1
@@ -63,7 +66,7 @@ enum guard_refusal {
     GUARD_ACCEPTED = 0,
     GUARD_RECORD_TOO_SHORT = 1,    /* the policy record is shorter than 8 bytes */
     GUARD_SIZE_OUT_OF_RANGE = 2,   /* V or F is out of range */
-    GUARD_COUNT_OUT_OF_RANGE = 3,  /* n or e is out of range */
+    GUARD_COUNT_OUT_OF_RANGE = 3,  /* n, e or the number of devices is out of range */
     GUARD_RECORD_LENGTH = 4,       /* the length of the policy record or of an array does not fit n */
     GUARD_LISTED_PAGE = 5,         /* a listed page is out of range or out of order */
     GUARD_LISTED_FRAME = 6,        /* a listed frame is out of range */
@@ -77,7 +80,9 @@ enum guard_refusal {
     GUARD_CALL_CUT_SHORT = 14,     /* the last call is cut short */
     GUARD_UNKNOWN_KIND = 15,       /* the kind of call is unknown */
     GUARD_BUFFER_TOO_SHORT = 16,   /* the buffer is shorter than the record */
-    GUARD_TREE = 17                /* the tree's run, depth or root does not fit */
+    GUARD_TREE = 17,               /* the tree's run, depth or root does not fit */
+    GUARD_NO_DEVICE = 18,          /* the device is not in the list */
+    GUARD_OUTSIDE_WINDOW = 19      /* the transfer is outside the device's window */
 };
 
 /*
@@ -86,6 +91,7 @@ enum guard_refusal {
  *   shadow     V entries of 64 bits, which only the guard writes
  *   map        V numbers of 16 bits: the frame approved for that page, or GUARD_MAP_NONE
  *   exclusion  (F + 7) / 8 bytes: bit f % 8 of byte f / 8, bit 0 the lowest, is set where frame f is excluded; spare bits are 0
+ *   devices    a struct guard_device for each device, as many as the state says: read, not written. See "Devices"
  * A tree, which stands in the kernel table's place, is question 17's: see "Trees".
  */
 #define GUARD_MAP_NONE UINT16_C(65535)
@@ -208,8 +214,32 @@ enum guard_refusal {
 #define GUARD_DEPTH_MAX UINT64_C(3)
 
 /*
+ * Devices. guard_start is given how many there are, 1 to GUARD_DEVICES_MAX, and that number stands in the state from then on. Their
+ * list is lent to each guard_device_write and has as many elements, or the call is refused with 7. A device is named by its place
+ * in the list, from 0.
+ *
+ * The window of a device is the frames that it may write to: from first to last, both included. Where first is above last it is
+ * empty, and every transfer of the device is refused. Windows may overlap. What a window has beyond the last frame, or of excluded
+ * frames, it does not open: 9 is asked before, and 13 after.
+ *
+ * The caller holds the list and writes the windows, between calls, as it likes; the guard reads them. Another window of one
+ * device changes no answer given to another.
+ *
+ * The struct grows: a later version has further fields behind these two, and one that a call writes. So set a device up by the
+ * names of its fields, with zeros for the rest, as in
+ *   struct guard_device cards[2] = {{.first = 4, .last = 7}, {.first = 9, .last = 9}};
+ * and compile against the header that came with the archive: the elements of a list are sizeof(struct guard_device) apart.
+ */
+#define GUARD_DEVICES_MAX UINT64_C(64)
+
+struct guard_device {
+    uint16_t first; /* the first frame of the window */
+    uint16_t last;  /* the last one */
+};
+
+/*
  * Start: reads the policy record, sets state, shadow, map and exclusion from it, whatever they held, and stands in kernel mode
- * on the first entry page. Numbers: n and e.
+ * on the first entry page. It is also given how many devices there are (devices), and is lent no list of them. Numbers: n and e.
  *
  * The record has 8 + 4 * n bytes. Every number in it has 16 bits, the lower byte first; i goes from 0 to n - 1.
  *
@@ -223,17 +253,17 @@ enum guard_refusal {
  *
  * Listed page i is the page of entry index i, for i below e. What an accepted start writes:
  *
- *   state      V, F, e; the e entry pages, then zeros; GUARD_MODE_KERNEL; listed page 0
+ *   state      V, F, e; the e entry pages, then zeros; GUARD_MODE_KERNEL; listed page 0; the number of devices
  *   shadow     for a listed page the approved entry of its frame in kernel mode, frame * 4096 + 0x401; for any other 0
  *   map        for a listed page its frame; for any other GUARD_MAP_NONE
  *   exclusion  the bits of the frames in the record; every other bit 0
  *
- * Refusals 1 to 6 are about the record. Then comes 7, by the record's V and F, for the lengths of all runs. What the state run
- * holds is not read.
+ * Refusals 1 to 6 are about the record; 3 is also for a number of devices that is not 1 to GUARD_DEVICES_MAX. Then comes 7, by the
+ * record's V and F, for the lengths of all runs. What the state run holds is not read.
  */
-uint64_t guard_start(const uint8_t *policy, size_t policy_length, uint64_t *state, size_t state_length, uint64_t *shadow,
-                     size_t shadow_length, uint16_t *map, size_t map_length, uint8_t *exclusion, size_t exclusion_length,
-                     uint64_t *numbers, size_t numbers_length);
+uint64_t guard_start(const uint8_t *policy, size_t policy_length, uint64_t devices, uint64_t *state, size_t state_length,
+                     uint64_t *shadow, size_t shadow_length, uint16_t *map, size_t map_length, uint8_t *exclusion,
+                     size_t exclusion_length, uint64_t *numbers, size_t numbers_length);
 
 /*
  * Writes a policy record, laid out as at guard_start, to the front of a buffer. It is given V (pages), F (frames), n (count), e
@@ -242,12 +272,12 @@ uint64_t guard_start(const uint8_t *policy, size_t policy_length, uint64_t *stat
  * is long enough for every record.
  *
  * It is lent no state and no table, so that it can be called before any guard is started, and on another machine than the
- * guarded one. guard_start, with tables, state and numbers runs of their right lengths, accepts the record, cut to its length;
- * the guard then stands as said there for these pages and frames. A record that guard_start accepts, read and written again, is
- * the same bytes.
+ * guarded one. guard_start, with a number of devices in its range and tables, state and numbers runs of their right lengths,
+ * accepts the record, cut to its length; the guard then stands as said there for these pages and frames. A record that guard_start
+ * accepts, read and written again, is the same bytes.
  *
- * Refusals 2 to 6, in this order, as at guard_start, but 4 is for an array that has not n numbers. Then comes 7, for the numbers
- * run, and last 16, for a buffer that is shorter than the record.
+ * Refusals 2 to 6, in this order, as at guard_start, but 3 is for n and e alone, and 4 for an array that has not n numbers. Then
+ * comes 7, for the numbers run, and last 16, for a buffer that is shorter than the record.
  */
 uint64_t guard_write_record(uint64_t pages, uint64_t frames, uint64_t count, uint64_t entry_count,
                             const uint16_t *listed_pages, size_t listed_pages_length, const uint16_t *listed_frames,
@@ -333,12 +363,21 @@ uint64_t guard_leave(uint64_t *state, size_t state_length, uint64_t *shadow, siz
                      uint64_t *numbers, size_t numbers_length);
 
 /*
- * A device's write of 1 to 1048576 bytes at a physical address. Numbers: the frames of the first and of the last byte. The guard
- * decides and stores nothing: where it accepts, the caller lets the device write.
- * Refusals 7, 8, 9 and 13.
+ * The write of a device, named by its place in the list (device), of 1 to 1048576 bytes at a physical address. Numbers: the frames
+ * of the first and of the last byte. The guard decides and stores nothing: where it accepts, the caller lets the device write.
+ *
+ * Refusals in this order:
+ *   7   the state, the exclusion vector's length, the numbers run's, or the list's, which is the number of devices in the state
+ *   8   the length
+ *   18  the device is not below the number of devices
+ *   9   the last byte is not below F * 4096
+ *   19  the first or the last byte's frame is outside the device's window
+ *   13  a frame of the transfer is excluded
+ * A later version writes to the list, and takes it without const.
  */
 uint64_t guard_device_write(const uint64_t *state, size_t state_length, const uint8_t *exclusion, size_t exclusion_length,
-                            uint64_t address, uint64_t length, uint64_t *numbers, size_t numbers_length);
+                            const struct guard_device *devices, size_t devices_length, uint64_t device, uint64_t address,
+                            uint64_t length, uint64_t *numbers, size_t numbers_length);
 
 #ifdef __cplusplus
 }

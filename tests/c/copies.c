@@ -233,8 +233,8 @@ static void any_memory(void)
 
         for (uint64_t page = 0; page < PAGES; page++)
             flat[page] = processor(page);
-        guard_start(policy, sizeof policy, one.state, GUARD_STATE_WORDS, one.shadow, PAGES, one.map, PAGES, one.exclusion, VECTOR,
-                    one.numbers, GUARD_NUMBERS);
+        guard_start(policy, sizeof policy, 1, one.state, GUARD_STATE_WORDS, one.shadow, PAGES, one.map, PAGES, one.exclusion,
+                    VECTOR, one.numbers, GUARD_NUMBERS);
         other = one;
         uint64_t number = guard_sync_all_tree(one.state, GUARD_STATE_WORDS, copy.words, copy.count * TABLE, 0, 3, one.shadow, PAGES,
                                               one.map, PAGES, one.exclusion, VECTOR, one.numbers, GUARD_NUMBERS);

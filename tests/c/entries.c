@@ -177,7 +177,7 @@ static int excluded(uint64_t frame)
 static struct guard started(int user)
 {
     struct guard g = {0};
-    if (guard_start(policy, sizeof policy, g.state, GUARD_STATE_WORDS, g.shadow, PAGES, g.map, PAGES, g.exclusion, VECTOR,
+    if (guard_start(policy, sizeof policy, 1, g.state, GUARD_STATE_WORDS, g.shadow, PAGES, g.map, PAGES, g.exclusion, VECTOR,
                     g.numbers, GUARD_NUMBERS) != GUARD_ACCEPTED)
         stop("the start", "refused");
     g.state[GUARD_STATE_MODE] = user ? GUARD_MODE_USER : GUARD_MODE_KERNEL;

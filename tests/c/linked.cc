@@ -1,5 +1,5 @@
-// The header and the archive from C++: the start and one synchronised page of document 01's policy (C1 and C2), and the same page from
-// a tree, by their C names.
+// The header and the archive from C++: the start and one synchronised page of document 01's policy (C1 and C2), the same page from a
+// tree, and a transfer of two devices, by their C names.
 #include <cstdio>
 
 #include "guard.h"
@@ -27,11 +27,11 @@ int main()
     uint8_t exclusion[1] = {255};
     uint64_t numbers[GUARD_NUMBERS] = {77, 88};
 
-    uint64_t number = guard_start(policy, sizeof policy, state, GUARD_STATE_WORDS, shadow, 4, map, 4, exclusion, 1, numbers,
+    uint64_t number = guard_start(policy, sizeof policy, 2, state, GUARD_STATE_WORDS, shadow, 4, map, 4, exclusion, 1, numbers,
                                   GUARD_NUMBERS);
     check("C++: start is accepted", number == GUARD_ACCEPTED && numbers[0] == 1 && numbers[1] == 1);
     check("C++: start leaves the tables of C1", shadow[0] == 0 && shadow[1] == 0x2401 && map[1] == 2 && exclusion[0] == 0x04 &&
-                                                    state[GUARD_STATE_RUNNING] == 1);
+                                                    state[GUARD_STATE_RUNNING] == 1 && state[GUARD_STATE_DEVICES] == 2);
     number = guard_sync_page(state, GUARD_STATE_WORDS, kernel, 4, shadow, 4, map, 4, exclusion, 1, 0, numbers, GUARD_NUMBERS);
     check("C++: page 0 joins as in C2",
           number == GUARD_ACCEPTED && numbers[0] == 1 && numbers[1] == 1 && shadow[0] == 0x2401 && map[0] == 2);
@@ -52,6 +52,14 @@ int main()
     number = guard_sync_all_tree(state, GUARD_STATE_WORDS, tables, 2 * GUARD_TABLE_ENTRIES, 2, GUARD_DEPTH_MAX, shadow, 4, map, 4,
                                  exclusion, 1, numbers, GUARD_NUMBERS);
     check("C++: root 2 of 2 gives 17", number == GUARD_TREE && numbers[0] == 0 && numbers[1] == 0 && shadow[0] == 0x2401);
+
+    guard_device cards[2] = {};
+    cards[0].last = 1;
+    cards[1].first = cards[1].last = 3;
+    number = guard_device_write(state, GUARD_STATE_WORDS, exclusion, 1, cards, 2, 1, 12288, 4096, numbers, GUARD_NUMBERS);
+    check("C++: device 1 writes to its window", number == GUARD_ACCEPTED && numbers[0] == 3 && numbers[1] == 3);
+    number = guard_device_write(state, GUARD_STATE_WORDS, exclusion, 1, cards, 2, 0, 12288, 4096, numbers, GUARD_NUMBERS);
+    check("C++: device 0 there gives 19", number == GUARD_OUTSIDE_WINDOW && numbers[0] == 0 && numbers[1] == 0);
     std::printf("%d passed, %d failed\n", passed, failed);
     return failed == 0 ? 0 : 1;
 }

@@ -11,7 +11,7 @@
 #include "guard.h"
 
 /* V, F, n and e at their largest, and the lengths that follow. */
-enum { PAGES = 2048, FRAMES = 4096, ENTRIES = 16, VECTOR = FRAMES / 8, RECORD = 8 + 4 * PAGES };
+enum { PAGES = 2048, FRAMES = 4096, ENTRIES = 16, VECTOR = FRAMES / 8, RECORD = 8 + 4 * PAGES, DEVICES = GUARD_DEVICES_MAX };
 enum { STACK = 65536, MOST_WORDS = 16 };
 
 /* The tables of a tree: a root, a directory, and one for each 512 pages. */
@@ -87,6 +87,7 @@ static uint64_t tables[RUN];
 static uint64_t shadow[PAGES];
 static uint16_t map[PAGES];
 static uint8_t exclusion[VECTOR];
+static struct guard_device devices[DEVICES];
 static uint8_t policy[RECORD];
 static uint16_t listed_pages[PAGES];
 static uint16_t listed_frames[PAGES];
@@ -159,9 +160,9 @@ static void measure(struct call call)
 #define CALL(function, ...) \
     ((struct call){AT(function), sizeof((uint64_t[]){__VA_ARGS__}) / sizeof(uint64_t), {__VA_ARGS__}, 0, 0})
 
-static struct call start(uint64_t length, uint64_t words)
+static struct call start(uint64_t length, uint64_t count, uint64_t words)
 {
-    return CALL(guard_start, AT(policy), length, AT(state), words, AT(shadow), PAGES, AT(map), PAGES, AT(exclusion), VECTOR,
+    return CALL(guard_start, AT(policy), length, count, AT(state), words, AT(shadow), PAGES, AT(map), PAGES, AT(exclusion), VECTOR,
                 AT(numbers), GUARD_NUMBERS);
 }
 
@@ -222,9 +223,10 @@ static struct call leave(uint64_t page, uint64_t words)
     return CALL(guard_leave, AT(state), words, AT(shadow), PAGES, page, AT(numbers), GUARD_NUMBERS);
 }
 
-static struct call device_write(uint64_t address, uint64_t length, uint64_t words)
+static struct call device_write(uint64_t device, uint64_t address, uint64_t length, uint64_t words)
 {
-    return CALL(guard_device_write, AT(state), words, AT(exclusion), VECTOR, address, length, AT(numbers), GUARD_NUMBERS);
+    return CALL(guard_device_write, AT(state), words, AT(exclusion), VECTOR, AT(devices), DEVICES, device, address, length,
+                AT(numbers), GUARD_NUMBERS);
 }
 
 static void put(size_t at, unsigned number)
@@ -267,14 +269,18 @@ static uint64_t kernel_entry(uint64_t page)
     return page % 7 == 6 ? 0 : entry;
 }
 
-/* The guard that the calls are measured on: sixteen entry pages, synchronised, in user mode on page 18 or in kernel mode. */
+/* The guard that the calls are measured on: sixteen entry pages, synchronised, in user mode on page 18 or in kernel mode, and 64
+ * devices, of which the last has an empty window and the others every frame. */
 static void prepare(int user)
 {
     record(ENTRIES, ENTRIES);
-    make(start(8 + 4 * ENTRIES, GUARD_STATE_WORDS));
+    make(start(8 + 4 * ENTRIES, DEVICES, GUARD_STATE_WORDS));
     for (uint64_t page = 0; page < PAGES; page++)
         kernel[page] = kernel_entry(page);
     make(sync_all(GUARD_STATE_WORDS));
+    for (int i = 0; i < DEVICES; i++)
+        devices[i] = (struct guard_device){.first = 0, .last = FRAMES - 1};
+    devices[DEVICES - 1] = (struct guard_device){.first = 1, .last = 0};
     if (user)
         make(leave(18, GUARD_STATE_WORDS));
 }
@@ -321,12 +327,13 @@ int main(void)
     const uint64_t cut = GUARD_STATE_WORDS - 1;
 
     record(PAGES, ENTRIES);
-    measure(start(RECORD, whole));
-    measure(start(RECORD, cut));
+    measure(start(RECORD, DEVICES, whole));
+    measure(start(RECORD, DEVICES, cut));
+    measure(start(RECORD, DEVICES + 1, whole));
     for (uint64_t length = 0; length < 24; length++)
-        measure(start(length, whole));
+        measure(start(length, DEVICES, whole));
     record(1, 1);
-    measure(start(12, whole));
+    measure(start(12, 1, whole));
     report("guard_start");
 
     for (unsigned i = 0; i < PAGES; i++) {
@@ -448,13 +455,15 @@ int main(void)
     report("guard_leave");
 
     prepare(0);
-    measure(device_write(0, 1, whole));
-    measure(device_write(0, 1048576, whole));
-    measure(device_write(4095, 1048576, whole));
-    measure(device_write(4096 * (uint64_t)PAGES, 1, whole));
-    measure(device_write(4096 * (uint64_t)FRAMES, 1, whole));
-    measure(device_write(0, 0, whole));
-    measure(device_write(0, 1, cut));
+    for (uint64_t device = 0; device <= DEVICES; device++) {
+        measure(device_write(device, 0, 1, whole));
+        measure(device_write(device, 0, 1048576, whole));
+        measure(device_write(device, 4095, 1048576, whole));
+        measure(device_write(device, 4096 * (uint64_t)PAGES, 1, whole));
+        measure(device_write(device, 4096 * (uint64_t)FRAMES, 1, whole));
+        measure(device_write(device, 0, 0, whole));
+        measure(device_write(device, 0, 1, cut));
+    }
     report("guard_device_write");
     return 0;
 }

@@ -308,7 +308,7 @@ static struct guard started(int user)
     static const uint8_t policy[16] = {PAGES & 255, PAGES >> 8, FRAMES & 255, FRAMES >> 8, 2, 0, 2, 0, 0, 0, 600 & 255, 600 >> 8, 2, 0,
                                        515 & 255,   515 >> 8};
     struct guard g = {0};
-    if (guard_start(policy, sizeof policy, g.state, GUARD_STATE_WORDS, g.shadow, PAGES, g.map, PAGES, g.exclusion, VECTOR,
+    if (guard_start(policy, sizeof policy, 1, g.state, GUARD_STATE_WORDS, g.shadow, PAGES, g.map, PAGES, g.exclusion, VECTOR,
                     g.numbers, GUARD_NUMBERS) != GUARD_ACCEPTED)
         stop("the start", "refused");
     g.state[GUARD_STATE_MODE] = user ? GUARD_MODE_USER : GUARD_MODE_KERNEL;

@@ -8,7 +8,7 @@
 
 #include "guard.h"
 
-enum { PAGES = 4, VECTOR = 1, ROOM = 24 };
+enum { PAGES = 4, VECTOR = 1, DEVICES = 2, ROOM = 24 };
 
 /* Every run that the caller of a guard holds. */
 struct guard {
@@ -18,6 +18,7 @@ struct guard {
     uint64_t shadow[PAGES];
     uint16_t map[PAGES];
     uint8_t exclusion[VECTOR];
+    struct guard_device devices[DEVICES];
 };
 
 static int passed;
@@ -39,7 +40,8 @@ static void check(const char *name, uint64_t number, uint64_t want_number, const
                 memcmp(g->numbers, want->numbers, sizeof g->numbers) == 0 &&
                 memcmp(g->kernel, want->kernel, sizeof g->kernel) == 0 &&
                 memcmp(g->shadow, want->shadow, sizeof g->shadow) == 0 && memcmp(g->map, want->map, sizeof g->map) == 0 &&
-                memcmp(g->exclusion, want->exclusion, sizeof g->exclusion) == 0;
+                memcmp(g->exclusion, want->exclusion, sizeof g->exclusion) == 0 &&
+                memcmp(g->devices, want->devices, sizeof g->devices) == 0;
     tell(name, right);
 }
 
@@ -69,7 +71,7 @@ static void refused(const char *name, uint64_t number, uint64_t want_number, str
 
 static uint64_t start(struct guard *g, const uint8_t *policy, size_t length)
 {
-    return guard_start(policy, length, g->state, GUARD_STATE_WORDS, g->shadow, PAGES, g->map, PAGES, g->exclusion, VECTOR,
+    return guard_start(policy, length, DEVICES, g->state, GUARD_STATE_WORDS, g->shadow, PAGES, g->map, PAGES, g->exclusion, VECTOR,
                        g->numbers, GUARD_NUMBERS);
 }
 
@@ -150,42 +152,47 @@ static uint64_t leave(struct guard *g, uint64_t page)
     return guard_leave(g->state, GUARD_STATE_WORDS, g->shadow, PAGES, page, g->numbers, GUARD_NUMBERS);
 }
 
+/* By device 0. */
 static uint64_t device_write(struct guard *g, uint64_t address, uint64_t length)
 {
-    return guard_device_write(g->state, GUARD_STATE_WORDS, g->exclusion, VECTOR, address, length, g->numbers, GUARD_NUMBERS);
+    return guard_device_write(g->state, GUARD_STATE_WORDS, g->exclusion, VECTOR, g->devices, DEVICES, 0, address, length, g->numbers,
+                              GUARD_NUMBERS);
 }
 
 /* "Policy V 4, F 4, n 1, e 1, page 1, frame 2." */
 static const uint8_t policy[12] = {4, 0, 4, 0, 1, 0, 1, 0, 1, 0, 2, 0};
 
-/* Runs as they may be before a start: nothing of them is read. */
+/* Runs as they may be before a start: nothing of them is read. Both devices may write to every frame. */
 static const struct guard unset = {
-    .state = {9, 9, 9, 9, 9, 9, 9, 9, 9, 9, 9, 9, 9, 9, 9, 9, 9, 9, 9, 9, 9},
+    .state = {9, 9, 9, 9, 9, 9, 9, 9, 9, 9, 9, 9, 9, 9, 9, 9, 9, 9, 9, 9, 9, 9},
     .numbers = {77, 88},
     .kernel = {0, 0, 0, 0},
     .shadow = {5, 6, 7, 8},
     .map = {1, 2, 3, 4},
     .exclusion = {0xff},
+    .devices = {{.first = 0, .last = 3}, {.first = 0, .last = 3}},
 };
 
 /* The guard just started, in kernel mode on page 1. C1: "shadow of page 1 is 0x2401, exclusion byte 0x04". */
 static const struct guard started = {
-    .state = {4, 4, 1, 1, 0, 0, 0, 0, 0, 0, 0, 0, 0, 0, 0, 0, 0, 0, 0, GUARD_MODE_KERNEL, 1},
+    .state = {4, 4, 1, 1, 0, 0, 0, 0, 0, 0, 0, 0, 0, 0, 0, 0, 0, 0, 0, GUARD_MODE_KERNEL, 1, DEVICES},
     .numbers = {1, 1},
     .kernel = {0, 0, 0, 0},
     .shadow = {0, 0x2401, 0, 0},
     .map = {65535, 2, 65535, 65535},
     .exclusion = {0x04},
+    .devices = {{.first = 0, .last = 3}, {.first = 0, .last = 3}},
 };
 
 /* The guard at the end of the worked example, in user mode on page 3. */
 static const struct guard finished = {
-    .state = {4, 4, 1, 1, 0, 0, 0, 0, 0, 0, 0, 0, 0, 0, 0, 0, 0, 0, 0, GUARD_MODE_USER, 3},
+    .state = {4, 4, 1, 1, 0, 0, 0, 0, 0, 0, 0, 0, 0, 0, 0, 0, 0, 0, 0, GUARD_MODE_USER, 3, DEVICES},
     .numbers = {0, 0},
     .kernel = {0x2003, 0, 0, 0x3007},
     .shadow = {0x8000000000002401, 0x8000000000002401, 0, 0x3007},
     .map = {2, 2, 65535, 65535},
     .exclusion = {0x04},
+    .devices = {{.first = 0, .last = 3}, {.first = 0, .last = 3}},
 };
 
 /* "S 0 1 1 K 1" to "7 13 0 0 U 3", a line of the document at a call. */
@@ -465,6 +472,9 @@ static void refused_states(void)
         {"e 65537", GUARD_STATE_ENTRIES, 65537},
         {"running page 65539", GUARD_STATE_RUNNING, 65539},
         {"running page 4", GUARD_STATE_RUNNING, 4},
+        {"no device", GUARD_STATE_DEVICES, 0},
+        {"65 devices", GUARD_STATE_DEVICES, 65},
+        {"65538 devices", GUARD_STATE_DEVICES, 65538},
     };
     for (size_t i = 0; i < sizeof damage / sizeof damage[0]; i++) {
         struct guard before = with_word(damage[i].at, damage[i].word);
@@ -486,18 +496,18 @@ static void refused_lengths(void)
 {
     const struct guard before = finished;
     struct guard g = ready(&before);
-    refused("state run of 20 words gives 7",
+    refused("state run of 21 words gives 7",
             guard_fetch(g.state, GUARD_STATE_WORDS - 1, g.shadow, PAGES, 3, g.numbers, GUARD_NUMBERS), GUARD_STATE_OR_TABLE, &g,
             &before);
-    uint64_t longer[GUARD_STATE_WORDS + 1] = {4, 4, 1, 1, [GUARD_STATE_MODE] = 1, 3, 0};
-    refused("state run of 22 words gives 7",
+    uint64_t longer[GUARD_STATE_WORDS + 1] = {4, 4, 1, 1, [GUARD_STATE_MODE] = 1, 3, DEVICES, 0};
+    refused("state run of 23 words gives 7",
             guard_fetch(longer, GUARD_STATE_WORDS + 1, g.shadow, PAGES, 3, g.numbers, GUARD_NUMBERS), GUARD_STATE_OR_TABLE, &g,
             &before);
     refused("shadow table of 3 entries gives 7",
             guard_leave(g.state, GUARD_STATE_WORDS, g.shadow, PAGES - 1, 3, g.numbers, GUARD_NUMBERS), GUARD_STATE_OR_TABLE, &g,
             &before);
     refused("exclusion vector of 0 bytes gives 7",
-            guard_device_write(g.state, GUARD_STATE_WORDS, g.exclusion, 0, 0, 1, g.numbers, GUARD_NUMBERS),
+            guard_device_write(g.state, GUARD_STATE_WORDS, g.exclusion, 0, g.devices, DEVICES, 0, 0, 1, g.numbers, GUARD_NUMBERS),
             GUARD_STATE_OR_TABLE, &g, &before);
 
     /* a numbers run of another length is not written */
@@ -526,24 +536,24 @@ static void refused_starts(void)
     refused("page 4 of 4 gives 5", start(&g, high_page, sizeof high_page), GUARD_LISTED_PAGE, &g, &before);
     const uint8_t high_frame[12] = {4, 0, 4, 0, 1, 0, 1, 0, 1, 0, 4, 0};
     refused("frame 4 of 4 gives 6", start(&g, high_frame, sizeof high_frame), GUARD_LISTED_FRAME, &g, &before);
-    refused("start on a state run of 20 words gives 7",
-            guard_start(policy, sizeof policy, g.state, GUARD_STATE_WORDS - 1, g.shadow, PAGES, g.map, PAGES, g.exclusion, VECTOR,
-                        g.numbers, GUARD_NUMBERS),
+    refused("start on a state run of 21 words gives 7",
+            guard_start(policy, sizeof policy, DEVICES, g.state, GUARD_STATE_WORDS - 1, g.shadow, PAGES, g.map, PAGES, g.exclusion,
+                        VECTOR, g.numbers, GUARD_NUMBERS),
             GUARD_STATE_OR_TABLE, &g, &before);
     refused("start on a map of 3 numbers gives 7",
-            guard_start(policy, sizeof policy, g.state, GUARD_STATE_WORDS, g.shadow, PAGES, g.map, PAGES - 1, g.exclusion, VECTOR,
-                        g.numbers, GUARD_NUMBERS),
+            guard_start(policy, sizeof policy, DEVICES, g.state, GUARD_STATE_WORDS, g.shadow, PAGES, g.map, PAGES - 1, g.exclusion,
+                        VECTOR, g.numbers, GUARD_NUMBERS),
             GUARD_STATE_OR_TABLE, &g, &before);
     refused("start asks 1 before 7",
-            guard_start(policy, 7, g.state, GUARD_STATE_WORDS - 1, g.shadow, PAGES, g.map, PAGES, g.exclusion, VECTOR, g.numbers,
-                        GUARD_NUMBERS),
+            guard_start(policy, 7, DEVICES, g.state, GUARD_STATE_WORDS - 1, g.shadow, PAGES, g.map, PAGES, g.exclusion, VECTOR,
+                        g.numbers, GUARD_NUMBERS),
             GUARD_RECORD_TOO_SHORT, &g, &before);
     refused("start asks 6 before 7",
-            guard_start(high_frame, sizeof high_frame, g.state, 0, g.shadow, PAGES, g.map, PAGES, g.exclusion, VECTOR, g.numbers,
-                        GUARD_NUMBERS),
+            guard_start(high_frame, sizeof high_frame, DEVICES, g.state, 0, g.shadow, PAGES, g.map, PAGES, g.exclusion, VECTOR,
+                        g.numbers, GUARD_NUMBERS),
             GUARD_LISTED_FRAME, &g, &before);
     check("start on a numbers run of 1 word gives 7",
-          guard_start(policy, sizeof policy, g.state, GUARD_STATE_WORDS, g.shadow, PAGES, g.map, PAGES, g.exclusion, VECTOR,
+          guard_start(policy, sizeof policy, DEVICES, g.state, GUARD_STATE_WORDS, g.shadow, PAGES, g.map, PAGES, g.exclusion, VECTOR,
                       g.numbers, GUARD_NUMBERS - 1),
           GUARD_STATE_OR_TABLE, &g, &before);
 }
@@ -765,7 +775,7 @@ static void refused_trees(void)
 static void refused_tree_lengths(void)
 {
     enum { STATE, SHADOW, MAP, EXCLUSION, NUMBERS, LENGTHS };
-    static const char *const names[LENGTHS] = {"state run of 20 words", "shadow table of 3 entries", "map of 3 numbers",
+    static const char *const names[LENGTHS] = {"state run of 21 words", "shadow table of 3 entries", "map of 3 numbers",
                                                "exclusion vector of 0 bytes", "numbers run of 1 word"};
     const struct guard before = finished;
     struct guard g = ready(&before);

@@ -117,7 +117,10 @@ deviceCases =
     ∷ []
 
 -- The drill's windows.
-unfoldable pub windowCases : List (Row (List Device))
+abbrev pub WindowCase : Type 0
+WindowCase = Row (List Device)
+
+unfoldable pub windowCases : List WindowCase
 windowCases =
     row (windowsOf 4) (replicate 64 (deviceOf 0 3))
     ∷ row (windowsOf 1) (replicate 64 (deviceOf 0 0))

@@ -67,7 +67,8 @@ drillCases =
     ∷ "1 0 0 0 U 0"
     ∷ "X 14 0 0 U 0\n0000000000004007\n0000000000000000\n0000000000000000\nshare 11"
     ∷ []))
-    -- A policy with two entry pages, and in each call other numbers in the fields that its kind does not have.
+    -- A policy with two entry pages, and in each call other numbers in the fields that its kind does not have; of a device write the index is its
+    -- device (K5).
     ∷ row
     (drillOutput
     (twoEntries
@@ -110,6 +111,15 @@ drillCases =
     ∷ "X 15 0 0 K 8"
     ∷ replicate 7 "0000000000000000"
     ++ ("0000000000000000\n0000000000002401\nshare 33" ∷ [])))
+    -- K5: 64 devices, and the index of a device write is its device: 63, 64 and one that 8 bits would cut; each may write the last frame
+    ∷ row (drillOutput (policyBytes ++ callBytes 7 63 1 16383 ++ callBytes 7 64 1 0 ++ callBytes 7 256 1 0 ++ callBytes 7 0 4096 12288))
+    (linesOf
+    ("S 0 1 1 K 1"
+    ∷ "7 0 3 3 K 1"
+    ∷ "7 18 0 0 K 1"
+    ∷ "7 18 0 0 K 1"
+    ∷ "7 0 3 3 K 1\n0000000000000000\n0000000000002401\n0000000000000000\n0000000000000000\nshare 25"
+    ∷ []))
     -- 15 of a call's 16 bytes, and no call at all
     ∷ row (drillOutput (policyBytes ++ replicate 15 0))
     (linesOf

@@ -1,13 +1,13 @@
 -- Document 02, K4: what walks give, and what synchronising from a tree gives. A row of a walk fixes its answer, the flat entry and the count of
 -- entries read, and the entries themselves; a row of a call fixes its whole outcome. The guard is that of Further: V 6, F 8, pages 1, 2 and 4 approved
 -- for frames 5, 3 and 5.
-use Prim.Native.Nat.{ℕ, suc, _+_, _*_}
+use Prim.Native.Nat.{ℕ, suc, _+_, _-_, _*_}
 use mathlib.Core.Bool.{true, false}
 use mathlib.Core.List.{List, [], _∷_, _++_}
-use lib.ListN.{replicate, set}
+use lib.ListN.{length, replicate, set}
 use Rattle.model.specs.declared.Mode.the-variants.{Kernel, User}
 use Rattle.model.specs.Keeps.{tables, Guard, guardOf, stateOf}
-use Rattle.model.specs.Tree.{Tree, treeOf, walkOf}
+use Rattle.model.specs.Tree.{Tree, treeOf, Walk, walkOf}
 use Rattle.model.specs.Calls.{Reply, Outcome, accepted, refused, outcome, syncPageTree, syncAllTree, answer}
 use Rattle.model.specs.Walks.{walkReply}
 use Rattle.model.specs.Cases.{Row, row, Case}
@@ -23,10 +23,15 @@ pub record Word : Type 0 where
 abbrev pub at : ℕ → ℕ → ℕ → Word
 at number place entry = record { number = number; place = place; entry = entry }
 
--- A run of so many tables that has these entries, and 0 elsewhere.
+-- A run of so many tables that has these entries, in rising order, and 0 elsewhere: from a word of the run on, up to its end.
+unfoldable pub runFrom : ℕ → ℕ → List Word → List ℕ
+runFrom end from [] = replicate (end - from) 0
+runFrom end from (w ∷ ws) =
+    let place : ℕ = w .number * 512 + w .place in
+    replicate (place - from) 0 ++ (w .entry ∷ runFrom end (suc place) ws)
+
 unfoldable pub runOf : ℕ → List Word → List ℕ
-runOf count [] = replicate (count * 512) 0
-runOf count (w ∷ ws) = set (runOf count ws) (w .number * 512 + w .place) (w .entry)
+runOf count ws = runFrom (count * 512) 0 ws
 
 -- One table, with an entry at place 5.
 unfoldable pub one : ℕ → Tree
@@ -43,16 +48,20 @@ three top upper last = treeOf (runOf 3 (at 0 1 top ∷ at 1 2 upper ∷ at 2 3 l
 abbrev pub byThree : ℕ
 byThree = 263171
 
--- A walk's answer, with the entries that it met.
+-- What a walk gives: its flat entry, the count of entries read, and these entries.
 pub record Walked : Type 0 where
-  pub reply : Reply
+  pub flat : ℕ
+  pub reads : ℕ
   pub met : List ℕ
 
-unfoldable pub walked : Tree → ℕ → Walked
-walked tree page = record { reply = walkReply true tree page; met = walkOf tree page .met }
-
 unfoldable pub gives : ℕ → ℕ → List ℕ → Walked
-gives flat reads met = record { reply = accepted flat reads; met = met }
+gives flat reads met = record { flat = flat; reads = reads; met = met }
+
+unfoldable pub given : Walk → Walked
+given walk = gives (walk .flat) (length (walk .met)) (walk .met)
+
+unfoldable pub walked : Tree → ℕ → Walked
+walked tree page = given (walkOf tree page)
 
 abbrev pub WalkCase : Type 0
 WalkCase = Row Walked
@@ -115,7 +124,7 @@ walkCases =
     -- A table may be named at both levels
     ∷ row (walked (treeOf (runOf 1 (at 0 3 0x0007 ∷ [])) 0 2) 1539) (gives 0x0007 2 (0x0007 ∷ 0x0007 ∷ []))
     -- "The frame field of an upper entry is the number of the next table in the run", wherever the root stands: a table before the root
-    ∷ row (walked (treeOf (runOf 3 (at 2 3 0x1007 ∷ at 1 511 0x7007 ∷ [])) 2 2) 2047) (gives 0x7007 2 (0x1007 ∷ 0x7007 ∷ []))
+    ∷ row (walked (treeOf (runOf 3 (at 1 511 0x7007 ∷ at 2 3 0x1007 ∷ [])) 2 2) 2047) (gives 0x7007 2 (0x1007 ∷ 0x7007 ∷ []))
     -- The last page of depth 2, and those past it
     ∷ row (walked (treeOf (runOf 2 (at 0 511 0x1007 ∷ at 1 511 0x7007 ∷ [])) 0 2) 262143) (gives 0x7007 2 (0x1007 ∷ 0x7007 ∷ []))
     ∷ row (walked (treeOf (runOf 2 (at 0 0 0x1007 ∷ at 1 0 0x7007 ∷ [])) 0 2) 262144) (gives 0 0 [])
@@ -163,7 +172,7 @@ walkCases =
     ∷ row (walked (three 0x1007 0x2007 0x8000000000007019) byThree) (gives 0x8000000000007019 3 (0x1007 ∷ 0x2007 ∷ 0x8000000000007019 ∷ []))
     ∷ row (walked (three 0x1007 0x2f7f 0x7007) byThree) (gives 0x7007 3 (0x1007 ∷ 0x2f7f ∷ 0x7007 ∷ []))
     -- Each level's table is the one that the entry above it names: the root last in the run, then table 1, then table 0
-    ∷ row (walked (treeOf (runOf 3 (at 2 1 0x1007 ∷ at 1 2 0x0007 ∷ at 0 3 0x7007 ∷ [])) 2 3) byThree) (gives 0x7007 3 (0x1007 ∷ 0x0007 ∷ 0x7007 ∷ []))
+    ∷ row (walked (treeOf (runOf 3 (at 0 3 0x7007 ∷ at 1 2 0x0007 ∷ at 2 1 0x1007 ∷ [])) 2 3) byThree) (gives 0x7007 3 (0x1007 ∷ 0x0007 ∷ 0x7007 ∷ []))
     -- Absent at each level, and by a marker; a table number outside at levels 3 and 2, one of them 1 in the lower 39 bits alone
     ∷ row (walked (three 0x1006 0x2007 0x7007) byThree) (gives 0 1 (0x1006 ∷ []))
     ∷ row (walked (three 0x0010000000001007 0x2007 0x7007) byThree) (gives 0 1 (0x0010000000001007 ∷ []))
@@ -227,6 +236,11 @@ walkRefusals =
     ∷ row (walkedIn (replicate 512 0x7007) 4294967296 1) (refused 17)
     ∷ row (walkedIn (replicate 512 0x7007) 36028797018963968 1) (refused 17)
     ∷ row (walkedIn (replicate 512 0x7007) 9223372036854775808 1) (refused 17)
+    -- The call answers the flat entry and the count of entries read, which the depth does not settle
+    ∷ row (walkReply true (two 0x1007 0x8000000000007005) 2047) (accepted 0x8000000000007005 2)
+    ∷ row (walkReply true (three 0x1007 0x2006 0x7007) byThree) (accepted 0 2)
+    ∷ row (walkReply true (three 0x1007 0x600087 0x7007) byThree) (accepted 0x603007 2)
+    ∷ row (walkReply true (three 0x3007 0x2007 0x7007) byThree) (accepted 0 1)
     -- 7 before 17; there is no 9
     ∷ row (walkReply false (treeOf [] 0 0) 5) (refused 7)
     ∷ row (walkReply false (treeOf (replicate 512 0x7007) 0 1) 5) (refused 7)
@@ -321,11 +335,9 @@ treeCases =
     (outcome (accepted 1 1)
     (guardOf (sixPages (Kernel 1)) (tables (set shadow6 5 0x5401) (65535 ∷ 5 ∷ 3 ∷ 65535 ∷ 5 ∷ 5 ∷ []) (0x28 ∷ []))))
     ∷ stays started6 (syncPageTree (flatTree sixEntries) 1) (accepted 0 0)
-    -- Pages past the depth's bits are absent: page 512 of 514 at depth 1, alone and with all. At depth 2 the last page that a guard can have, 2,047, is
+    -- Pages past the depth's bits are absent: page 512 of 514 at depth 1. At depth 2 the last page that a guard can have, 2,047, is
     -- mapped
     ∷ row (answer (ones 514) (syncPageTree (oneTable 512 0x7007) 512)) (outcome (accepted 1 0) (shadowed 514 (set (replicate 514 1) 512 0)))
-    ∷ row (answer (ones 514) (syncAllTree (oneTable 512 0x7007)))
-    (outcome (accepted 514 0) (shadowed 514 (replicate 512 0x8000000000007007 ++ (0 ∷ 0 ∷ []))))
     ∷ row (answer (ones 2048) (syncPageTree (two 0x1007 0x7005) 2047))
     (outcome (accepted 1 0) (shadowed 2048 (set (replicate 2048 1) 2047 0x8000000000007005)))
     -- 7: the state, its e of 0 and its running page, and each table that is lent; no kernel table is
@@ -338,20 +350,11 @@ treeCases =
     ∷ stays (ofLengths (Kernel 1) 6 7 1) (syncAllTree (oneTable 512 0)) (refused 7)
     ∷ stays (ofLengths (Kernel 1) 6 6 0) (syncAllTree (oneTable 512 0)) (refused 7)
     ∷ stays (ofLengths (Kernel 1) 6 6 2) (syncPageTree (oneTable 512 0) 0) (refused 7)
-    -- 17: an empty run, runs of 511, 513 and 768 words, depth 0 and 4, a root outside
+    -- 17 of each call: an empty run, one of 511 words, a root outside. What else 17 asks stands in walkRefusals, and `TreeRefused` carries it over.
     ∷ stays started6 (syncAllTree (treeOf [] 0 1)) (refused 17)
     ∷ stays started6 (syncAllTree (oneTable 511 0x7007)) (refused 17)
-    ∷ stays started6 (syncAllTree (oneTable 513 0x7007)) (refused 17)
-    ∷ stays started6 (syncAllTree (oneTable 768 0x7007)) (refused 17)
-    ∷ stays started6 (syncAllTree (treeOf (replicate 512 0x0007) 0 0)) (refused 17)
-    ∷ stays started6 (syncAllTree (treeOf (replicate 512 0x0007) 0 4)) (refused 17)
     ∷ stays started6 (syncAllTree (treeOf (replicate 512 0x7007) 1 1)) (refused 17)
     ∷ stays started6 (syncPageTree (treeOf [] 0 1) 0) (refused 17)
-    ∷ stays started6 (syncPageTree (oneTable 511 0x7007) 0) (refused 17)
-    ∷ stays started6 (syncPageTree (oneTable 513 0x7007) 0) (refused 17)
-    ∷ stays started6 (syncPageTree (oneTable 768 0x7007) 0) (refused 17)
-    ∷ stays started6 (syncPageTree (treeOf (replicate 512 0x0007) 0 0) 0) (refused 17)
-    ∷ stays started6 (syncPageTree (treeOf (replicate 512 0x0007) 0 4) 0) (refused 17)
     ∷ stays started6 (syncPageTree (treeOf (replicate 512 0x7007) 9223372036854775808 1) 0) (refused 17)
     -- 9: page V, and one that is not cut
     ∷ stays started6 (syncPageTree (oneTable 512 0x7007) 6) (refused 9)

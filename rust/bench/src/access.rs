@@ -3,8 +3,8 @@
 
 use std::hint::black_box;
 
-use guard::archive;
-use reference::{Answer, State};
+use guard::archive::{self, NUMBERS};
+use reference::{Answer, Device, State};
 
 use crate::plain::{self, on_runs};
 use crate::sides::{PlainSide, RunSide};
@@ -130,60 +130,99 @@ impl Work for Write {
     }
 }
 
-/// Device write: accepted addresses at the beginning of a frame, in turn, with one length.
+/// Device write: each device in turn, at addresses at the beginning of a frame that are answered with one number, with one length.
 pub struct DeviceWrite {
     sides: Sides,
-    addresses: Vec<u64>,
-    length: u64,
+    /// The list of devices, for the archive and for the others.
+    lent: Vec<archive::Device>,
+    plain: Vec<Device>,
+    transfers: Vec<Transfer>,
 }
+
+/// A device, an address and a length.
+type Transfer = (u64, u64, u64);
 
 impl DeviceWrite {
-    pub fn new(tables: &Tables, length: u64) -> DeviceWrite {
+    /// Every device has this window.
+    pub fn new(tables: &Tables, window: Device, length: u64, wanted: u8) -> DeviceWrite {
         let sides = Sides::new(tables, false);
+        let plain = vec![window; tables.devices.into()];
         let PlainSide { state, exclusion, .. } = &sides.plain;
-        let is_accepted =
-            |&address: &u64| reference::device_write(state, exclusion, address, length).is_ok();
+        let answered =
+            |address| number(reference::device_write(state, exclusion, &plain, 0, address, length));
         let begins = (0..2 * u64::from(tables.v)).rev().map(|frame| frame * 4096);
-        let addresses = begins.filter(is_accepted).collect();
-        DeviceWrite { addresses: in_turn(addresses), length, sides }
+        let addresses = begins.filter(|&address| answered(address) == wanted).collect();
+        let devices = (0..u64::from(tables.devices)).cycle();
+        let transfers = devices.zip(in_turn(addresses));
+        DeviceWrite {
+            lent: vec![archive::Device::new(window.first, window.last); plain.len()],
+            transfers: transfers.map(|(device, address)| (device, address, length)).collect(),
+            sides,
+            plain,
+        }
     }
 }
 
 #[inline(always)]
-fn device_on_runs(
+fn device_on_runs<D>(
     side: &mut RunSide,
-    places: impl Iterator<Item = (u64, u64)>,
-    call: impl Fn(&[u64], &[u8], u64, u64, &mut [u64]) -> u64,
+    devices: &[D],
+    transfers: impl Iterator<Item = Transfer>,
+    call: impl Fn(&[u64], &[u8], &[D], u64, u64, u64, &mut [u64]) -> u64,
 ) {
     let RunSide { state, numbers, exclusion, .. } = side;
-    for place in places {
-        let (address, length) = black_box(place);
-        black_box(call(state, exclusion, address, length, numbers));
+    for transfer in transfers {
+        let (device, address, length) = black_box(transfer);
+        black_box(call(state, exclusion, devices, device, address, length, numbers));
     }
 }
 
 #[inline(always)]
-fn device_on_state(side: &PlainSide, places: impl Iterator<Item = (u64, u64)>) {
+fn device_on_state(
+    side: &PlainSide,
+    devices: &[Device],
+    transfers: impl Iterator<Item = Transfer>,
+) {
     let PlainSide { state, exclusion, .. } = side;
-    for place in places {
-        let (address, length) = black_box(place);
-        black_box(&plain::device_write(state, exclusion, address, length));
+    for transfer in transfers {
+        let (device, address, length) = black_box(transfer);
+        black_box(&plain::device_write(state, exclusion, devices, device, address, length));
     }
 }
 
 impl Work for DeviceWrite {
     fn repeat(&mut self, side: Side, count: u64) -> bool {
-        let places = (0..count as usize).map(|i| (self.addresses[i % ARGUMENTS], self.length));
+        let DeviceWrite { sides, lent, plain, transfers } = self;
+        let transfers = (0..count as usize).map(|i| transfers[i % ARGUMENTS]);
         match side {
-            Side::Archive => device_on_runs(&mut self.sides.archive, places, archive::device_write),
-            Side::Reference => device_on_state(&self.sides.plain, places),
-            Side::OnRuns => device_on_runs(&mut self.sides.on_runs, places, on_runs::device_write),
+            Side::Archive => {
+                device_on_runs(&mut sides.archive, lent, transfers, archive::device_write);
+            }
+            Side::Reference => device_on_state(&sides.plain, plain, transfers),
+            Side::OnRuns => {
+                device_on_runs(&mut sides.on_runs, plain, transfers, on_runs::device_write);
+            }
             Side::WithoutApproval | Side::Flat => return false,
         }
         true
     }
 
+    /// A device write changes nothing, so that every one is made again.
     fn agree(&self) -> bool {
-        self.sides.agree()
+        let DeviceWrite { sides, lent, plain, transfers } = self;
+        let RunSide { state, exclusion, .. } = &sides.archive;
+        let same_answers = transfers.iter().all(|&(device, at, length)| {
+            let mut numbers = [[0; NUMBERS]; 2];
+            let [by_archive, by_runs] = &mut numbers;
+            let refusals = [
+                archive::device_write(state, exclusion, lent, device, at, length, by_archive),
+                on_runs::device_write(state, exclusion, plain, device, at, length, by_runs),
+            ];
+            let state = &sides.plain.state;
+            let answer = plain::device_write(state, exclusion, plain, device, at, length);
+            let frames = answer.map_or([0; NUMBERS], |(first, last)| [first, last]);
+            refusals == [number(answer).into(); 2] && numbers == [frames; 2]
+        });
+        sides.agree() && same_answers
     }
 }

@@ -1,11 +1,13 @@
 //! The measured cases by name.
 //! Preparing a case makes all its sides ready; only the repetitions are measured.
 
+use reference::Device;
+
 use crate::access::{DeviceWrite, Fetch, Write};
 use crate::record::WriteRecord;
 use crate::switch::{LeaveAndEnter, Start};
 use crate::synchronise::{SynchroniseAll, SynchroniseOne};
-use crate::tables::{Contents, Tables};
+use crate::tables::{Contents, Tables, MOST_DEVICES};
 use crate::tree::{SynchroniseAllFromTree, SynchroniseOneFromTree, Walk};
 use crate::trees::Trees;
 use crate::work::Work;
@@ -57,16 +59,26 @@ fn synchronisations() -> Vec<Case> {
 fn accesses() -> Vec<Case> {
     let approved = || Tables::new(Contents::Approved, MIDDLE);
     let ordinary = || Tables::new(Contents::Ordinary, MIDDLE);
-    let largest = || Tables::new(Contents::Ordinary, LARGEST);
-    vec![
+    let mut cases = vec![
         case("fetch", move || Fetch::new(&approved(), 0)),
         case("fetch, refused with 12", move || Fetch::new(&ordinary(), 12)),
         case("write in one page", move || Write::new(&ordinary(), 64, 16, 0)),
         case("write across two pages", move || Write::new(&ordinary(), 8, 16, 0)),
         case("write, refused with 12", move || Write::new(&approved(), 64, 16, 12)),
-        case("device write, 1 byte", move || DeviceWrite::new(&largest(), 1)),
-        case("device write, 1 MiB", move || DeviceWrite::new(&largest(), MEBIBYTE)),
-    ]
+    ];
+    let largest = |devices| Tables { devices, ..Tables::new(Contents::Ordinary, LARGEST) };
+    let all_frames = Device { first: 0, last: 2 * LARGEST - 1 };
+    for (bytes, length) in [("1 byte", 1), ("1 MiB", MEBIBYTE)] {
+        for (words, devices) in [("1 device", 1), ("64 devices", MOST_DEVICES)] {
+            let name = format!("device write, {bytes}, {words}");
+            let write = move || DeviceWrite::new(&largest(devices), all_frames, length, 0);
+            cases.push(case(name, write));
+        }
+    }
+    let upper_half = Device { first: LARGEST, last: 2 * LARGEST - 1 };
+    let write = move || DeviceWrite::new(&largest(MOST_DEVICES), upper_half, 1, 19);
+    cases.push(case("device write, refused with 19", write));
+    cases
 }
 
 fn switches() -> Vec<Case> {

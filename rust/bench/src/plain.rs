@@ -3,7 +3,7 @@
 
 use std::hint::black_box;
 
-use reference::{Answer, State, Tree};
+use reference::{Answer, Device, State, Tree};
 
 /// Lets the calls' addresses out, so that the compiler fits none of them to the lengths that this program happens to pass:
 /// the archive's calls are not fitted either.
@@ -25,11 +25,12 @@ pub fn keep_general() {
 #[inline(never)]
 pub fn start(
     policy: &[u8],
+    devices: u64,
     shadow: &mut [u64],
     map: &mut [u16],
     exclusion: &mut [u8],
 ) -> (State, Answer) {
-    reference::start(policy, shadow, map, exclusion)
+    reference::start(policy, devices, shadow, map, exclusion)
 }
 
 #[inline(never)]
@@ -76,8 +77,15 @@ pub fn leave(state: &mut State, shadow: &mut [u64], page: u64) -> Answer {
 }
 
 #[inline(never)]
-pub fn device_write(state: &State, exclusion: &[u8], address: u64, length: u64) -> Answer {
-    reference::device_write(state, exclusion, address, length)
+pub fn device_write(
+    state: &State,
+    exclusion: &[u8],
+    devices: &[Device],
+    device: u64,
+    address: u64,
+    length: u64,
+) -> Answer {
+    reference::device_write(state, exclusion, devices, device, address, length)
 }
 
 #[inline(never)]
@@ -151,18 +159,19 @@ pub mod without_approval {
 
 /// The reference behind the archive's own boundary, with the archive's parameters.
 pub mod on_runs {
-    use reference::{boundary, Tree};
+    use reference::{boundary, Device, Tree};
 
     #[inline(never)]
     pub fn start(
         policy: &[u8],
+        devices: u64,
         run: &mut [u64],
         shadow: &mut [u64],
         map: &mut [u16],
         exclusion: &mut [u8],
         numbers: &mut [u64],
     ) -> u64 {
-        boundary::start(policy, run, shadow, map, exclusion, numbers)
+        boundary::start(policy, devices, run, shadow, map, exclusion, numbers)
     }
 
     #[inline(never)]
@@ -227,12 +236,14 @@ pub mod on_runs {
     pub fn device_write(
         run: &[u64],
         exclusion: &[u8],
+        devices: &[Device],
+        device: u64,
         address: u64,
         length: u64,
         numbers: &mut [u64],
     ) -> u64 {
         boundary::ask(run, numbers, |state| {
-            reference::device_write(state, exclusion, address, length)
+            reference::device_write(state, exclusion, devices, device, address, length)
         })
     }
 

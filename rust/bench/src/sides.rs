@@ -1,7 +1,7 @@
 //! What the sides hold: a state run or a state, and tables of their own.
 //! All are started by the same policy and synchronised from the same kernel table.
 
-use guard::archive::{self, NUMBERS, STATE_MODE, STATE_RUNNING, STATE_WORDS};
+use guard::archive::{self, NUMBERS, STATE_DEVICES, STATE_MODE, STATE_RUNNING, STATE_WORDS};
 use reference::{vector_len, Answer, State};
 
 use crate::tables::Tables;
@@ -39,7 +39,8 @@ impl RunSide {
             exclusion: vec![0; vector_len(2 * tables.v)],
         };
         let RunSide { state, numbers, shadow, map, exclusion } = &mut side;
-        let started = archive::start(&tables.policy, state, shadow, map, exclusion, numbers);
+        let (policy, devices) = (&tables.policy, tables.devices.into());
+        let started = archive::start(policy, devices, state, shadow, map, exclusion, numbers);
         let synchronised =
             archive::sync_all(state, &tables.kernels[1], shadow, map, exclusion, numbers);
         let last = u64::from(tables.v) - 1;
@@ -54,8 +55,9 @@ impl PlainSide {
         let v = usize::from(tables.v);
         let (mut shadow, mut map) = (vec![0; v], vec![0; v]);
         let mut exclusion = vec![0; vector_len(2 * tables.v)];
+        let (policy, devices) = (&tables.policy, tables.devices.into());
         let (mut state, started) =
-            reference::start(&tables.policy, &mut shadow, &mut map, &mut exclusion);
+            reference::start(policy, devices, &mut shadow, &mut map, &mut exclusion);
         started.expect("the policy is accepted");
         synchronise(&state, &tables.kernels[1], &mut shadow, &mut map, &exclusion)
             .expect("the kernel table is accepted");
@@ -66,11 +68,12 @@ impl PlainSide {
         PlainSide { state, shadow, map, exclusion }
     }
 
-    /// Whether a side with a state run stands where this one does, in mode, running page and tables.
+    /// Whether a side with a state run stands where this one does, in mode, running page, number of devices and tables.
     pub fn agrees(&self, other: &RunSide) -> bool {
         let mode = self.state.mode;
         other.state[STATE_MODE] == u64::from(mode.is_user())
             && other.state[STATE_RUNNING] == u64::from(mode.page())
+            && other.state[STATE_DEVICES] == u64::from(self.state.devices)
             && other.shadow == self.shadow
             && other.map == self.map
             && other.exclusion == self.exclusion

@@ -76,24 +76,29 @@ impl Start {
     }
 }
 
+/// The policy record, and the number of devices.
+type Given<'a> = (&'a [u8], u64);
+
 #[inline(always)]
 fn start_on_runs(
     side: &mut RunSide,
     count: u64,
-    policy: &[u8],
-    call: impl Fn(&[u8], &mut [u64], &mut [u64], &mut [u16], &mut [u8], &mut [u64]) -> u64,
+    given: Given,
+    call: impl Fn(&[u8], u64, &mut [u64], &mut [u64], &mut [u16], &mut [u8], &mut [u64]) -> u64,
 ) {
     let RunSide { state, numbers, shadow, map, exclusion } = side;
     for _ in 0..count {
-        black_box(call(black_box(policy), state, shadow, map, exclusion, numbers));
+        let (policy, devices) = black_box(given);
+        black_box(call(policy, devices, state, shadow, map, exclusion, numbers));
     }
 }
 
 #[inline(always)]
-fn start_on_state(side: &mut PlainSide, count: u64, policy: &[u8]) {
+fn start_on_state(side: &mut PlainSide, count: u64, given: Given) {
     let PlainSide { state, shadow, map, exclusion } = side;
     for _ in 0..count {
-        let started = plain::start(black_box(policy), shadow, map, exclusion);
+        let (policy, devices) = black_box(given);
+        let started = plain::start(policy, devices, shadow, map, exclusion);
         *state = black_box(&started).0;
     }
 }
@@ -101,14 +106,11 @@ fn start_on_state(side: &mut PlainSide, count: u64, policy: &[u8]) {
 impl Work for Start {
     fn repeat(&mut self, side: Side, count: u64) -> bool {
         let Start { tables, sides } = self;
+        let given = (&tables.policy[..], tables.devices.into());
         match side {
-            Side::Archive => {
-                start_on_runs(&mut sides.archive, count, &tables.policy, archive::start);
-            }
-            Side::Reference => start_on_state(&mut sides.plain, count, &tables.policy),
-            Side::OnRuns => {
-                start_on_runs(&mut sides.on_runs, count, &tables.policy, on_runs::start);
-            }
+            Side::Archive => start_on_runs(&mut sides.archive, count, given, archive::start),
+            Side::Reference => start_on_state(&mut sides.plain, count, given),
+            Side::OnRuns => start_on_runs(&mut sides.on_runs, count, given, on_runs::start),
             Side::WithoutApproval | Side::Flat => return false,
         }
         true

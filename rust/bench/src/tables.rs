@@ -8,6 +8,8 @@ const WRITABLE: u64 = 1 << 1;
 const USER: u64 = 1 << 2;
 const NO_EXECUTE: u64 = 1 << 63;
 
+pub const MOST_DEVICES: u16 = 64;
+
 /// What most of a kernel table's entries are.
 #[derive(Clone, Copy, Debug, PartialEq, Eq)]
 pub enum Contents {
@@ -36,6 +38,8 @@ impl Contents {
 pub struct Tables {
     pub v: u16,
     pub policy: Vec<u8>,
+    /// The number of devices that a start is given.
+    pub devices: u16,
     pub kernels: [Vec<u64>; 2],
 }
 
@@ -67,7 +71,8 @@ impl Tables {
                 second[usize::from(page)] = draw(&mut random, page);
             }
         }
-        Tables { v, policy: record(v, 2 * v, 1, &listed), kernels: [first, second] }
+        let policy = record(v, 2 * v, 1, &listed);
+        Tables { v, policy, devices: MOST_DEVICES, kernels: [first, second] }
     }
 }
 

@@ -4,7 +4,7 @@
 use inputs::record;
 use reference::Tree;
 
-use crate::tables::{Contents, Tables};
+use crate::tables::{Contents, Tables, MOST_DEVICES};
 
 const ENTRIES: usize = 512;
 /// Present, writable, user and accessed: an entry above the last that takes nothing away.
@@ -38,11 +38,9 @@ impl Trees {
         }
         let mut second = first.clone();
         second[0] &= !WRITABLE;
-        let mut trees = Trees {
-            flat: Tables { v, policy: record(v, 2 * v, 1, &[(0, 0)]), kernels: Default::default() },
-            runs: [first, second],
-            depth: 2,
-        };
+        let policy = record(v, 2 * v, 1, &[(0, 0)]);
+        let flat = Tables { v, policy, devices: MOST_DEVICES, kernels: Default::default() };
+        let mut trees = Trees { flat, runs: [first, second], depth: 2 };
         trees.flat.kernels = [0, 1].map(|turn| trees.walked(turn));
         trees
     }

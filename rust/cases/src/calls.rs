@@ -2,10 +2,11 @@
 //! A state crosses the boundary as a run of words; the two numbers come back in a run of their own.
 
 use ::guard::archive::{
-    self, MODE_KERNEL, MODE_USER, NUMBERS, STATE_ENTRIES, STATE_ENTRY, STATE_FRAMES, STATE_MODE,
-    STATE_PAGES, STATE_RUNNING, STATE_WORDS,
+    self, Device, MODE_KERNEL, MODE_USER, NUMBERS, STATE_DEVICES, STATE_ENTRIES, STATE_ENTRY,
+    STATE_FRAMES, STATE_MODE, STATE_PAGES, STATE_RUNNING, STATE_WORDS,
 };
 use ::guard::ENTRY_PAGES;
+use std::hint::black_box;
 
 #[derive(Clone, Copy, PartialEq, Eq)]
 pub enum Mode {
@@ -20,6 +21,7 @@ pub struct State {
     pub entry_count: u16,
     pub entry_pages: [u16; ENTRY_PAGES],
     pub mode: Mode,
+    pub devices: u16,
 }
 
 #[derive(Clone, Copy, PartialEq, Eq)]
@@ -51,6 +53,7 @@ pub fn words(s: State) -> [u64; STATE_WORDS] {
     };
     run[STATE_MODE] = mode;
     run[STATE_RUNNING] = page.into();
+    run[STATE_DEVICES] = s.devices.into();
     run
 }
 
@@ -71,6 +74,7 @@ fn state(run: [u64; STATE_WORDS]) -> State {
             MODE_USER => Mode::User(page),
             other => panic!("mode word {other}"),
         },
+        devices: field(run[STATE_DEVICES]),
     }
 }
 
@@ -86,13 +90,14 @@ fn answer(number: u64, numbers: [u64; NUMBERS]) -> Answer {
 /// The run is the caller's: a start takes one with any words, and a refused start leaves them as they were.
 pub fn start(
     policy: &[u8],
+    devices: u64,
     run: &mut [u64; STATE_WORDS],
     shadow: &mut [u64],
     map: &mut [u16],
     exclusion: &mut [u8],
 ) -> Answer {
     let mut numbers = UNWRITTEN;
-    let number = archive::start(policy, run, shadow, map, exclusion, &mut numbers);
+    let number = archive::start(policy, devices, run, shadow, map, exclusion, &mut numbers);
     answer(number, numbers)
 }
 
@@ -200,9 +205,20 @@ pub fn leave(s: State, shadow: &mut [u64], page: u64) -> Called {
     Called { answer: answer(number, numbers), state: state(run) }
 }
 
-pub fn device_write(s: State, exclusion: &[u8], address: u64, length: u64) -> Answer {
+/// The list is lent to be read: a call that writes it is told apart from every wanted answer.
+pub fn device_write(
+    s: State,
+    exclusion: &[u8],
+    devices: &[Device],
+    device: u64,
+    address: u64,
+    length: u64,
+) -> Answer {
+    let (run, list) = (words(s), devices.to_vec());
     let mut numbers = UNWRITTEN;
-    let number = archive::device_write(&words(s), exclusion, address, length, &mut numbers);
+    let number =
+        archive::device_write(&run, exclusion, &list, device, address, length, &mut numbers);
+    assert!(*black_box(&list) == *devices, "the list of devices is changed");
     answer(number, numbers)
 }
 

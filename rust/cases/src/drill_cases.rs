@@ -1,4 +1,4 @@
-//! The drill: numbers 14 and 15, edit, what it takes of its input, and the limit of 1,024 calls.
+//! The drill: numbers 14 and 15, edit, what it takes of its input, the limit of 1,024 calls, and its devices.
 //! Every byte that it writes is compared, and it has to end with exit status 0.
 
 use crate::tally::Tally;
@@ -20,6 +20,13 @@ fn call(kind: u8, index: u16, value: u64) -> Vec<u8> {
     bytes.extend(index.to_le_bytes());
     bytes.extend([0; 4]);
     bytes.extend(value.to_le_bytes());
+    bytes
+}
+
+/// A device write: its device stands in the index field.
+fn device_write(device: u16, length: u32, address: u64) -> Vec<u8> {
+    let mut bytes = call(7, device, address);
+    bytes[4..8].copy_from_slice(&length.to_le_bytes());
     bytes
 }
 
@@ -117,6 +124,36 @@ fn edits(t: Tally) -> Tally {
     drill(t, "the kernel table begins as zeros", &input, wanted)
 }
 
+/// "The drill has 64 devices with all frames as window and puts the device in the index field." Frame 2 is excluded.
+fn devices(t: Tally) -> Tally {
+    let mut t = t;
+    for device in [0, 1, 62, 63] {
+        let calls = [
+            device_write(device, 1, 0),
+            device_write(device, 4096, 12288),
+            device_write(device, 8192, 0),
+            device_write(device, 1, 8192),
+            device_write(device, 1, 16384),
+            device_write(device, 0, 16384),
+        ];
+        let lines =
+            "7 0 0 0 K 1\n7 0 3 3 K 1\n7 0 0 1 K 1\n7 13 0 0 K 1\n7 9 0 0 K 1\n7 8 0 0 K 1\n";
+        t = after_start(t, &format!("device {device}"), &calls.concat(), lines);
+    }
+    for device in [64, 65, 256, 65535] {
+        let calls = [
+            device_write(device, 1, 0),
+            device_write(device, 1, 8192),
+            device_write(device, 1, 16384),
+            device_write(device, 0, 16384),
+            device_write(device, 1048577, 0),
+        ];
+        let lines = "7 18 0 0 K 1\n7 18 0 0 K 1\n7 18 0 0 K 1\n7 8 0 0 K 1\n7 8 0 0 K 1\n";
+        t = after_start(t, &format!("no device {device}"), &calls.concat(), lines);
+    }
+    t
+}
+
 pub fn all(t: Tally) -> Tally {
-    edits(ends(starts(t)))
+    devices(edits(ends(starts(t))))
 }

@@ -146,9 +146,9 @@ fn question_9(t: Tally) -> Tally {
 fn sixteen(t: Tally) -> Tally {
     let user = [0, 0, 0, 0x8000000000008401];
     let entry_pages = [0, 0, 0, 0, 0, 0, 0, 0, 0, 0, 0, 0, 0, 0, 0, 3];
-    let given = State { pages: 4, frames: 9, entry_count: 16, entry_pages, mode: User(0) };
-    let left = State { pages: 4, frames: 9, entry_count: 16, entry_pages, mode: Kernel(3) };
-    let fewer = State { pages: 4, frames: 9, entry_count: 15, entry_pages, mode: User(0) };
+    let given = State { entry_count: 16, entry_pages, ..guard::state_in(User(0)) };
+    let left = State { entry_count: 16, entry_pages, ..guard::state_in(Kernel(3)) };
+    let fewer = State { entry_count: 15, entry_pages, ..guard::state_in(User(0)) };
     let t = enter_on(
         t,
         "the last of sixteen indices",

@@ -10,6 +10,7 @@ mod guard;
 mod leave_cases;
 mod question_7_cases;
 mod start_cases;
+mod state_run_cases;
 mod sync_all_cases;
 mod sync_page_cases;
 mod sync_tree_cases;
@@ -35,6 +36,7 @@ fn main() -> ExitCode {
     let t = walk_cases::all(t);
     let t = sync_tree_cases::all(t);
     let t = question_7_cases::all(t);
+    let t = state_run_cases::all(t);
     let t = drill_cases::all(t);
     if t.total() {
         ExitCode::SUCCESS

@@ -1,12 +1,15 @@
 // Question 7 of every call but the start: "Are the state's V, F within range, e from 1 to 16, the running page below V, and does every
 // lent table have its exact length". A call asks it of the tables that it is lent and of no other. It comes before every other question.
+// K5: the state's number of devices is 1 to 64, "and a list of another length gives 7".
 use crate::calls::Answer;
+use crate::calls::Mode;
 use crate::calls::Mode::Kernel;
 use crate::calls::Mode::User;
 use crate::calls::State;
 use crate::calls::Tree;
 use crate::guard;
 use crate::tally::Tally;
+use ::guard::Device;
 
 // The numbers that refuse the calls, or 0.
 #[derive(Clone, Copy)]
@@ -29,6 +32,7 @@ struct Lent {
     shadow: usize,
     map: usize,
     exclusion: usize,
+    devices: usize,
 }
 
 // Tables with room for every length asked here. Page 0 is an ordinary user page and page 1 an approved one; no frame is excluded.
@@ -167,10 +171,11 @@ fn leave(t: Tally, name: &str, s: State, lent: Lent, number: u64) -> Tally {
     t.case("leave", name, told(answer, number, unchanged))
 }
 
-// Writes the first byte of frame 0.
+// Device 0 writes the first byte of frame 0.
 fn device_write(t: Tally, name: &str, s: State, lent: Lent, number: u64) -> Tally {
     let exclusion = &[0; 513][..lent.exclusion];
-    let answer = crate::calls::device_write(s, exclusion, 0, 1);
+    let devices = vec![Device::new(0, 0); lent.devices];
+    let answer = crate::calls::device_write(s, exclusion, &devices, 0, 0, 1);
     t.case("device_write", name, told(answer, number, true))
 }
 
@@ -201,15 +206,11 @@ fn passed() -> Numbers {
     }
 }
 
-// Tables of these lengths on V 4 and F 9.
-fn lengths(t: Tally, name: &str, lent: [usize; 4], wanted: Numbers) -> Tally {
-    calls(
-        t,
-        name,
-        guard::state_in(Kernel(1)),
-        Lent { kernel: lent[0], shadow: lent[1], map: lent[2], exclusion: lent[3] },
-        wanted,
-    )
+// Tables and a list of devices of these lengths on V 4, F 9 and three devices.
+fn lengths(t: Tally, name: &str, lent: [usize; 5], wanted: Numbers) -> Tally {
+    let [kernel, shadow, map, exclusion, devices] = lent;
+    let lent = Lent { kernel, shadow, map, exclusion, devices };
+    calls(t, name, guard::state_in(Kernel(1)), lent, wanted)
 }
 
 // The kernel table is lent to the synchronising calls without a tree.
@@ -232,22 +233,30 @@ fn exclusion() -> Numbers {
     Numbers { write: 7, device_write: 7, ..map() }
 }
 
-fn lent_tables(t: Tally) -> Tally {
-    let t = lengths(t, "tables in order", [4, 4, 4, 2], passed());
-    let t = lengths(t, "a kernel table too short", [3, 4, 4, 2], kernel());
-    let t = lengths(t, "a kernel table too long", [5, 4, 4, 2], kernel());
-    let t = lengths(t, "a shadow table too short", [4, 3, 4, 2], shadow());
-    let t = lengths(t, "a shadow table too long", [4, 5, 4, 2], shadow());
-    let t = lengths(t, "a map too short", [4, 4, 3, 2], map());
-    let t = lengths(t, "a map too long", [4, 4, 5, 2], map());
-    let t = lengths(t, "an exclusion vector too short", [4, 4, 4, 1], exclusion());
-    lengths(t, "an exclusion vector too long", [4, 4, 4, 3], exclusion())
+// The list of devices is lent to device write alone.
+fn devices() -> Numbers {
+    Numbers { device_write: 7, ..passed() }
 }
 
-// Tables of the lengths that V and F ask for, so that the state alone decides.
+fn lent_tables(t: Tally) -> Tally {
+    let t = lengths(t, "tables in order", [4, 4, 4, 2, 3], passed());
+    let t = lengths(t, "a kernel table too short", [3, 4, 4, 2, 3], kernel());
+    let t = lengths(t, "a kernel table too long", [5, 4, 4, 2, 3], kernel());
+    let t = lengths(t, "a shadow table too short", [4, 3, 4, 2, 3], shadow());
+    let t = lengths(t, "a shadow table too long", [4, 5, 4, 2, 3], shadow());
+    let t = lengths(t, "a map too short", [4, 4, 3, 2, 3], map());
+    let t = lengths(t, "a map too long", [4, 4, 5, 2, 3], map());
+    let t = lengths(t, "an exclusion vector too short", [4, 4, 4, 1, 3], exclusion());
+    let t = lengths(t, "an exclusion vector too long", [4, 4, 4, 3, 3], exclusion());
+    let t = lengths(t, "a list of devices too short", [4, 4, 4, 2, 2], devices());
+    let t = lengths(t, "a list of devices too long", [4, 4, 4, 2, 4], devices());
+    lengths(t, "an empty list of devices", [4, 4, 4, 2, 0], devices())
+}
+
+// Tables of the lengths that V and F ask for, and as many devices as the state has, so that the state alone decides.
 fn sized(t: Tally, name: &str, s: State, exclusion: usize, wanted: Numbers) -> Tally {
-    let pages = s.pages as usize;
-    calls(t, name, s, Lent { kernel: pages, shadow: pages, map: pages, exclusion }, wanted)
+    let (pages, devices) = (s.pages as usize, s.devices as usize);
+    calls(t, name, s, Lent { kernel: pages, shadow: pages, map: pages, exclusion, devices }, wanted)
 }
 
 fn state_refused(t: Tally, name: &str, s: State, exclusion: usize) -> Tally {
@@ -265,7 +274,15 @@ fn damaged_states(t: Tally) -> Tally {
     let t = state_refused(t, "e 0", guard::state(4, 9, 0, entry, User(1)), 2);
     let t = state_refused(t, "e 17", guard::state(4, 9, 17, entry, User(1)), 2);
     let t = state_refused(t, "page V running in kernel mode", guard::state_in(Kernel(4)), 2);
-    state_refused(t, "page 65535 running in user mode", guard::state_in(User(65535)), 2)
+    let t = state_refused(t, "page 65535 running in user mode", guard::state_in(User(65535)), 2);
+    let t = state_refused(t, "0 devices", with_devices(0, Kernel(1)), 2);
+    let t = state_refused(t, "65 devices", with_devices(65, Kernel(1)), 2);
+    let t = state_refused(t, "0 devices in user mode", with_devices(0, User(1)), 2);
+    state_refused(t, "65535 devices in user mode", with_devices(65535, User(1)), 2)
+}
+
+fn with_devices(devices: u16, mode: Mode) -> State {
+    State { devices, ..guard::state_in(mode) }
 }
 
 // Each part of the state at the ends of its range, and vectors whose length is rounded up.
@@ -277,6 +294,9 @@ fn states_in_order(t: Tally) -> Tally {
     let t = sized(t, "F 16", guard::state(4, 16, 2, entry, Kernel(1)), 2, passed());
     let t = sized(t, "F 17", guard::state(4, 17, 2, entry, Kernel(1)), 3, passed());
     let t = sized(t, "e 1", guard::state(4, 9, 1, entry, Kernel(3)), 2, passed());
+    let t = sized(t, "1 device", with_devices(1, Kernel(1)), 2, passed());
+    let t = sized(t, "63 devices", with_devices(63, Kernel(1)), 2, passed());
+    let t = sized(t, "64 devices", with_devices(64, Kernel(1)), 2, passed());
     // e is not compared with V, and entry pages are not looked at.
     sized(t, "e 16", guard::state(4, 9, 16, [1, 65535, 4, 0], Kernel(0)), 2, passed())
 }

@@ -1,6 +1,7 @@
 // The start: what an accepted record sets, and questions 1 to 7 with their order. A refused start leaves the state run and the lent
 // tables as they were. "A refused start, which has no state to keep, answers a state of zeros in user mode on page 0": that is the
 // answer of the library's start::start, which is proved; the call for C, tested here, does not write it to the run.
+// K5: the start is given the number of devices, 1 to 64, and "a number outside that gives 3 at the start".
 use crate::calls::words;
 use crate::calls::Answer;
 use crate::calls::Answer::Done;
@@ -31,6 +32,7 @@ const STATE_BEFORE: State = State {
     entry_count: 7,
     entry_pages: [100, 101, 102, 103, 104, 105, 106, 107, 108, 109, 110, 111, 112, 113, 114, 115],
     mode: User(999),
+    devices: 40,
 };
 
 // The same, with each word one bit wider than its field: a start does not read the run.
@@ -38,8 +40,7 @@ fn wide_run() -> [u64; STATE_WORDS] {
     words(STATE_BEFORE).map(|word| word | 1 << 16)
 }
 
-// Starts on both runs, with the first places of the tables lent: of shadow, map and exclusion vector. Where no state is wanted, the
-// run is to stay as it was.
+// Starts with three devices.
 fn start_on(
     t: Tally,
     name: &str,
@@ -49,11 +50,24 @@ fn start_on(
     state_left: Option<State>,
     left: Tables,
 ) -> Tally {
-    let right = [words(STATE_BEFORE), wide_run()].into_iter().all(|run_before| {
+    t.case("start", name, is_right((record, 3), lent, wanted, state_left, left))
+}
+
+// Starts on both runs, with a record and a number of devices and with the first places of the tables lent: of shadow, map and exclusion
+// vector. Where no state is wanted, the run is to stay as it was.
+fn is_right(
+    (record, devices): (&[u8], u64),
+    lent: [usize; 3],
+    wanted: Answer,
+    state_left: Option<State>,
+    left: Tables,
+) -> bool {
+    [words(STATE_BEFORE), wide_run()].into_iter().all(|run_before| {
         let mut run = run_before;
         let Tables { mut shadow, mut map, mut exclusion } = before();
         let answer = crate::calls::start(
             record,
+            devices,
             &mut run,
             &mut shadow[..lent[0]],
             &mut map[..lent[1]],
@@ -64,8 +78,7 @@ fn start_on(
         let bytes = exclusion == left.exclusion;
         let tables = entries && numbers && bytes;
         answer == wanted && run == state_left.map_or(run_before, words) && tables
-    });
-    t.case("start", name, right)
+    })
 }
 
 // "An accepted start sets the map and exclusion bits from the arrays, every other map place to 65535 and every other exclusion bit to
@@ -140,6 +153,7 @@ fn largest(t: Tally) -> Tally {
     let mut run = words(STATE_BEFORE);
     let answer = crate::calls::start(
         &[0x00, 0x08, 0x00, 0x10, 1, 0, 1, 0, 0xff, 0x07, 0xff, 0x0f],
+        3,
         &mut run,
         &mut shadow,
         &mut map,
@@ -171,6 +185,7 @@ fn sixteen(t: Tally) -> Tally {
             10, 0, 11, 0, 12, 0, 13, 0, 14, 0, 15, 0, 16, 0, 0, 0, 0, 0, 0, 0, 0, 0, 0, 0, 0, 0, 0,
             0, 0, 0, 0, 0, 0, 0, 0, 0, 0, 0, 0, 0, 0, 0, 0, 0, 0, 0, 0, 0,
         ],
+        3,
         &mut run,
         &mut shadow,
         &mut map,
@@ -185,6 +200,7 @@ fn sixteen(t: Tally) -> Tally {
         entry_count: 16,
         entry_pages: [0, 1, 2, 3, 4, 5, 6, 7, 8, 9, 10, 11, 12, 13, 14, 15],
         mode: Kernel(0),
+        devices: 3,
     };
     let tables = entries && numbers && bytes;
     t.case("start", "sixteen entry pages", answer == Done(17, 16) && run == words(left) && tables)
@@ -267,6 +283,72 @@ fn question_7(t: Tally) -> Tally {
     )
 }
 
+// V 4, F 9, page 1 with frame 2 and page 3 with frame 8, both of them entry pages.
+const TWO_PAGES: [u8; 16] = [4, 0, 9, 0, 2, 0, 2, 0, 1, 0, 3, 0, 2, 0, 8, 0];
+
+// "the state gains the number of devices, 1 to 64, which the start is given"
+fn devices_kept(t: Tally, name: &str, devices: u16) -> Tally {
+    let state_left = State { devices, ..guard::state(4, 9, 2, [1, 3, 0, 0], Kernel(1)) };
+    let left = Tables {
+        shadow: [0, 0x2401, 0, 0x8401],
+        map: [65535, 2, 65535, 8],
+        exclusion: [0x04, 0x01],
+    };
+    let given = (&TWO_PAGES[..], devices.into());
+    t.case("start", name, is_right(given, [4, 4, 2], Done(2, 2), Some(state_left), left))
+}
+
+fn devices_refused(t: Tally, name: &str, record: &[u8], devices: u64, number: u64) -> Tally {
+    let wanted = Refused(number);
+    t.case("start", name, is_right((record, devices), [4, 4, 2], wanted, None, before()))
+}
+
+fn devices(t: Tally) -> Tally {
+    let t = devices_kept(t, "1 device", 1);
+    let t = devices_kept(t, "2 devices", 2);
+    let t = devices_kept(t, "63 devices", 63);
+    let t = devices_kept(t, "64 devices", 64);
+    let t = devices_refused(t, "0 devices", &TWO_PAGES, 0, 3);
+    let t = devices_refused(t, "65 devices", &TWO_PAGES, 65, 3);
+    let t = devices_refused(t, "65535 devices", &TWO_PAGES, 65535, 3);
+    let t = devices_refused(t, "65536 devices", &TWO_PAGES, 65536, 3);
+    let t = devices_refused(t, "65537 devices", &TWO_PAGES, 65537, 3);
+    let t = devices_refused(t, "65600 devices", &TWO_PAGES, 65600, 3);
+    let t = devices_refused(t, "2^32 + 1 devices", &TWO_PAGES, 4294967297, 3);
+    let t = devices_refused(t, "2^63 + 64 devices", &TWO_PAGES, 9223372036854775872, 3);
+    devices_refused(t, "the highest number of devices", &TWO_PAGES, 18446744073709551615, 3)
+}
+
+// 3 for the number of devices comes after 2 and before 4.
+fn devices_in_order(t: Tally) -> Tally {
+    let mut t = t;
+    for (of_devices, devices) in [("0", 0), ("65", 65), ("65537", 65537)] {
+        for (name, record, number) in [
+            ("7 bytes", &[4, 0, 9, 0, 2, 0, 2][..], 1),
+            ("V 0", &[0, 0, 9, 0, 1, 0, 1, 0, 1, 0, 2, 0], 2),
+            ("V 2049", &[0x01, 0x08, 9, 0, 1, 0, 1, 0, 1, 0, 2, 0], 2),
+            ("F 0", &[4, 0, 0, 0, 1, 0, 1, 0, 1, 0, 2, 0], 2),
+            ("F 4097 and n 0", &[4, 0, 0x01, 0x10, 0, 0, 1, 0], 2),
+            ("e 0", &[4, 0, 9, 0, 1, 0, 0, 0, 1, 0, 2, 0], 3),
+            ("sizes alone", &[4, 0, 9, 0, 1, 0, 1, 0], 3),
+            ("a record cut short", &[4, 0, 9, 0, 1, 0, 1, 0, 1, 0, 2], 3),
+            ("a byte too many", &[4, 0, 9, 0, 1, 0, 1, 0, 1, 0, 2, 0, 0], 3),
+            ("falling pages", &[4, 0, 9, 0, 2, 0, 1, 0, 2, 0, 1, 0, 2, 0, 8, 0], 3),
+            ("a frame at F", &[4, 0, 9, 0, 1, 0, 1, 0, 1, 0, 9, 0], 3),
+            ("tables too long", &[3, 0, 8, 0, 1, 0, 1, 0, 1, 0, 2, 0], 3),
+        ] {
+            t = devices_refused(
+                t,
+                &format!("{of_devices} devices and {name}"),
+                record,
+                devices,
+                number,
+            );
+        }
+    }
+    t
+}
+
 pub fn all(t: Tally) -> Tally {
     let t = accepted(t);
     let t = largest(t);
@@ -274,5 +356,7 @@ pub fn all(t: Tally) -> Tally {
     let t = questions_1_and_2(t);
     let t = questions_3_and_4(t);
     let t = questions_5_and_6(t);
-    question_7(t)
+    let t = question_7(t);
+    let t = devices(t);
+    devices_in_order(t)
 }

@@ -595,7 +595,7 @@ fn runs(t: Tally) -> Tally {
     longer.push(0);
     let mut t = t;
     for (name, state, length) in [
-        ("a state run too short", &words[..20], 2),
+        ("a state run too short", &words[..21], 2),
         ("a state run too long", &longer[..], 2),
         ("an empty state run", &[], 2),
         ("an empty numbers run", &words[..], 0),

@@ -339,7 +339,7 @@ fn start(record: &[u8], pages: usize, bytes: usize) -> Started {
     let mut shadow = vec![5; pages];
     let mut map = vec![6; pages];
     let mut exclusion = vec![0xa5; bytes];
-    let answer = crate::calls::start(record, &mut run, &mut shadow, &mut map, &mut exclusion);
+    let answer = crate::calls::start(record, 3, &mut run, &mut shadow, &mut map, &mut exclusion);
     Started { answer, run, shadow, map, exclusion }
 }
 

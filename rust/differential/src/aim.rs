@@ -3,7 +3,7 @@
 
 use inputs::{random_record, KernelEntry, Random};
 use reference::claim::Call;
-use reference::Tree;
+use reference::{Device, Tree};
 
 /// The sizes of a list's policy and some of its excluded frames.
 pub struct Aim {
@@ -85,7 +85,13 @@ impl Aim {
         length as usize
     }
 
-    pub fn call<'a>(&self, random: &mut Random, kernel: &'a [u64], tree: Tree<'a>) -> Call<'a> {
+    pub fn call<'a>(
+        &self,
+        random: &mut Random,
+        kernel: &'a [u64],
+        tree: Tree<'a>,
+        devices: &'a [Device],
+    ) -> Call<'a> {
         match random.below(19) {
             0..3 => Call::SynchroniseOne { kernel, page: self.page(random) },
             3 | 4 => Call::SynchroniseAll { kernel },
@@ -96,7 +102,7 @@ impl Aim {
             }
             9 | 10 => Call::Enter { index: near(random, self.e) },
             11 | 12 => Call::Leave { page: self.page_to_leave_to(random, kernel) },
-            13 | 14 => self.device_write(random),
+            13 | 14 => self.device_write(random, devices),
             15 | 16 => Call::SynchroniseOneFromTree { tree, page: self.page(random) },
             _ => Call::SynchroniseAllFromTree { tree },
         }
@@ -127,17 +133,65 @@ impl Aim {
         }
     }
 
-    fn device_write<'a>(&self, random: &mut Random) -> Call<'a> {
+    fn device_write<'a>(&self, random: &mut Random, devices: &'a [Device]) -> Call<'a> {
+        let device = device(random, devices.len() as u64);
+        let window = usize::try_from(device).ok().and_then(|place| devices.get(place));
+        let (address, length) = match window {
+            Some(window) if !random.one_in(3) => self.near_window(random, window),
+            _ => self.transfer(random),
+        };
+        let length = if random.one_in(20) { wrong_length(random) } else { length };
+        Call::DeviceWrite { devices, device, address, length }
+    }
+
+    /// The address and the length of a transfer that has to do with no window.
+    fn transfer(&self, random: &mut Random) -> (u64, u64) {
         let most = random.pick(&[20, 5000, 20_000, 1_048_600]);
-        let length = if random.one_in(30) { random.word() } else { random.below(most) };
-        let address = if self.is_aimed && random.one_in(2) {
+        let length = random.below(most);
+        if self.is_aimed && random.one_in(2) {
             // It ends at an excluded frame, before it or in it.
             let end = self.near_excluded(random) * 4096 + random.below(3);
-            end.saturating_sub(length)
+            (end.saturating_sub(length), length)
         } else {
-            self.address(random, self.f)
+            (self.address(random, self.f), length)
+        }
+    }
+
+    /// The address and the length of a transfer that begins and ends near the ends of a window, and mostly exists.
+    fn near_window(&self, random: &mut Random, window: &Device) -> (u64, u64) {
+        let most = if random.one_in(8) { self.f } else { self.f - 1 };
+        // By how many frames it goes beyond an end, or stays behind it.
+        let mut beyond = || {
+            let further = 1 + random.below(4) as i64;
+            random.pick(&[-1, 0, 0, 0, 1, further])
         };
-        Call::DeviceWrite { address, length }
+        let first = u64::from(window.first).saturating_add_signed(-beyond()).min(most);
+        let last = u64::from(window.last).saturating_add_signed(beyond()).min(most);
+        let last = last.clamp(first, first + 255);
+        let any = random.below(4096);
+        let begin = 4096 * first + random.pick(&[0, 4095, any]);
+        let end = 4096 * last + random.pick(&[0, 4095, any]);
+        (begin, end.max(begin) - begin + 1)
+    }
+}
+
+/// A length of a transfer that question 8 refuses.
+fn wrong_length(random: &mut Random) -> u64 {
+    match random.below(4) {
+        0 => 0,
+        1 => 1_048_577,
+        2 => u64::MAX - random.below(20),
+        _ => random.word() | 1 << 32,
+    }
+}
+
+/// A device of a list with this length, or one next to its ends, or one that is small in its lower bits.
+fn device(random: &mut Random, length: u64) -> u64 {
+    match random.below(16) {
+        0 => random.pick(&[0, length.saturating_sub(1), length, 63, 64]),
+        1 => near(random, length.max(1)),
+        2 => random.below(length.max(1)) + (1 << random.pick(&[16, 32, 63])),
+        _ => random.below(length.max(1)),
     }
 }
 

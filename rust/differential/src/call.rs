@@ -30,7 +30,7 @@ pub const WALK: usize = 11;
 /// A start, a call that a list of demand 3 may have, or one that has no state.
 #[derive(Clone, Copy, Debug)]
 pub enum Call<'a> {
-    Start { policy: &'a [u8] },
+    Start { policy: &'a [u8], devices: u64 },
     Listed(claim::Call<'a>),
     WriteRecord(&'a Parts),
     Walk { tree: Tree<'a>, page: u64 },

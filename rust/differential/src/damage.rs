@@ -2,13 +2,14 @@
 //! Contents stay damaged through a list; the other kinds concern one call.
 
 use guard::archive::{
-    MODE_KERNEL, MODE_USER, STATE_ENTRIES, STATE_ENTRY, STATE_FRAMES, STATE_MODE, STATE_PAGES,
-    STATE_RUNNING,
+    MODE_KERNEL, MODE_USER, STATE_DEVICES, STATE_ENTRIES, STATE_ENTRY, STATE_FRAMES, STATE_MODE,
+    STATE_PAGES, STATE_RUNNING,
 };
 use guard::ENTRY_PAGES;
 use inputs::Random;
 
 use crate::call::Lent;
+use crate::devices::{count, MOST};
 
 /// A kind of damage to what one call is lent.
 #[derive(Clone, Copy, Debug, PartialEq, Eq)]
@@ -21,9 +22,9 @@ pub enum Damage {
     NumbersRun,
     /// A mode word other than 0 and 1.
     ModeWord,
-    /// V, F, e, the running page or an entry page wider than 16 bits, with lower bits that are in range.
+    /// V, F, e, the running page, the number of devices or an entry page wider than 16 bits, with lower bits that are in range.
     WideWord,
-    /// V, F, e or the running page out of range, or V or F of other tables.
+    /// V, F, e, the running page or the number of devices out of range, or V or F of other tables.
     Field,
     /// A shadow table, map or exclusion vector of another length.
     Table,
@@ -92,8 +93,15 @@ impl Damage {
             }
             Damage::WideWord => {
                 let entry = STATE_ENTRY + random.below(ENTRY_PAGES as u64) as usize;
-                let fields =
-                    [STATE_PAGES, STATE_FRAMES, STATE_ENTRIES, STATE_RUNNING, entry, entry];
+                let fields = [
+                    STATE_PAGES,
+                    STATE_FRAMES,
+                    STATE_ENTRIES,
+                    STATE_RUNNING,
+                    STATE_DEVICES,
+                    entry,
+                    entry,
+                ];
                 let word = &mut lent.state[random.pick(&fields)];
                 *word |= 1 << random.pick(&[16, 17, 31, 32, 63]);
             }
@@ -127,10 +135,11 @@ pub fn resize<T: Copy + Default>(random: &mut Random, run: &mut Vec<T>) {
 fn damage_field(random: &mut Random, state: &mut [u64]) {
     // A start is lent words of any size.
     let (v, f) = (state[STATE_PAGES] % (1 << 32), state[STATE_FRAMES] % (1 << 32));
-    let (place, value) = match random.below(4) {
+    let (place, value) = match random.below(5) {
         0 => (STATE_PAGES, random.pick(&[0, v + 1, v.saturating_sub(1), 2049, 65535])),
         1 => (STATE_FRAMES, random.pick(&[0, f + 8, f.saturating_sub(8), 4097, 65535])),
         2 => (STATE_ENTRIES, random.pick(&[0, 17, 65535])),
+        3 => (STATE_DEVICES, random.pick(&[0, MOST + 1, MOST + 2, 65535])),
         _ => (STATE_RUNNING, random.pick(&[v, v + 1, 65535])),
     };
     state[place] = value;
@@ -157,6 +166,7 @@ pub fn damage_contents(random: &mut Random, lent: &mut Lent) {
     lent.state[STATE_ENTRIES] = 1 + random.below(ENTRY_PAGES as u64);
     lent.state[STATE_MODE] = random.pick(&[MODE_KERNEL, MODE_USER]);
     lent.state[STATE_RUNNING] = random.below(v);
+    lent.state[STATE_DEVICES] = count(random);
 }
 
 /// A shadow entry with any bits: mostly present, with a frame near those below F.

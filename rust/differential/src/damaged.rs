@@ -1,17 +1,20 @@
 //! A list on damaged runs and tables: damaged contents pass from call to call, other damage concerns one call.
 //! Among the calls are starts, on sound and on damaged records; after them records are written and pages are walked to.
 
+use guard::archive::STATE_DEVICES;
 use inputs::Random;
 use reference::Fault;
 
 use crate::aim::{policy, sizes};
 use crate::call::{Call, Lent};
 use crate::damage::{damage_contents, Damage};
+use crate::devices::any_count;
 use crate::list::List;
 use crate::run::{compare, Plan};
-use crate::sides::by_reference;
+use crate::sides::{by_archive, by_reference};
 use crate::tally::Tally;
 use crate::walked::{check_flat, walk_call};
+use crate::windows::check_windows;
 use crate::written::{check_written_again, write_call};
 
 /// The records that are written after a list, and the bare walks.
@@ -21,8 +24,9 @@ const WALKS: u64 = 20;
 pub fn run_list(plan: &Plan, seed: u64, tally: &mut Tally) -> Result<(), String> {
     let mut list = List::new(seed);
     let mut lent = list.garbage();
-    by_reference(Fault::None, &mut lent, &Call::Start { policy: &list.policy });
+    by_reference(Fault::None, &mut lent, &list.start());
     damage_contents(&mut list.random, &mut lent);
+    let mut random = Random::new(seed);
     for _ in 0..plan.calls {
         if list.random.one_in(6) {
             start_call(plan.fault, &mut list.random, tally)?;
@@ -34,13 +38,20 @@ pub fn run_list(plan: &Plan, seed: u64, tally: &mut Tally) -> Result<(), String>
         let mut damaged = lent.clone();
         let damage = Damage::random(&mut list.random, &Damage::OF_TABLES);
         damage.apply(&mut list.random, &mut damaged);
-        let call = Call::Listed(list.next_call());
+        // A state run that was cut short has no such word.
+        let count = damaged.state.get(STATE_DEVICES).copied().unwrap_or(list.count);
+        let listed = list.next_call(count);
+        let call = Call::Listed(listed);
         let before = damaged.clone();
         let number = compare(plan.fault, &mut damaged, &call)?;
         if number == 0 {
             check_flat(&call, &before, &damaged)?;
         }
+        check_windows(&mut random, &listed, &before, (number, &damaged), by_archive)?;
         tally.count_tree(&call, number, &damaged);
+        if damage == Damage::Contents {
+            tally.count_transfer(&listed, number, &before);
+        }
         tally.count_damaged(call.kind(), number, damage)?;
         if damage == Damage::Contents {
             lent = damaged;
@@ -55,7 +66,7 @@ pub fn run_list(plan: &Plan, seed: u64, tally: &mut Tally) -> Result<(), String>
     Ok(())
 }
 
-/// A start: half of them on a damaged record, half of them on damaged runs or tables.
+/// A start: half of them on a damaged record, half of them on damaged runs or tables, some with a number of devices out of range.
 fn start_call(fault: Fault, random: &mut Random, tally: &mut Tally) -> Result<(), String> {
     let mut policy = policy(random);
     let [v, f, ..] = sizes(&policy);
@@ -65,11 +76,15 @@ fn start_call(fault: Fault, random: &mut Random, tally: &mut Tally) -> Result<()
     let mut lent = Lent::garbage(random, v, f);
     let damage = Damage::random(random, &Damage::OF_TABLES);
     damage.apply(random, &mut lent);
-    let call = Call::Start { policy: &policy };
+    let devices = any_count(random);
+    let call = Call::Start { policy: &policy, devices };
+    let with_one = Call::Start { policy: &policy, devices: 1 };
+    let otherwise = by_reference(Fault::None, &mut lent.clone(), &with_one);
     let number = compare(fault, &mut lent, &call)?;
     if number == 0 {
         check_written_again(&policy)?;
     }
+    tally.count_start(devices, number, otherwise);
     tally.count_damaged(call.kind(), number, damage)
 }
 

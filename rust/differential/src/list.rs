@@ -1,19 +1,23 @@
 //! A list: a policy, what is lent to its start, and its calls one after another, all by a seed.
-//! The kernel table and the run of tables are the list's own and are edited before every call.
+//! The kernel table, the run of tables and the devices are the list's own and are edited before every call.
 
 use inputs::Random;
-use reference::claim::Call;
+use reference::claim::Call as Listed;
 
 use crate::aim::{policy, sizes, Aim};
-use crate::call::Lent;
+use crate::call::{Call, Lent};
+use crate::devices::{count, Devices};
 use crate::trees::Trees;
 
 pub struct List {
     pub random: Random,
     pub policy: Vec<u8>,
+    /// The number of devices that its start is given.
+    pub count: u64,
     pub trees: Trees,
     aim: Aim,
     kernel: Vec<u64>,
+    devices: Devices,
 }
 
 impl List {
@@ -23,7 +27,13 @@ impl List {
         let aim = Aim::new(&mut random, &policy);
         let kernel = aim.kernel(&mut random);
         let trees = Trees::new(&mut random, &aim);
-        List { random, policy, trees, aim, kernel }
+        let count = count(&mut random);
+        let devices = Devices::new(&mut random, aim.frames());
+        List { random, policy, count, trees, aim, kernel, devices }
+    }
+
+    pub fn start(&self) -> Call<'_> {
+        Call::Start { policy: &self.policy, devices: self.count }
     }
 
     /// Runs and tables for the start, which has to overwrite them.
@@ -32,12 +42,15 @@ impl List {
         Lent::garbage(&mut self.random, v, f)
     }
 
-    pub fn next_call(&mut self) -> Call<'_> {
-        let List { random, trees, aim, kernel, .. } = self;
+    /// A call on a state with this number of devices, as far as it goes by that.
+    pub fn next_call(&mut self, count: u64) -> Listed<'_> {
+        let List { random, trees, aim, kernel, devices, .. } = self;
         aim.edit(random, kernel);
         trees.edit(random, aim);
+        devices.edit(random, aim.frames());
         let brought = aim.brought(random);
         let tree = trees.lent(random);
-        aim.call(random, &kernel[..brought], tree)
+        let devices = devices.lent(random, count);
+        aim.call(random, &kernel[..brought], tree, devices)
     }
 }

@@ -1,11 +1,13 @@
 //! One call on each side: the archive, the reference behind the same boundary, and the safe guard over the archive.
 //! Archive and reference are lent the same runs and tables.
 
+use std::hint::black_box;
+
 use guard::archive::{self, NUMBERS};
 use guard::Guard;
 use inputs::Parts;
 use reference::claim::Call as Listed;
-use reference::{boundary, fault, Fault, Tree};
+use reference::{boundary, fault, Device, Fault, Tree};
 
 use crate::call::{Call, Lent};
 
@@ -13,8 +15,8 @@ use crate::call::{Call, Lent};
 pub fn by_archive(lent: &mut Lent, call: &Call) -> u64 {
     let Lent { state, numbers, shadow, map, exclusion, buffer } = lent;
     let call = match *call {
-        Call::Start { policy } => {
-            return archive::start(policy, state, shadow, map, exclusion, numbers)
+        Call::Start { policy, devices } => {
+            return archive::start(policy, devices, state, shadow, map, exclusion, numbers)
         }
         Call::WriteRecord(Parts { sizes: [v, f, n, e], pages, frames }) => {
             return archive::write_record(*v, *f, *n, *e, pages, frames, buffer, numbers)
@@ -37,8 +39,13 @@ pub fn by_archive(lent: &mut Lent, call: &Call) -> u64 {
         }
         Listed::Enter { index } => archive::enter(state, shadow, index, numbers),
         Listed::Leave { page } => archive::leave(state, shadow, page, numbers),
-        Listed::DeviceWrite { address, length } => {
-            archive::device_write(state, exclusion, address, length, numbers)
+        Listed::DeviceWrite { devices, device, address, length } => {
+            let list = lent_to_archive(devices);
+            let number =
+                archive::device_write(state, exclusion, &list, device, address, length, numbers);
+            // The list is lent to be read.
+            assert_eq!(*black_box(&list), lent_to_archive(devices), "the list is changed");
+            number
         }
         Listed::SynchroniseOneFromTree { tree: Tree { tables, root, depth }, page } => {
             archive::sync_page_tree(
@@ -55,8 +62,8 @@ pub fn by_archive(lent: &mut Lent, call: &Call) -> u64 {
 pub fn by_reference(fault: Fault, lent: &mut Lent, call: &Call) -> u64 {
     let Lent { state: run, numbers, shadow, map, exclusion, buffer } = lent;
     let call = match *call {
-        Call::Start { policy } => {
-            return boundary::start(policy, run, shadow, map, exclusion, numbers)
+        Call::Start { policy, devices } => {
+            return fault::start(fault, policy, devices, run, shadow, map, exclusion, numbers)
         }
         Call::WriteRecord(Parts { sizes, pages, frames }) => {
             return fault::write_record(fault, *sizes, pages, frames, buffer, numbers)
@@ -72,7 +79,7 @@ pub fn by_reference(fault: Fault, lent: &mut Lent, call: &Call) -> u64 {
             fault::synchronise_all(fault, state, kernel, shadow, map, exclusion)
         }),
         Listed::Fetch { page } => {
-            boundary::go(run, numbers, |state| reference::fetch(state, shadow, page))
+            boundary::go(run, numbers, |state| fault::fetch(fault, state, shadow, page))
         }
         Listed::Write { address, length } => boundary::ask(run, numbers, |state| {
             fault::write(fault, state, shadow, exclusion, address, length)
@@ -83,9 +90,11 @@ pub fn by_reference(fault: Fault, lent: &mut Lent, call: &Call) -> u64 {
         Listed::Leave { page } => {
             boundary::go(run, numbers, |state| fault::leave(fault, state, shadow, page))
         }
-        Listed::DeviceWrite { address, length } => boundary::ask(run, numbers, |state| {
-            reference::device_write(state, exclusion, address, length)
-        }),
+        Listed::DeviceWrite { devices, device, address, length } => {
+            boundary::ask(run, numbers, |state| {
+                fault::device_write(fault, state, exclusion, devices, device, address, length)
+            })
+        }
         Listed::SynchroniseOneFromTree { tree, page } => boundary::ask(run, numbers, |state| {
             fault::synchronise_one_from_tree(fault, state, tree, shadow, map, exclusion, page)
         }),
@@ -95,8 +104,9 @@ pub fn by_reference(fault: Fault, lent: &mut Lent, call: &Call) -> u64 {
     }
 }
 
-/// The call on the safe guard: its number, and its two numbers as a run.
-pub fn by_guard(guard: &mut Guard, call: &Listed) -> (u64, [u64; NUMBERS]) {
+/// The call on the safe guard: its number, and its two numbers as a run. The guard has a list of its own, so that it takes over the
+/// windows that a call brings; a list of another length is none of its calls.
+pub fn by_guard(guard: &mut Guard, call: &Listed) -> Option<(u64, [u64; NUMBERS])> {
     let answer = match *call {
         Listed::SynchroniseOne { kernel, page } => {
             guard.synchronise_page(kernel, page).map(|counts| [counts.changed, counts.joined])
@@ -110,8 +120,14 @@ pub fn by_guard(guard: &mut Guard, call: &Listed) -> (u64, [u64; NUMBERS]) {
         }
         Listed::Enter { index } => guard.enter(index).map(|changed| [changed, 0]),
         Listed::Leave { page } => guard.leave(page).map(|changed| [changed, 0]),
-        Listed::DeviceWrite { address, length } => {
-            guard.device_write(address, length).map(|frames| [frames.first, frames.last])
+        Listed::DeviceWrite { devices, device, address, length } => {
+            if devices.len() != guard.devices().len() {
+                return None;
+            }
+            for (place, &Device { first, last }) in (0..).zip(devices) {
+                guard.set_window(place, first, last).expect("the guard has as many devices");
+            }
+            guard.device_write(device, address, length).map(|frames| [frames.first, frames.last])
         }
         Listed::SynchroniseOneFromTree { tree, page } => guard
             .synchronise_page_tree(&lent_to_guard(tree), page)
@@ -120,10 +136,14 @@ pub fn by_guard(guard: &mut Guard, call: &Listed) -> (u64, [u64; NUMBERS]) {
             .synchronise_all_tree(&lent_to_guard(tree))
             .map(|counts| [counts.changed, counts.joined]),
     };
-    match answer {
+    Some(match answer {
         Ok(numbers) => (0, numbers),
         Err(refusal) => (refusal.number().into(), [0; NUMBERS]),
-    }
+    })
+}
+
+fn lent_to_archive(devices: &[Device]) -> Vec<archive::Device> {
+    devices.iter().map(|device| archive::Device::new(device.first, device.last)).collect()
 }
 
 fn lent_to_guard(Tree { tables, root, depth }: Tree<'_>) -> guard::Tree<'_> {

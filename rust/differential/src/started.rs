@@ -1,28 +1,30 @@
 //! A list from an accepted start, with tables passed on: the archive, the reference, the safe guard and the one-page guards.
 //! Demand 3 is checked at every call: the number, the entries, approvals and mode, the frames reached, and the counts.
 
-use guard::archive::{MODE_USER, STATE_MODE};
-use guard::Guard;
-use reference::claim::{Call as Listed, Claim};
+use guard::archive::{MODE_USER, STATE_DEVICES, STATE_MODE};
+use guard::{Device, Guard, Options};
+use inputs::Random;
+use reference::claim::{Call as Listed, Claim, Reaching};
 
 use crate::call::{Call, Lent};
 use crate::list::List;
 use crate::run::{compare, Plan};
-use crate::sides::{by_guard, by_reference};
+use crate::sides::{by_archive, by_guard, by_reference};
 use crate::tally::Tally;
 use crate::walked::check_flat;
+use crate::windows::check_windows;
 
 pub fn run_list(plan: &Plan, seed: u64, tally: &mut Tally) -> Result<(), String> {
     let mut list = List::new(seed);
     let mut lent = list.garbage();
-    let start = Call::Start { policy: &list.policy };
+    let start = list.start();
     let number = compare(plan.fault, &mut lent, &start)?;
     tally.count_started(start.kind(), number)?;
-    let mut guard =
-        Guard::start(&list.policy).map_err(|refusal| format!("the start is {refusal}"))?;
+    let mut guard = start_guard(&list)?;
     let mut claim = Claim::told_start(&list.policy);
+    let mut random = Random::new(seed);
     for _ in 0..plan.calls {
-        let listed = list.next_call();
+        let listed = list.next_call(lent.state[STATE_DEVICES]);
         let call = Call::Listed(listed);
         let before = lent.clone();
         let number = compare(plan.fault, &mut lent, &call)?;
@@ -32,23 +34,48 @@ pub fn run_list(plan: &Plan, seed: u64, tally: &mut Tally) -> Result<(), String>
             check_flat(&call, &before, &lent)?;
         }
         tally.count_tree(&call, number, &lent);
+        tally.count_transfer(&listed, number, &before);
         compare_guard(&mut guard, &listed, number, &lent)?;
         check_claim(&mut claim, &listed, number, &before, &lent)?;
+        check_windows(&mut random, &listed, &before, (number, &lent), by_archive)?;
     }
     Ok(())
+}
+
+/// The safe guard of a list; the windows of its devices come with the calls.
+fn start_guard(list: &List) -> Result<Guard, String> {
+    let options =
+        (0..list.count).fold(Options::new(), |options, _| options.device(Device::new(1, 0)));
+    Guard::start(&list.policy, options).map_err(|refusal| format!("the start is {refusal}"))
 }
 
 /// The same list on the reference alone: the one-page guards find its mistake without another guard.
 pub fn run_claim(plan: &Plan, seed: u64) -> Result<(), String> {
     let mut list = List::new(seed);
     let mut lent = list.garbage();
-    by_reference(plan.fault, &mut lent, &Call::Start { policy: &list.policy });
+    by_reference(plan.fault, &mut lent, &list.start());
     let mut claim = Claim::told_start(&list.policy);
     for _ in 0..plan.calls {
-        let listed = list.next_call();
+        let listed = list.next_call(lent.state[STATE_DEVICES]);
         let before = lent.clone();
         let number = by_reference(plan.fault, &mut lent, &Call::Listed(listed));
         check_claim(&mut claim, &listed, number, &before, &lent)?;
+    }
+    Ok(())
+}
+
+/// The same again, with K5's own sentence alone.
+pub fn run_windows(plan: &Plan, seed: u64) -> Result<(), String> {
+    let mut list = List::new(seed);
+    let mut lent = list.garbage();
+    let mut random = Random::new(seed);
+    let side = |lent: &mut Lent, call: &Call| by_reference(plan.fault, lent, call);
+    side(&mut lent, &list.start());
+    for _ in 0..plan.calls {
+        let listed = list.next_call(lent.state[STATE_DEVICES]);
+        let before = lent.clone();
+        let number = side(&mut lent, &Call::Listed(listed));
+        check_windows(&mut random, &listed, &before, (number, &lent), side)?;
     }
     Ok(())
 }
@@ -61,7 +88,8 @@ fn compare_guard(
     after: &Lent,
 ) -> Result<(), String> {
     let answer = by_guard(guard, call);
-    let is_same = answer == (number, [after.numbers[0], after.numbers[1]])
+    let wanted = (number, [after.numbers[0], after.numbers[1]]);
+    let is_same = answer.is_none_or(|answer| answer == wanted)
         && guard.state()[..] == after.state
         && guard.shadow() == after.shadow
         && guard.map() == after.map
@@ -81,7 +109,8 @@ fn check_claim(
     before: &Lent,
     after: &Lent,
 ) -> Result<(), String> {
-    let settled = claim.settled(call);
+    let reaching = Reaching { devices: before.state[STATE_DEVICES] };
+    let settled = claim.settled(call, &reaching);
     let numbers = (after.numbers[0], after.numbers[1]);
     let holds = if settled == 0 {
         claim.is_safe(call, numbers) && counts_fit(call, before, after)

@@ -3,13 +3,14 @@
 
 use std::io::{self, Write};
 
-use guard::archive::STATE_FRAMES;
+use guard::archive::{STATE_DEVICES, STATE_FRAMES};
 use guard::Refusal;
 use reference::claim;
 
 use crate::call::{Call, Lent, KINDS, WALK, WRITE_RECORD};
 use crate::damage::Damage;
 use crate::entries::Entries;
+use crate::transfers::Transfers;
 use crate::walks::Walks;
 
 /// The least count of a cell that can be reached.
@@ -24,7 +25,7 @@ const OF_THE_DRILL: [usize; 2] = [14, 15];
 /// The numbers of each call, 0 for accepted: all that the questions let concern it. On damaged runs and tables each of them comes.
 /// Only the start reads a record (1 to 6); 8 is for calls with a length, 9 for those that name something, 10 for mode
 /// switches, 11 and 12 for calls that touch a shadow entry, 13 for writes. Writing a record asks 2 to 7, and it alone asks 16; 17 is
-/// for calls with a tree.
+/// for calls with a tree, 18 and 19 are for device writes.
 const OF_THE_CALL: [&[usize]; KINDS.len()] = [
     &[0, 1, 2, 3, 4, 5, 6, 7],
     &[0, 7, 9],
@@ -33,7 +34,7 @@ const OF_THE_CALL: [&[usize]; KINDS.len()] = [
     &[0, 7, 8, 9, 11, 12, 13],
     &[0, 7, 9, 10, 11, 12],
     &[0, 7, 9, 10, 11, 12],
-    &[0, 7, 8, 9, 13],
+    &[0, 7, 8, 9, 13, 18, 19],
     &[0, 2, 3, 4, 5, 6, 7, 16],
     &[0, 7, 9, 17],
     &[0, 7, 17],
@@ -42,9 +43,10 @@ const OF_THE_CALL: [&[usize]; KINDS.len()] = [
 
 /// Of these, the numbers that do not come in a list from an accepted start.
 /// Its start is accepted. The state and the guard tables pass question 7 at every call of such a list, so 7 is only about the kernel
-/// table that a synchronisation is brought, and not about a tree. A write never gives 13: an entry with the frame of the policy is an
-/// approved one and has no bit 1, and an ordinary one has a frame below F. An enter never gives 12: an entry page is listed, so its
-/// entry is approved where it is present. No record is written there, and no page is walked to alone.
+/// table that a synchronisation is brought or the devices that a device write is, and not about a tree. A write never gives 13: an
+/// entry with the frame of the policy is an approved one and has no bit 1, and an ordinary one has a frame below F. An enter never
+/// gives 12: an entry page is listed, so its entry is approved where it is present. No record is written there, and no page is walked
+/// to alone.
 const NOT_STARTED: [&[usize]; KINDS.len()] = [
     &[1, 2, 3, 4, 5, 6, 7],
     &[],
@@ -53,7 +55,7 @@ const NOT_STARTED: [&[usize]; KINDS.len()] = [
     &[7, 13],
     &[7, 12],
     &[7],
-    &[7],
+    &[],
     OF_THE_CALL[WRITE_RECORD],
     &[7],
     &[7],
@@ -104,6 +106,8 @@ pub struct Tally {
     entries: Entries,
     /// Of all lists and of bare walks.
     walks: Walks,
+    /// Of all lists and of starts.
+    transfers: Transfers,
 }
 
 impl Tally {
@@ -120,6 +124,16 @@ impl Tally {
     /// Counts what a call met of its tree, if it has one.
     pub(crate) fn count_tree(&mut self, call: &Call, number: u64, lent: &Lent) {
         self.walks.count(call, number, lent.shadow.len() as u64);
+    }
+
+    /// Counts what a device write met of its devices, if the call is one, where all else that question 7 asks for is in order.
+    pub(crate) fn count_transfer(&mut self, call: &claim::Call, number: u64, before: &Lent) {
+        self.transfers.count(call, before.state[STATE_DEVICES], number);
+    }
+
+    /// Counts a start by its devices.
+    pub(crate) fn count_start(&mut self, devices: u64, number: u64, otherwise: u64) {
+        self.transfers.count_start(devices, number, otherwise);
     }
 
     /// Counts a call on damaged runs and tables.
@@ -144,6 +158,7 @@ impl Tally {
         complaints.extend(self.complaints_of(Half::Damaged));
         complaints.extend(self.entries.complaints());
         complaints.extend(self.walks.complaints());
+        complaints.extend(self.transfers.complaints());
         for number in 0..NUMBERS {
             let of_a_call = OF_THE_CALL.iter().any(|numbers| numbers.contains(&number));
             if of_a_call == OF_THE_DRILL.contains(&number) {
@@ -185,7 +200,8 @@ impl Tally {
         self.print_numbers(out, Half::Damaged)?;
         self.print_damage(out)?;
         self.entries.print(out)?;
-        self.walks.print(out)
+        self.walks.print(out)?;
+        self.transfers.print(out)
     }
 
     fn print_numbers(&self, out: &mut impl Write, half: Half) -> io::Result<()> {

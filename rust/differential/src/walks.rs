@@ -9,7 +9,7 @@ use reference::path::{End, Path};
 use reference::Tree;
 
 use crate::call::{Call, ALL_FROM_TREE, KINDS, ONE_FROM_TREE, WALK};
-use crate::tally::{print_cell, wrong};
+use crate::table::{rows_of, Table};
 
 /// The calls that are lent a tree, by their places in [`KINDS`].
 const CALLS: [usize; 3] = [ONE_FROM_TREE, ALL_FROM_TREE, WALK];
@@ -151,57 +151,12 @@ impl Walks {
 
     /// What is wrong with the counts, one line each.
     pub fn complaints(&self) -> Vec<String> {
-        let mut complaints = Vec::new();
-        for Table { name, columns, rows } in self.tables() {
-            for (row, cells) in rows {
-                for (column, (can_be, count)) in columns.iter().zip(cells) {
-                    complaints.extend(
-                        wrong(can_be, count).map(|wrong| {
-                            format!("{name}, {row}, {column}: {count} of them, {wrong}")
-                        }),
-                    );
-                }
-            }
-        }
-        complaints
+        self.tables().iter().flat_map(Table::complaints).collect()
     }
 
     pub fn print(&self, out: &mut impl Write) -> io::Result<()> {
-        for Table { name, columns, rows } in self.tables() {
-            write!(out, "{name:26}")?;
-            columns.iter().try_for_each(|column| write!(out, "{column:>16}"))?;
-            writeln!(out)?;
-            for (row, cells) in rows {
-                write!(out, "{row:26}")?;
-                for (can_be, count) in cells {
-                    print_cell(out, 16, can_be, count)?;
-                }
-                writeln!(out)?;
-            }
-        }
-        Ok(())
+        self.tables().iter().try_for_each(|table| table.print(out))
     }
-}
-
-/// Whether a cell can be reached, and its count.
-type Cell = (bool, u64);
-
-struct Table {
-    name: &'static str,
-    columns: Vec<String>,
-    rows: Vec<(&'static str, Vec<Cell>)>,
-}
-
-fn rows_of<const COLUMNS: usize>(
-    names: impl IntoIterator<Item = &'static str>,
-    counts: &[[u64; COLUMNS]],
-    can_be: impl Fn(usize, usize) -> bool,
-) -> Vec<(&'static str, Vec<Cell>)> {
-    let cells = |row: usize| {
-        let counts = (0..).zip(&counts[row]);
-        counts.map(|(column, &count)| (can_be(row, column), count)).collect()
-    };
-    (0..).zip(names).map(|(row, name)| (name, cells(row))).collect()
 }
 
 fn count_end(counts: &mut Ends, tree: &Tree, path: &Path) {

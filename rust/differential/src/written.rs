@@ -2,7 +2,7 @@
 //! Both sentences of K2 about accepted records are checked on the archive.
 
 use guard::archive::{self, NUMBERS};
-use guard::{Guard, Mode, NO_FRAME};
+use guard::{Device, Guard, Mode, Options, NO_FRAME};
 use inputs::{Parts, Random};
 use reference::{vector_len, Fault};
 
@@ -79,7 +79,9 @@ fn damage_part(random: &mut Random, parts: &mut Parts, [v, f, n, _]: [u64; 4]) {
 
 /// K2: "a written record starts a guard with those pages and frames".
 fn check_start(parts: &Parts, record: &[u8]) -> Result<(), String> {
-    let guard = Guard::start(record).map_err(|refusal| format!("a written record is {refusal}"))?;
+    let options = Options::new().device(Device::new(0, 0));
+    let guard = Guard::start(record, options)
+        .map_err(|refusal| format!("a written record is {refusal}"))?;
     let Parts { sizes: [v, f, _, e], pages, frames } = parts;
     let entry_pages: Vec<u64> = pages.iter().take(*e as usize).map(|&page| page.into()).collect();
     let mut shadow = vec![0; *v as usize];

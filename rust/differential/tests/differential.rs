@@ -4,7 +4,7 @@
 
 use std::io::{self, Write};
 
-use differential::{run, run_claim, Damage, Plan, Tally};
+use differential::{run, run_claim, run_windows, Damage, Plan, Tally};
 use reference::Fault;
 
 const SEED: u64 = 1;
@@ -21,10 +21,15 @@ fn a_million_calls_agree() {
     assert!(complaints.is_empty(), "{}", complaints.join("\n"));
 }
 
+/// The mistakes that a list of demand 3 shows.
+fn of_lists() -> impl Iterator<Item = Fault> {
+    Fault::PLANTED.into_iter().chain(Fault::OF_TREES).chain(Fault::OF_DEVICES)
+}
+
 #[test]
 fn every_planted_mistake_is_found() {
-    let of_lists = Fault::PLANTED.into_iter().chain(Fault::OF_TREES);
-    for fault in of_lists.chain(Fault::OF_WRITING_RECORDS).chain(Fault::OF_WALKS) {
+    let of_others = Fault::OF_WRITING_RECORDS.into_iter().chain(Fault::OF_WALKS);
+    for fault in of_lists().chain(of_others).chain(Fault::OF_DEVICE_COUNTS) {
         let plan = Plan { seed: SEED, lists: 200, calls: Plan::CALLS, fault };
         let difference = run(&plan).expect_err(&format!("{fault:?} is not found"));
         println!("{fault:?}: {difference}");
@@ -34,11 +39,22 @@ fn every_planted_mistake_is_found() {
 /// The one-page guards alone find every mistake, and none where there is none.
 #[test]
 fn demand_3_sees_every_planted_mistake() {
-    let planted = Fault::PLANTED.into_iter().chain(Fault::OF_TREES);
-    for fault in std::iter::once(Fault::None).chain(planted) {
+    for fault in std::iter::once(Fault::None).chain(of_lists()) {
         let plan = Plan { seed: SEED, lists: 0, calls: Plan::CALLS, fault };
         let broken = (0..200).filter(|&seed| run_claim(&plan, seed).is_err()).count();
         assert_eq!(broken > 0, fault != Fault::None, "{fault:?} breaks {broken} of 200 lists");
+    }
+}
+
+/// K5's own sentence alone finds a window that is another device's, and no other mistake of device writes.
+#[test]
+fn the_window_of_another_device_is_seen() {
+    for fault in std::iter::once(Fault::None).chain(Fault::OF_DEVICES) {
+        let plan = Plan { seed: SEED, lists: 0, calls: Plan::CALLS, fault };
+        let broken = (0..200).filter(|&seed| run_windows(&plan, seed).is_err()).count();
+        let is_of_another =
+            matches!(fault, Fault::CutDevice | Fault::NeighbourWindow | Fault::AnyWindow);
+        assert_eq!(broken > 0, is_of_another, "{fault:?} breaks {broken} of 200 lists");
     }
 }
 
@@ -180,6 +196,49 @@ fn too_few_bits_at_a_level_are_noticed() {
             // With bit 7 at level 2 no walk comes to level 1.
             let can_be = bit != "bit 7 set" || !levels.contains('2');
             assert_eq!(complaints.contains(&complaint), can_be, "{complaint}");
+        }
+    }
+}
+
+/// Each place of an accepted transfer in its window, each reason of 18, 19 and of 7 for a list, and each number of devices at a start.
+#[test]
+fn too_few_transfers_of_a_kind_are_noticed() {
+    let complaints = Tally::default().complaints();
+    let rows = [
+        ("accepted, window of one frame", &["at both"][..]),
+        ("accepted, window of more", &["at neither end", "at its first", "at its last", "at both"]),
+        (
+            "19, device writes",
+            &[
+                "empty window",
+                "one frame below",
+                "further below",
+                "one frame above",
+                "further above",
+                "on both sides",
+                "wholly below",
+                "wholly above",
+            ],
+        ),
+        ("18, device writes", &["next to the last", "by lower bits", "any other"]),
+        ("7, device writes", &["empty list", "one too few", "one too many", "any other"]),
+        ("3, devices at the start", &["0", "65", "by lower bits", "any other"]),
+        ("accepted, devices at the start", &["1", "2 to 63", "64"]),
+        ("with one device, devices at the start", &["accepted", "1", "2", "3", "4", "5", "6", "7"]),
+    ];
+    for (row, columns) in rows {
+        for column in columns {
+            let complaint = format!("{row}, {column}: 0 of them, at least 1000 are asked for");
+            assert!(complaints.contains(&complaint), "{complaint}");
+        }
+        let of_row = complaints.iter().filter(|text| text.starts_with(&format!("{row}, ")));
+        assert_eq!(of_row.count(), columns.len(), "{row}");
+    }
+    for half in ["from a start", "damaged"] {
+        for number in [0, 7, 8, 9, 13, 18, 19] {
+            let complaint =
+                format!("{half}, device write, {number}: 0 calls, at least 1000 are asked for");
+            assert!(complaints.contains(&complaint), "{complaint}");
         }
     }
 }

@@ -1,4 +1,4 @@
-//! Why a start, or the writing of a record, was refused, and by which line of the script or policy.
+//! Why a start, a device write of the drill or the writing of a record was refused, and by which line of the script or policy.
 //! The drill and the library give the number alone; the question behind it is asked once more here, of the same numbers.
 
 use crate::explain::counted;
@@ -7,7 +7,24 @@ use crate::policy::{MOST_ENTRIES, MOST_FRAMES, MOST_PAGES};
 use crate::refusals::refusal;
 use crate::{DrillInput, LineError, Number, Policy};
 
+/// How many devices the drill has.
+const DEVICES: u16 = 64;
+
 impl DrillInput {
+    /// What made a write of this device answer this number. The drill's windows have all frames: only another drill gives 19.
+    pub(crate) fn device_cause(&self, device: u16, number: u64) -> Option<String> {
+        match refusal(number)?.constant {
+            "GUARD_NO_DEVICE" if device >= DEVICES => {
+                Some(format!("the drill has devices 0 to {}", DEVICES - 1))
+            }
+            "GUARD_OUTSIDE_WINDOW" => {
+                let last = self.policy()?.frames.value.checked_sub(1)?;
+                Some(format!("the drill's windows are frames 0 to {last}"))
+            }
+            _ => None,
+        }
+    }
+
     /// What made the start answer this number.
     pub(crate) fn cause(&self, number: u64) -> Option<LineError> {
         match refusal(number)?.constant {

@@ -35,12 +35,12 @@ impl Explainer<'_> {
             [kind, number, first, second, mode, running] => {
                 let (number, first, second) = (decimal(number)?, decimal(first)?, decimal(second)?);
                 let place = format!("{} mode, page {}", mode_word(mode)?, decimal(running)?);
-                let outcome = explain_call(kind, number, (first, second))?;
-                let (line, cause) = self.script_line(kind, number)?;
+                let (name, outcome) = explain_call(kind, number, (first, second))?;
+                let Told { line, by, cause } = self.told_by_script(kind, number)?;
                 self.answers += 1;
                 let is_refused_start = kind == "S" && number != 0;
                 let ending = if is_refused_start { "; no guard was started" } else { "" };
-                Ok(format!("{line}{outcome}{cause}; {place}{ending}"))
+                Ok(format!("{line}{name}{by}{outcome}{cause}; {place}{ending}"))
             }
             ["share", share] => {
                 Ok(format!("share: {} percent of the frames are excluded", decimal(share)?))
@@ -54,10 +54,9 @@ impl Explainer<'_> {
         }
     }
 
-    /// The line of the script that an answer belongs to, as its beginning; and what made a start refused, or what an edited entry is.
-    fn script_line(&self, kind: &str, number: u64) -> Result<(String, String), String> {
+    fn told_by_script(&self, kind: &str, number: u64) -> Result<Told, String> {
         let Some(script) = self.script else {
-            return Ok(Default::default());
+            return Ok(Told::default());
         };
         let Some(at) = self.answers.checked_sub(1) else {
             if kind != "S" {
@@ -65,29 +64,62 @@ impl Explainer<'_> {
             }
             let cause = script.cause(number);
             let line = cause.as_ref().map_or(script.first_line, |cause| cause.line);
-            let words = cause.map_or(String::new(), |cause| format!(" ({})", cause.message));
-            return Ok((beginning(line), words));
+            let cause = cause.map(|cause| cause.message);
+            return Ok(Told { cause: in_brackets(cause), ..Told::at(line) });
         };
-        match script.call(at) {
-            None => Err("the script has no call for this line".into()),
-            Some((line, code)) if kind == "X" || kind == code.to_string() => {
-                let entry = script.value(at).filter(|_| kind == "0" && number == 0);
-                Ok((beginning(line), entry.map_or("", explain_edited).into()))
+        let line = match script.call(at) {
+            None => return Err("the script has no call for this line".into()),
+            Some((line, code)) if kind == "X" || kind == code.to_string() => line,
+            Some((line, _)) => {
+                return Err(format!("this does not answer line {line} of the script"))
             }
-            Some((line, _)) => Err(format!("this does not answer line {line} of the script")),
-        }
+        };
+        let told = Told::at(line);
+        Ok(match (kind, script.value(at), script.index(at)) {
+            ("0", Some(entry), _) if number == 0 => {
+                Told { cause: explain_edited(entry).into(), ..told }
+            }
+            ("7", _, Some(device)) => Told {
+                by: format!(" by device {device}"),
+                cause: in_brackets(script.device_cause(device, number)),
+                ..told
+            },
+            _ => told,
+        })
     }
 }
 
-fn beginning(line: usize) -> String {
-    format!("line {line}: ")
+/// What the script tells about an answer; nothing without it.
+#[derive(Default)]
+struct Told {
+    /// The line that the answer belongs to, as a beginning.
+    line: String,
+    /// The device of a device write.
+    by: String,
+    /// What made a call refused, or what an edited entry is.
+    cause: String,
+}
+
+impl Told {
+    fn at(line: usize) -> Told {
+        Told { line: format!("line {line}: "), ..Told::default() }
+    }
+}
+
+fn in_brackets(cause: Option<String>) -> String {
+    cause.map_or(String::new(), |cause| format!(" ({cause})"))
 }
 
 fn no_line(line: &str) -> String {
     format!("'{}' is no line of the drill", shown(line))
 }
 
-fn explain_call(kind: &str, number: u64, numbers: (u64, u64)) -> Result<String, String> {
+/// The name of a call, and what came of it.
+fn explain_call(
+    kind: &str,
+    number: u64,
+    numbers: (u64, u64),
+) -> Result<(&'static str, String), String> {
     let name = match kind {
         "S" => "start",
         "X" => "calls ended",
@@ -104,12 +136,12 @@ fn explain_call(kind: &str, number: u64, numbers: (u64, u64)) -> Result<String, 
     if number == 0 {
         return match kind {
             "X" => Err("an X line carries a refusal number".into()),
-            _ => Ok(format!("{name} accepted{}", explain_numbers(kind, numbers))),
+            _ => Ok((name, format!(" accepted{}", explain_numbers(kind, numbers)))),
         };
     }
     let refusal = refusal(number).ok_or(format!("{number} is no refusal number"))?;
     let verb = if kind == "X" { "" } else { " refused" };
-    Ok(format!("{name}{verb}: {number}, {}", refusal.words))
+    Ok((name, format!("{verb}: {number}, {}", refusal.words)))
 }
 
 /// What the two numbers of an accepted call say.

@@ -79,6 +79,12 @@ impl DrillInput {
         Some(u64::from_le_bytes(value.try_into().ok()?))
     }
 
+    /// The index of a call, counted from 0: of a device write, the device.
+    pub(crate) fn index(&self, at: usize) -> Option<u16> {
+        let offset = self.calls_begin()? + CALL_BYTES * at + 2;
+        Some(self.number(offset)?.value)
+    }
+
     /// The drill reads no further than its last call, so that more of them would be dropped without a word.
     pub(crate) fn check_calls(&self) -> Result<(), LineError> {
         match self.call(MOST_CALLS) {

@@ -23,7 +23,10 @@ A script has one item a line; # begins a comment; numbers are decimal, or hexade
   approve page P frame F [entry]   entry pages come first in the record
   edit page P entry X              synchronise page P            synchronise all
   fetch page P                     write address A length L      enter index I
-  leave page P                     device-write address A length L
+  leave page P
+  device-write [device D] address A length L
+                                   device 0 where none is named; the drill has devices
+                                   0 to 63, and all frames are the window of each
   call kind K index I length L value X     any call, also one of an unknown kind
   bytes [B ..]                             bytes as they are, also in place of the policy
 At most 1024 calls follow the policy.

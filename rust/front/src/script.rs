@@ -8,6 +8,7 @@ use crate::words::{field16, items, last_line, Field, Words, PAGE};
 use crate::LineError;
 
 const INDEX: Field = field16("index");
+const DEVICE: Field = field16("device");
 const LENGTH: Field = Field { name: "length", largest: u32::MAX as u64 };
 const ADDRESS: Field = Field { name: "address", largest: u64::MAX };
 const ENTRY: Field = Field { name: "entry", largest: u64::MAX };
@@ -118,10 +119,13 @@ fn read_call(name: &str, words: &mut Words) -> Result<[u8; 16], LineError> {
         "synchronise" if words.has_name("all") => call(2, 0, 0, 0),
         "synchronise" => call(1, words.named16("page", PAGE)?, 0, 0),
         "fetch" => call(3, words.named16("page", PAGE)?, 0, 0),
-        "write" => read_access(4, words)?,
+        "write" => read_access(4, 0, words)?,
         "enter" => call(5, words.named16("index", INDEX)?, 0, 0),
         "leave" => call(6, words.named16("page", PAGE)?, 0, 0),
-        "device-write" => read_access(7, words)?,
+        "device-write" => {
+            let device = if words.has_name("device") { words.number(DEVICE)? as u16 } else { 0 };
+            read_access(7, device, words)?
+        }
         "call" => {
             let kind = words.named("kind", KIND)? as u8;
             let index = words.named16("index", INDEX)?;
@@ -132,7 +136,7 @@ fn read_call(name: &str, words: &mut Words) -> Result<[u8; 16], LineError> {
     })
 }
 
-fn read_access(kind: u8, words: &mut Words) -> Result<[u8; 16], LineError> {
+fn read_access(kind: u8, index: u16, words: &mut Words) -> Result<[u8; 16], LineError> {
     let address = words.named("address", ADDRESS)?;
-    Ok(call(kind, 0, words.named("length", LENGTH)?, address))
+    Ok(call(kind, index, words.named("length", LENGTH)?, address))
 }

@@ -68,9 +68,12 @@ fn explain_prints_words() {
     let with_lines = common::read("examples/worked.explained");
     let arguments = ["explain", &path("examples/worked.script")];
     assert_eq!(words(&arguments, &lines), with_lines);
-    // Without the script no line can be named.
+    // Without the script no line can be named, and no device.
     let without = with_lines.lines().map(|line| match line.strip_prefix("line ") {
-        Some(answer) => format!("{}\n", answer.split_once(": ").unwrap().1),
+        Some(answer) => {
+            let words = answer.split_once(": ").unwrap().1;
+            format!("{}\n", words.replace(" by device 0", ""))
+        }
         None => format!("{line}\n"),
     });
     assert_eq!(words(&["explain"], &lines), without.collect::<String>());
@@ -143,7 +146,7 @@ fn run_copes_with_a_drill_that_stops_reading() {
     let list = "approve page 0 frame 0 entry\n".repeat(65535);
     let script = format!("policy pages 1 frames 1\n{list}");
     let explained = words(&["run", "sh", "-c", "echo S 3 0 0 U 0"], script.as_bytes());
-    let expected = "line 3: start refused: 3, n or e is out of range \
+    let expected = "line 3: start refused: 3, n, e or the number of devices is out of range \
                     (65535 pages are listed, and the policy has 1); user mode, page 0; no guard was started\n";
     assert_eq!(explained, expected);
 }

@@ -46,6 +46,8 @@ fn refused_calls() {
         ("5 10 0 0 K 1", "enter refused: 10, the mode does not suit the call; kernel mode, page 1"),
         ("6 12 0 0 K 1", "leave refused: 12, a touched page does not permit it; kernel mode, page 1"),
         ("7 13 0 0 U 3", "device write refused: 13, a touched frame is excluded; user mode, page 3"),
+        ("7 18 0 0 U 3", "device write refused: 18, the device is not in the list; user mode, page 3"),
+        ("7 19 0 0 K 1", "device write refused: 19, the transfer is outside the device's window; kernel mode, page 1"),
         ("X 14 0 0 U 3", "calls ended: 14, the last call is cut short; user mode, page 3"),
         ("X 15 0 0 K 0", "calls ended: 15, the kind of call is unknown; kernel mode, page 0"),
         (
@@ -68,7 +70,7 @@ fn every_number_has_its_words() {
         assert_eq!(words(&line), expected);
         explained += 1;
     }
-    assert_eq!(explained, 17);
+    assert_eq!(explained, 19);
 }
 
 #[test]
@@ -119,6 +121,53 @@ fn edits_of_entries_with_reserved_bits() {
     }
 }
 
+/// With the script, a device write names its device, and 18 and 19 say what the drill has; without it, nothing is known of the device.
+#[test]
+fn device_writes_name_their_device() {
+    let of_any = "device write accepted: first frame 1, last frame 9; kernel mode, page 1";
+    let accepted = |device: u16| {
+        let outcome = "accepted: first frame 1, last frame 9; kernel mode, page 1";
+        format!("device write by device {device} {outcome}")
+    };
+    let refused = |device: u16, words: &str| {
+        format!("device write by device {device} refused: {words}; kernel mode, page 1")
+    };
+    let no_device = "18, the device is not in the list";
+    let outside = "19, the transfer is outside the device's window";
+    let writes = [
+        ("", "7 0 1 9 K 1", accepted(0)),
+        ("device 0 ", "7 0 1 9 K 1", accepted(0)),
+        ("device 63 ", "7 0 1 9 K 1", accepted(63)),
+        ("device 3 ", "7 13 0 0 K 1", refused(3, "13, a touched frame is excluded")),
+        (
+            "device 64 ",
+            "7 18 0 0 K 1",
+            refused(64, &format!("{no_device} (the drill has devices 0 to 63)")),
+        ),
+        (
+            "device 65535 ",
+            "7 18 0 0 K 1",
+            refused(65535, &format!("{no_device} (the drill has devices 0 to 63)")),
+        ),
+        // Another drill may have fewer devices, or other windows.
+        ("device 63 ", "7 18 0 0 K 1", refused(63, no_device)),
+        (
+            "device 5 ",
+            "7 19 0 0 K 1",
+            refused(5, &format!("{outside} (the drill's windows are frames 0 to 3)")),
+        ),
+    ];
+    for (device, line, expected) in writes {
+        let script = format!(
+            "policy pages 4 frames 4\napprove page 1 frame 2 entry\ndevice-write {device}address 0 length 1\n"
+        );
+        let lines = format!("S 0 1 1 K 1\n{line}\n");
+        let explained = explain(&lines, Some(&encode(&script).unwrap())).unwrap();
+        assert_eq!(explained.lines().nth(1), Some(&*format!("line 3: {expected}")), "{device}");
+    }
+    assert_eq!(words("7 0 1 9 K 1"), of_any);
+}
+
 #[test]
 fn lines_that_are_none() {
     let lines = [
@@ -127,7 +176,7 @@ fn lines_that_are_none() {
         ("S 0 1 1 K", "line 1: 'S 0 1 1 K' is no line of the drill"),
         ("S 0 1 1 K 1 1", "line 1: 'S 0 1 1 K 1 1' is no line of the drill"),
         ("8 0 1 1 K 1", "line 1: '8' is no kind of call"),
-        ("1 18 0 0 K 1", "line 1: 18 is no refusal number"),
+        ("1 20 0 0 K 1", "line 1: 20 is no refusal number"),
         ("1 256 0 0 K 1", "line 1: 256 is no refusal number"),
         ("1 +1 0 0 K 1", "line 1: a decimal number is expected, not '+1'"),
         ("1 0 0 x K 1", "line 1: a decimal number is expected, not 'x'"),

@@ -92,7 +92,7 @@ fn call_line(call: &[u8]) -> String {
         4 => format!("write address {value} length {length}\n"),
         5 => format!("enter index {index}\n"),
         6 => format!("leave page {index}\n"),
-        7 => format!("device-write address {value:#x} length {length:#x}\n"),
+        7 => format!("device-write device {index} address {value:#x} length {length:#x}\n"),
         kind => format!("call kind {kind} index {index} length {length} value {value}\n"),
     }
 }

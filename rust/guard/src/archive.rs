@@ -8,7 +8,7 @@
 //! Each returns 0 where the call is accepted, else the number of the question that refused it.
 
 /// The words of a state run; the places of its fields follow.
-pub const STATE_WORDS: usize = 21;
+pub const STATE_WORDS: usize = 22;
 /// V, the number of virtual pages.
 pub const STATE_PAGES: usize = 0;
 /// F, the number of physical frames.
@@ -21,6 +21,8 @@ pub const STATE_ENTRY: usize = 3;
 pub const STATE_MODE: usize = 19;
 /// The page now running.
 pub const STATE_RUNNING: usize = 20;
+/// The number of devices.
+pub const STATE_DEVICES: usize = 21;
 
 pub const MODE_KERNEL: u64 = 0;
 pub const MODE_USER: u64 = 1;
@@ -28,10 +30,29 @@ pub const MODE_USER: u64 = 1;
 /// The words of a numbers run.
 pub const NUMBERS: usize = 2;
 
+/// A device of the list that a device write is lent. A later version has more fields, so that it is built by [`Device::new`].
+#[derive(Clone, Copy, Debug, PartialEq, Eq)]
+#[non_exhaustive]
+#[repr(C)]
+pub struct Device {
+    /// The first frame of its window.
+    pub first: u16,
+    /// The last one; the window includes both, and has no frame where the first is above the last.
+    pub last: u16,
+}
+
+impl Device {
+    /// A device with the window from the first frame to the last.
+    pub const fn new(first: u16, last: u16) -> Device {
+        Device { first, last }
+    }
+}
+
 extern "C" {
     fn guard_start(
         policy: *const u8,
         policy_length: usize,
+        devices: u64,
         state: *mut u64,
         state_length: usize,
         shadow: *mut u64,
@@ -172,6 +193,9 @@ extern "C" {
         state_length: usize,
         exclusion: *const u8,
         exclusion_length: usize,
+        devices: *const Device,
+        devices_length: usize,
+        device: u64,
         address: u64,
         length: u64,
         numbers: *mut u64,
@@ -179,10 +203,11 @@ extern "C" {
     ) -> u64;
 }
 
-/// Starts the guard by a policy record: n and e.
+/// Starts the guard by a policy record and the number of its devices: n and e.
 #[inline]
 pub fn start(
     policy: &[u8],
+    devices: u64,
     state: &mut [u64],
     shadow: &mut [u64],
     map: &mut [u16],
@@ -194,6 +219,7 @@ pub fn start(
         guard_start(
             policy.as_ptr(),
             policy.len(),
+            devices,
             state.as_mut_ptr(),
             state.len(),
             shadow.as_mut_ptr(),
@@ -465,11 +491,13 @@ pub fn leave(state: &mut [u64], shadow: &mut [u64], page: u64, numbers: &mut [u6
     }
 }
 
-/// Lets a device write 1 to 1,048,576 bytes at a physical address: the first and the last frame.
+/// Lets a device, named by its place in the list, write 1 to 1,048,576 bytes at a physical address: the first and the last frame.
 #[inline]
 pub fn device_write(
     state: &[u64],
     exclusion: &[u8],
+    devices: &[Device],
+    device: u64,
     address: u64,
     length: u64,
     numbers: &mut [u64],
@@ -481,6 +509,9 @@ pub fn device_write(
             state.len(),
             exclusion.as_ptr(),
             exclusion.len(),
+            devices.as_ptr(),
+            devices.len(),
+            device,
             address,
             length,
             numbers.as_mut_ptr(),

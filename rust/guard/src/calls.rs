@@ -1,12 +1,12 @@
-//! The guard: its state run and tables, and a method for each call of documents 01 and 02 on them.
+//! The guard: its state run, tables and devices, and a method for each call of documents 01 and 02 on them.
 //! A refused call changes nothing.
 
 use crate::archive;
 use crate::archive::{
-    MODE_USER, NUMBERS, STATE_ENTRIES, STATE_ENTRY, STATE_FRAMES, STATE_MODE, STATE_PAGES,
+    Device, MODE_USER, NUMBERS, STATE_ENTRIES, STATE_ENTRY, STATE_FRAMES, STATE_MODE, STATE_PAGES,
     STATE_RUNNING, STATE_WORDS,
 };
-use crate::{Refusal, Tree};
+use crate::{Options, Refusal, Tree};
 
 /// How many entry pages a state run has room for.
 pub const ENTRY_PAGES: usize = STATE_MODE - STATE_ENTRY;
@@ -47,26 +47,30 @@ pub struct Guard {
     shadow: Vec<u64>,
     map: Vec<u16>,
     exclusion: Vec<u8>,
+    devices: Vec<Device>,
 }
 
 impl Guard {
-    /// Starts a guard by a policy record, in kernel mode on the first entry page.
-    pub fn start(policy: &[u8]) -> Result<Guard, Refusal> {
+    /// Starts a guard by a policy record, in kernel mode on the first entry page, with the devices of the options.
+    pub fn start(policy: &[u8], options: Options) -> Result<Guard, Refusal> {
         let (pages, frames) = sizes(policy);
+        let Options { devices } = options;
         let mut guard = Guard {
             state: [0; STATE_WORDS],
             shadow: vec![0; pages],
             map: vec![0; pages],
             exclusion: vec![0; frames.div_ceil(8)],
+            devices,
         };
-        let Guard { state, shadow, map, exclusion } = &mut guard;
-        answer(|numbers| archive::start(policy, state, shadow, map, exclusion, numbers))?;
+        let Guard { state, shadow, map, exclusion, devices } = &mut guard;
+        let count = devices.len() as u64;
+        answer(|numbers| archive::start(policy, count, state, shadow, map, exclusion, numbers))?;
         Ok(guard)
     }
 
     /// Makes the shadow entry of one page from the kernel table.
     pub fn synchronise_page(&mut self, kernel: &[u64], page: u64) -> Result<Synchronised, Refusal> {
-        let Guard { state, shadow, map, exclusion } = self;
+        let Guard { state, shadow, map, exclusion, .. } = self;
         let [changed, joined] = answer(|numbers| {
             archive::sync_page(state, kernel, shadow, map, exclusion, page, numbers)
         })?;
@@ -75,7 +79,7 @@ impl Guard {
 
     /// Makes the shadow entries of all pages from the kernel table.
     pub fn synchronise_all(&mut self, kernel: &[u64]) -> Result<Synchronised, Refusal> {
-        let Guard { state, shadow, map, exclusion } = self;
+        let Guard { state, shadow, map, exclusion, .. } = self;
         let [changed, joined] =
             answer(|numbers| archive::sync_all(state, kernel, shadow, map, exclusion, numbers))?;
         Ok(Synchronised { changed, joined })
@@ -87,7 +91,7 @@ impl Guard {
         tree: &Tree,
         page: u64,
     ) -> Result<Synchronised, Refusal> {
-        let Guard { state, shadow, map, exclusion } = self;
+        let Guard { state, shadow, map, exclusion, .. } = self;
         let Tree { words, root, depth } = *tree;
         let [changed, joined] = answer(|numbers| {
             archive::sync_page_tree(
@@ -99,7 +103,7 @@ impl Guard {
 
     /// Makes the shadow entries of all pages from the kernel's tree.
     pub fn synchronise_all_tree(&mut self, tree: &Tree) -> Result<Synchronised, Refusal> {
-        let Guard { state, shadow, map, exclusion } = self;
+        let Guard { state, shadow, map, exclusion, .. } = self;
         let Tree { words, root, depth } = *tree;
         let [changed, joined] = answer(|numbers| {
             archive::sync_all_tree(state, words, root, depth, shadow, map, exclusion, numbers)
@@ -136,12 +140,25 @@ impl Guard {
         Ok(changed)
     }
 
-    /// Asks for a device's write of 1 to 1,048,576 bytes at a physical address.
-    pub fn device_write(&self, address: u64, length: u64) -> Result<Frames, Refusal> {
-        let Guard { state, exclusion, .. } = self;
-        let [first, last] =
-            answer(|numbers| archive::device_write(state, exclusion, address, length, numbers))?;
+    /// Asks for a device's write of 1 to 1,048,576 bytes at a physical address. The device is named by its number in
+    /// [`devices`](Guard::devices).
+    pub fn device_write(&self, device: u64, address: u64, length: u64) -> Result<Frames, Refusal> {
+        let Guard { state, exclusion, devices, .. } = self;
+        let [first, last] = answer(|numbers| {
+            archive::device_write(state, exclusion, devices, device, address, length, numbers)
+        })?;
         Ok(Frames { first, last })
+    }
+
+    /// Gives a device another window, from the first frame to the last. No answer to another device changes. Where there is no such
+    /// device nothing changes, and the refusal is that of its writes.
+    pub fn set_window(&mut self, device: u64, first: u16, last: u16) -> Result<(), Refusal> {
+        let place = usize::try_from(device).ok();
+        let Some(device) = place.and_then(|place| self.devices.get_mut(place)) else {
+            return Err(Refusal::NoDevice);
+        };
+        (device.first, device.last) = (first, last);
+        Ok(())
     }
 
     /// V, the number of virtual pages.
@@ -182,6 +199,11 @@ impl Guard {
     /// The exclusion vector, a bit a frame.
     pub fn exclusion(&self) -> &[u8] {
         &self.exclusion
+    }
+
+    /// The devices with their windows, by their number.
+    pub fn devices(&self) -> &[Device] {
+        &self.devices
     }
 
     /// The words of the state, laid out as [`archive`] says.

@@ -44,11 +44,11 @@ pub fn write_record(
 /// n and e are counted, so that each array has n numbers, and refusal 4 never comes.
 ///
 /// ```
-/// use guard::{Guard, Policy, Refusal};
+/// use guard::{Device, Guard, Options, Policy, Refusal};
 ///
 /// // V 12 and F 16; entry page 0 with frame 1, and page 4 with frame 3.
 /// let policy = Policy::new(12, 16).entry_page(0, 1).page(4, 3);
-/// let mut guard = Guard::start(&policy.record()?)?;
+/// let mut guard = Guard::start(&policy.record()?, Options::new().device(Device::new(4, 15)))?;
 /// assert_eq!(guard.fetch(4)?, 3);
 ///
 /// // The library asks the questions: there is no page 12.

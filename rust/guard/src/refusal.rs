@@ -31,7 +31,7 @@ macro_rules! refusals {
 refusals! {
     RecordTooShort = 1, "the policy record is shorter than 8 bytes";
     SizeOutOfRange = 2, "V or F is out of range";
-    CountOutOfRange = 3, "n or e is out of range";
+    CountOutOfRange = 3, "n, e or the number of devices is out of range";
     RecordLength = 4, "the length of the policy record or of an array does not fit n";
     ListedPage = 5, "a listed page is out of range or out of order";
     ListedFrame = 6, "a listed frame is out of range";
@@ -48,6 +48,8 @@ refusals! {
     UnknownKind = 15, "the kind of call is unknown";
     BufferTooShort = 16, "the buffer is shorter than the record";
     Tree = 17, "the tree's run, depth or root does not fit";
+    NoDevice = 18, "the device is not in the list";
+    OutsideWindow = 19, "the transfer is outside the device's window";
 }
 
 impl Refusal {

@@ -16,7 +16,7 @@ pub const MAX_DEPTH: u64 = 3;
 /// The frame field of an entry above the last one is the number of the next table: its place in the run, and no physical frame.
 ///
 /// ```
-/// use guard::{Guard, Policy, Refusal, Synchronised, Tree, Walk, TABLE_ENTRIES};
+/// use guard::{Device, Guard, Options, Policy, Refusal, Synchronised, Tree, Walk, TABLE_ENTRIES};
 ///
 /// // Table 0, of level 2: pages 0 to 511 are in table 1, and 512 to 1,023 a large page from frame 512 on.
 /// let mut words = [0; 2 * TABLE_ENTRIES];
@@ -30,7 +30,8 @@ pub const MAX_DEPTH: u64 = 3;
 /// assert_eq!(tree.walk(515)?, Walk { entry: 0x20_3003, reads: 1 });
 ///
 /// // V 516 and F 1,024, page 1 with frame 2: it is absent, since the kernel has no entry for it.
-/// let mut guard = Guard::start(&Policy::new(516, 1024).entry_page(1, 2).record()?)?;
+/// let policy = Policy::new(516, 1024).entry_page(1, 2).record()?;
+/// let mut guard = Guard::start(&policy, Options::new().device(Device::new(8, 1023)))?;
 /// assert_eq!(guard.synchronise_all_tree(&tree)?, Synchronised { changed: 6, joined: 0 });
 /// assert_eq!(guard.shadow()[515], 1 << 63 | 0x20_3003);
 ///

@@ -1,6 +1,9 @@
 //! The cases and the worked example of document 01, K3's bits, and calls at the edges of their arguments through the safe guard.
 //! C6 to C8 stand on the started guard with the mode replaced by user, so they call the archive's functions.
 
+mod common;
+
+use common::one_device;
 use guard::archive::{self, MODE_USER, NUMBERS, STATE_MODE};
 use guard::{Frames, Guard, Mode, Refusal, Synchronised, NO_FRAME};
 use inputs::{record, KernelEntry, Random};
@@ -10,7 +13,7 @@ const ONE_CHANGED: Synchronised = Synchronised { changed: 1, joined: 0 };
 
 /// The policy of the cases: V 4, F 4, page 1 with frame 2.
 fn started() -> Guard {
-    Guard::start(&record(4, 4, 1, &[(1, 2)])).expect("the start is accepted")
+    Guard::start(&record(4, 4, 1, &[(1, 2)]), one_device()).expect("the start is accepted")
 }
 
 /// A kernel table with one entry.
@@ -75,10 +78,10 @@ fn c6_to_c8_in_user_mode() {
 #[test]
 fn c9_to_c11_lengths_and_ends() {
     let mut guard = started();
-    assert_eq!(guard.device_write(16383, 1), Ok(Frames { first: 3, last: 3 }));
-    assert_eq!(guard.device_write(16383, 2), Err(Refusal::DoesNotExist));
-    assert_eq!(guard.device_write(4096, 4096), Ok(Frames { first: 1, last: 1 }));
-    assert_eq!(guard.device_write(4096, 4097), Err(Refusal::Excluded));
+    assert_eq!(guard.device_write(0, 16383, 1), Ok(Frames { first: 3, last: 3 }));
+    assert_eq!(guard.device_write(0, 16383, 2), Err(Refusal::DoesNotExist));
+    assert_eq!(guard.device_write(0, 4096, 4096), Ok(Frames { first: 1, last: 1 }));
+    assert_eq!(guard.device_write(0, 4096, 4097), Err(Refusal::Excluded));
     guard.synchronise_page(&kernel(0, 0x3003), 0).unwrap();
     assert_eq!(guard.write(0, 0), Err(Refusal::LengthOutOfRange));
     assert_eq!(guard.write(0, 16), Ok(Frames { first: 3, last: 3 }));
@@ -95,7 +98,7 @@ fn worked_example() {
     assert_eq!(guard.synchronise_page(&kernel, 3), Ok(ONE_CHANGED));
     assert_eq!(guard.leave(3), Ok(3));
     assert_eq!(guard.mode(), Mode::User(3));
-    assert_eq!(guard.device_write(8192, 1), Err(Refusal::Excluded));
+    assert_eq!(guard.device_write(0, 8192, 1), Err(Refusal::Excluded));
     assert_eq!(guard.shadow(), [0x8000_0000_0000_2401, 0x8000_0000_0000_2401, 0, 0x3007]);
     assert_eq!(guard.fetch(3), Ok(3));
     assert_eq!(guard.enter(0), Ok(3));
@@ -139,7 +142,7 @@ fn refused_starts() {
         (&record(4, 4, 1, &[(1, 4)]), Refusal::ListedFrame),
     ];
     for (policy, refusal) in starts {
-        assert_eq!(Guard::start(policy), Err(refusal));
+        assert_eq!(Guard::start(policy, one_device()), Err(refusal));
     }
 }
 
@@ -155,11 +158,11 @@ fn wide_numbers_are_refused() {
         assert_eq!(guard.leave(wide), Err(Refusal::DoesNotExist));
         assert_eq!(guard.enter(wide), Err(Refusal::DoesNotExist));
         assert_eq!(guard.write(1, wide << 5 | 1), Err(Refusal::LengthOutOfRange));
-        assert_eq!(guard.device_write(1, wide << 21 | 1), Err(Refusal::LengthOutOfRange));
+        assert_eq!(guard.device_write(0, 1, wide << 21 | 1), Err(Refusal::LengthOutOfRange));
     }
     for address in [16384, 1 << 32, 1 << 63, u64::MAX - 15, u64::MAX] {
         assert_eq!(guard.write(address, 16), Err(Refusal::DoesNotExist));
-        assert_eq!(guard.device_write(address, 16), Err(Refusal::DoesNotExist));
+        assert_eq!(guard.device_write(0, address, 16), Err(Refusal::DoesNotExist));
     }
 }
 
@@ -167,7 +170,7 @@ fn wide_numbers_are_refused() {
 #[test]
 fn largest_policy_and_other_kernel_tables() {
     let listed: Vec<_> = (0..2048).map(|page| (page, 4095 - page)).collect();
-    let mut guard = Guard::start(&record(2048, 4096, 16, &listed)).unwrap();
+    let mut guard = Guard::start(&record(2048, 4096, 16, &listed), one_device()).unwrap();
     assert_eq!(guard.entry_pages(), (0..16).collect::<Vec<_>>());
     let before = guard.clone();
     for length in [0, 1, 2047, 2049, 4096] {
@@ -195,6 +198,7 @@ fn every_call_is_safe_on_every_input() {
             (0..length).map(|_| KernelEntry::random(&mut random, 4).bits()).collect();
         let (wide, near) = (random.word(), random.below(6));
         let number = if random.one_in(2) { wide } else { near };
+        let device = if random.one_in(4) { random.word() } else { 0 };
         let before = guard.clone();
         let accepted = match random.below(7) {
             0 => guard.synchronise_page(&kernel, number).is_ok(),
@@ -203,7 +207,7 @@ fn every_call_is_safe_on_every_input() {
             3 => guard.write(number.wrapping_mul(4090), near).is_ok(),
             4 => guard.enter(number).is_ok(),
             5 => guard.leave(number).is_ok(),
-            _ => guard.device_write(number.wrapping_mul(4090), near).is_ok(),
+            _ => guard.device_write(device, number.wrapping_mul(4090), near).is_ok(),
         };
         assert!(accepted || guard == before);
         accepted_calls += u64::from(accepted);

@@ -1,4 +1,5 @@
-//! The declarations of src/archive.rs fit the exported functions of crates/exports, and its constants those of crates/words.
+//! The declarations of src/archive.rs fit the exported functions of crates/exports, its constants those of crates/words, and its struct
+//! that of crates/model.
 //! Names of parameters are compared too: of two runs of one type, only the name tells which comes first.
 
 use std::fs;
@@ -45,9 +46,10 @@ fn signature(text: &str) -> Signature {
     }
 }
 
+/// A name and its type, without the crate that declares it.
 fn parameter(text: &str) -> (String, String) {
     let (name, kind) = text.split_once(':').expect("a parameter's name and type");
-    (name.trim().into(), kind.trim().into())
+    (name.trim().into(), kind.trim().replace("model::", ""))
 }
 
 /// How a function on slices is declared for C: a slice is a pointer, then its length.
@@ -133,6 +135,23 @@ fn the_layout_is_that_of_the_rattle_source() {
     assert_eq!(constants(&read("rust/guard/src/archive.rs")), expected);
 }
 
+/// The fields `pub name: T` of the struct that C lays out as it stands, in their order.
+fn fields(source: &str, name: &str) -> Vec<(String, String)> {
+    let source = without_comments(source);
+    let (before, rest) = source.split_once(&format!("pub struct {name} {{")).expect("the struct");
+    assert!(before.trim_end().ends_with("#[repr(C)]"), "{name} is laid out for C");
+    let (inside, _) = rest.split_once('}').expect("the end of the struct");
+    let fields = inside.split(',').filter_map(|field| field.trim().strip_prefix("pub "));
+    fields.map(parameter).collect()
+}
+
+#[test]
+fn a_device_is_that_of_the_rattle_source() {
+    let expected = fields(&read("crates/model/src/lib.rt"), "Device");
+    assert!(!expected.is_empty());
+    assert_eq!(fields(&read("rust/guard/src/archive.rs"), "Device"), expected);
+}
+
 #[test]
 fn unsafe_stands_in_one_module() {
     let folder = Path::new(env!("CARGO_MANIFEST_DIR")).join("src");
@@ -170,4 +189,11 @@ fn the_comparison_sees_every_kind_of_change() {
     assert_seen(declared, "fn f(a: &[u64], b: &mut [u64]) -> u64 {");
     assert_seen(declared, "fn f(a: &[u64], b: &mut [u64], c: u64) -> u32 {");
     assert_seen(declared, "fn f(a: &[u64], b: &mut [u64], c: u64) {");
+    let of_structs = "fn f(a: *const Device, a_length: usize) -> u64;";
+    for fitting in ["fn f(a: &[Device]) -> u64 {", "fn f(a: &[model::Device]) -> u64 {"] {
+        let expected: Vec<_> = signatures(fitting, "fn ").iter().map(as_declared).collect();
+        assert_eq!(signatures(of_structs, "fn "), expected);
+    }
+    assert_seen(of_structs, "fn f(a: &mut [Device]) -> u64 {");
+    assert_seen(of_structs, "fn f(a: &[Fields]) -> u64 {");
 }

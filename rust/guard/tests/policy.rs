@@ -1,6 +1,9 @@
 //! Policy records written by the library, from a policy that is built page by page and from sizes and arrays.
 //! Expected bytes are written out, and every refusal that a Rust program can meet comes once at least.
 
+mod common;
+
+use common::one_device;
 use guard::{write_record, Guard, Mode, Policy, Refusal, NO_FRAME};
 use inputs::{random_record, Parts, Random};
 
@@ -43,7 +46,7 @@ fn the_largest_policy() {
     assert_eq!(record.len(), 8200);
     assert_eq!(record[..8], [0, 8, 0, 16, 0, 8, 16, 0]);
     assert_eq!(record[4102..4106], [0xff, 7, 0xff, 15], "the last page, the first frame");
-    let guard = Guard::start(&record).unwrap();
+    let guard = Guard::start(&record, one_device()).unwrap();
     assert_eq!(guard.entry_pages(), (0..16).collect::<Vec<_>>());
     assert_eq!((guard.map()[15], guard.map()[16], guard.map()[2047]), (4095, 2064, 4095));
 }
@@ -51,7 +54,7 @@ fn the_largest_policy() {
 #[test]
 fn a_started_guard_has_those_pages_and_frames() {
     let policy = Policy::new(6, 9).page(4, 3).entry_page(1, 8).entry_page(2, 3);
-    let guard = Guard::start(&policy.record().unwrap()).unwrap();
+    let guard = Guard::start(&policy.record().unwrap(), one_device()).unwrap();
     assert_eq!((guard.pages(), guard.frames(), guard.entry_pages()), (6, 9, &[1, 2][..]));
     assert_eq!(guard.mode(), Mode::Kernel(1));
     assert_eq!(guard.map(), [NO_FRAME, 8, 3, NO_FRAME, 3, NO_FRAME]);
@@ -66,7 +69,7 @@ fn a_record_read_and_written_again() {
     for _ in 0..300 {
         let (v, f) = (1 + random.below(2048), 1 + random.below(4096));
         let record = random_record(&mut random, v as u16, f as u16);
-        Guard::start(&record).unwrap();
+        Guard::start(&record, one_device()).unwrap();
         let Parts { sizes: [v, f, n, e], pages, frames } = Parts::of(&record);
         let mut again = vec![9; record.len()];
         assert_eq!(write_record(v, f, n, e, &pages, &frames, &mut again), Ok(record.len()));

@@ -1,6 +1,9 @@
 //! Walks of trees, and synchronisations from them, through the safe guard: request K4 sentence by sentence.
 //! What a walk should give is written out.
 
+mod common;
+
+use common::one_device;
 use guard::archive::{self, NUMBERS};
 use guard::{Guard, Refusal, Synchronised, Tree, Walk, MAX_DEPTH, NO_FRAME, TABLE_ENTRIES};
 use inputs::{record, KernelEntry, Random};
@@ -198,7 +201,7 @@ fn other_runs_depths_and_roots_give_17() {
 
 /// V 4, F 4, page 1 with frame 2.
 fn started() -> Guard {
-    Guard::start(&record(4, 4, 1, &[(1, 2)])).expect("the start is accepted")
+    Guard::start(&record(4, 4, 1, &[(1, 2)]), one_device()).expect("the start is accepted")
 }
 
 #[test]
@@ -229,7 +232,8 @@ fn one_page_from_a_tree() {
 /// Pages past the depth, of a read-only upper entry, of a large page, and a page that an upper entry makes absent, approval kept.
 #[test]
 fn all_pages_from_a_tree() {
-    let mut guard = Guard::start(&record(1600, 2048, 1, &[(1, 2), (1030, 9)])).unwrap();
+    let policy = record(1600, 2048, 1, &[(1, 2), (1030, 9)]);
+    let mut guard = Guard::start(&policy, one_device()).unwrap();
     let words = run(2, &[(0, 0, 0x1005), (0, 1, 0x40_0097), (1, 1, 0x7003), (1, 4, 0x8003)]);
     let tree = Tree { words: &words, root: 0, depth: 2 };
     // Pages 4 and 512 to 1,023 come, page 1,030 goes, page 1 stays.
@@ -272,7 +276,7 @@ fn synchronising_from_a_tree_is_doing_so_from_the_flat_table_of_its_walks() {
     for round in 0..600 {
         let pages = if round % 8 == 0 { 1300 } else { 20 };
         let policy = record(pages, 8, 1, &[(1, 2), (5, 3)]);
-        let mut guard = Guard::start(&policy).unwrap();
+        let mut guard = Guard::start(&policy, one_device()).unwrap();
         let mut flat_guard = guard.clone();
         for _ in 0..3 {
             let (root, depth) = random_tree(&mut random, &mut words);

@@ -190,7 +190,7 @@ fn the_whole_message() {
 #[test]
 fn the_longest_list() {
     let list = "approve page 0 frame 0 entry\n".repeat(65535);
-    let expected = "line 3: record refused: 3, n or e is out of range \
+    let expected = "line 3: record refused: 3, n, e or the number of devices is out of range \
                     (65535 pages are listed, and the policy has 1)\n";
     assert_eq!(message(format!("policy pages 1 frames 1\n{list}")), expected);
     let one_more = format!("policy pages 1 frames 1\n{list}approve page 0 frame 0 entry\n");

@@ -1,6 +1,7 @@
 //! Fetch, write and device write: what a page or a device may reach.
 //! Only the running page of a fetch changes; no table does.
 
+use crate::device::Device;
 use crate::entry::{frame_of, is_excluded, FRAME_SHIFT, NO_EXECUTE, PRESENT, USER, WRITABLE};
 use crate::state::{Answer, Refusal, State, PAGE_BYTES};
 
@@ -49,7 +50,8 @@ pub(crate) fn write_checking<const BOTH: bool>(
     if !state.fits_vector(exclusion.len()) || shadow.len() != usize::from(state.v) {
         return Err(Refusal::StateOrTable);
     }
-    let (first, last) = touched(address, length, MAX_WRITE, u64::from(state.v))?;
+    ask_length(length, MAX_WRITE)?;
+    let (first, last) = touched(address, length, u64::from(state.v))?;
     let (first_entry, last_entry) = (shadow[first as usize], shadow[last as usize]);
     // A bit that both pages need is set in what they have in common.
     let common = if BOTH { first_entry & last_entry } else { first_entry };
@@ -68,25 +70,46 @@ pub(crate) fn write_checking<const BOTH: bool>(
     Ok((first_frame, last_frame))
 }
 
-/// Lets a device write 1 to 1,048,576 bytes at an address: the first and the last frame.
+/// Lets a device, named by its place in the list, write 1 to 1,048,576 bytes at an address: the first and the last frame.
 #[inline(always)]
-pub fn device_write(state: &State, exclusion: &[u8], address: u64, length: u64) -> Answer {
-    if !state.fits_vector(exclusion.len()) {
+pub fn device_write(
+    state: &State,
+    exclusion: &[u8],
+    devices: &[Device],
+    device: u64,
+    address: u64,
+    length: u64,
+) -> Answer {
+    if !state.fits_vector(exclusion.len()) || devices.len() != usize::from(state.devices) {
         return Err(Refusal::StateOrTable);
     }
-    let (first, last) = touched(address, length, MAX_TRANSFER, u64::from(state.f))?;
+    ask_length(length, MAX_TRANSFER)?;
+    let place = usize::try_from(device).ok();
+    let window = place.and_then(|place| devices.get(place)).ok_or(Refusal::NoDevice)?;
+    let (first, last) = touched(address, length, u64::from(state.f))?;
+    // The first is at most the last, so that no transfer is within a window without a frame.
+    if first < u64::from(window.first) || u64::from(window.last) < last {
+        return Err(Refusal::OutsideWindow);
+    }
     if any_excluded(exclusion, first as usize, last as usize) {
         return Err(Refusal::Excluded);
     }
     Ok((first, last))
 }
 
-/// Questions 8 and 9: the first and last of `count` pages or frames that the bytes touch.
+/// Question 8.
 #[inline(always)]
-fn touched(address: u64, length: u64, longest: u64, count: u64) -> Result<(u64, u64), Refusal> {
-    if !(1..=longest).contains(&length) {
-        return Err(Refusal::LengthOutOfRange);
+fn ask_length(length: u64, longest: u64) -> Result<(), Refusal> {
+    if (1..=longest).contains(&length) {
+        Ok(())
+    } else {
+        Err(Refusal::LengthOutOfRange)
     }
+}
+
+/// Question 9: the first and last of `count` pages or frames that the bytes touch; there is one at least.
+#[inline(always)]
+fn touched(address: u64, length: u64, count: u64) -> Result<(u64, u64), Refusal> {
     // A last byte beyond 64 bits is beyond every page.
     let last_byte = address.checked_add(length - 1).ok_or(Refusal::DoesNotExist)?;
     let last = last_byte >> FRAME_SHIFT;
@@ -101,7 +124,7 @@ fn touched(address: u64, length: u64, longest: u64, count: u64) -> Result<(u64, 
 fn any_excluded(exclusion: &[u8], first: usize, last: usize) -> bool {
     let from_first = 0xff << (first % 8);
     let to_last = 0xff >> (7 - last % 8);
-    let bits = match &exclusion[first / 8..=last / 8] {
+    let bits = match &exclusion[first / 8..last / 8 + 1] {
         [] => 0,
         [only] => only & from_first & to_last,
         [head, middle @ .., tail] => {

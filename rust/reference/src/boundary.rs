@@ -1,4 +1,4 @@
-//! The reference behind the boundary of include/guard.h: the state in a run of 21 words, the two numbers in a run of two.
+//! The reference behind the boundary of include/guard.h: the state in a run of 22 words, the two numbers in a run of two.
 //! Both runs are part of question 7; a refused call changes no state run, table or buffer, and a numbers run of two gets zeros.
 
 use crate::fault;
@@ -7,13 +7,14 @@ use crate::start::start_where;
 use crate::state::{Answer, Mode, Refusal, State};
 use crate::tree::{walk_where, Tree};
 
-const STATE_WORDS: usize = 21;
+const STATE_WORDS: usize = 22;
 const PAGES: usize = 0;
 const FRAMES: usize = 1;
 const ENTRIES: usize = 2;
 const ENTRY: usize = 3;
 const MODE: usize = 19;
 const RUNNING: usize = 20;
+const DEVICES: usize = 21;
 
 const NUMBERS: usize = 2;
 
@@ -46,6 +47,20 @@ pub fn go(run: &mut [u64], numbers: &mut [u64], call: impl FnOnce(&mut State) ->
 /// The start, which reads nothing of the state run. The lengths of both runs are the last that it asks for.
 pub fn start(
     policy: &[u8],
+    devices: u64,
+    run: &mut [u64],
+    shadow: &mut [u64],
+    map: &mut [u16],
+    exclusion: &mut [u8],
+    numbers: &mut [u64],
+) -> u64 {
+    start_variant::<{ fault::NONE }>(policy, devices, run, shadow, map, exclusion, numbers)
+}
+
+#[inline(always)]
+pub(crate) fn start_variant<const VARIANT: u8>(
+    policy: &[u8],
+    devices: u64,
     run: &mut [u64],
     shadow: &mut [u64],
     map: &mut [u16],
@@ -53,7 +68,7 @@ pub fn start(
     numbers: &mut [u64],
 ) -> u64 {
     let runs_fit = run.len() == STATE_WORDS && numbers.len() == NUMBERS;
-    let (state, answer) = start_where(runs_fit, policy, shadow, map, exclusion);
+    let (state, answer) = start_where::<VARIANT>(runs_fit, policy, devices, shadow, map, exclusion);
     if answer.is_ok() {
         put_state(run, &state);
     }
@@ -113,9 +128,11 @@ fn state_in(run: &[u64]) -> Option<State> {
         _ => return None,
     };
     let entry_pages = std::array::from_fn(|place| field(ENTRY + place).unwrap_or(u16::MAX));
-    Some(State { v: field(PAGES)?, f: field(FRAMES)?, e: field(ENTRIES)?, entry_pages, mode })
+    let (v, f, e, devices) = (field(PAGES)?, field(FRAMES)?, field(ENTRIES)?, field(DEVICES)?);
+    Some(State { v, f, e, entry_pages, mode, devices })
 }
 
+#[inline(always)]
 fn put_state(run: &mut [u64], state: &State) {
     run[PAGES] = state.v.into();
     run[FRAMES] = state.f.into();
@@ -124,6 +141,7 @@ fn put_state(run: &mut [u64], state: &State) {
         *word = page.into();
     }
     put_mode(run, state.mode);
+    run[DEVICES] = state.devices.into();
 }
 
 #[inline(always)]

@@ -1,11 +1,12 @@
 //! Demand 3 as something that runs: the calls of a list, and the number that the one-page guards settle for each.
 //! A test keeps these beside a guard and compares answers, entries, approvals and mode after every call.
 
+use crate::device::Device;
 use crate::page_guard::PageGuard;
 use crate::path::Path;
 use crate::tree::Tree;
 
-/// A call of the list, with the kernel table or the tree that a synchronising call brings.
+/// A call of the list, with the kernel table or the tree that a synchronising call brings, and the devices that a device write brings.
 #[derive(Clone, Copy, Debug)]
 pub enum Call<'a> {
     SynchroniseOne { kernel: &'a [u64], page: u64 },
@@ -14,9 +15,16 @@ pub enum Call<'a> {
     Write { address: u64, length: u64 },
     Enter { index: u64 },
     Leave { page: u64 },
-    DeviceWrite { address: u64, length: u64 },
+    DeviceWrite { devices: &'a [Device], device: u64, address: u64, length: u64 },
     SynchroniseOneFromTree { tree: Tree<'a>, page: u64 },
     SynchroniseAllFromTree { tree: Tree<'a> },
+}
+
+/// What the questions read of the state that reaches a call: no one-page guard holds it.
+#[derive(Clone, Copy, Debug)]
+pub struct Reaching {
+    /// The number of devices (K5).
+    pub devices: u64,
 }
 
 /// The policy and the one-page guards of all its pages.
@@ -49,7 +57,7 @@ impl Claim {
     }
 
     /// The number of the first question answered no, or 0 where the call is accepted.
-    pub fn settled(&self, call: &Call) -> u8 {
+    pub fn settled(&self, call: &Call, reaching: &Reaching) -> u8 {
         let first_no = |questions: &[Question]| {
             questions.iter().find(|(_, is_yes)| !is_yes).map_or(0, |&(number, _)| number)
         };
@@ -71,13 +79,16 @@ impl Claim {
                 (11, self.has(page, 0)),
                 (12, self.has(page, 2) && !self.has(page, 9)),
             ]),
-            Call::DeviceWrite { address, length } => {
-                let frames = touched(address, length);
+            Call::DeviceWrite { devices, device, address, length } => {
+                let frames = || touched(address, length).take(257);
                 let last_byte = u128::from(address) + u128::from(length) - u128::from(length > 0);
                 first_no(&[
+                    (7, devices.len() as u64 == reaching.devices),
                     (8, (1..=1_048_576).contains(&length)),
+                    (18, device < devices.len() as u64),
                     (9, last_byte < u128::from(self.f) * 4096),
-                    (13, frames.take(257).all(|frame| self.is_free(frame))),
+                    (19, frames().all(|frame| is_permitted(devices, device, frame))),
+                    (13, frames().all(|frame| self.is_free(frame))),
                 ])
             }
             // A tree has no length that question 7 asks for, and 17 is read from what reaches the call.
@@ -122,7 +133,7 @@ impl Claim {
     }
 
     /// Whether an allowed call answers and reaches what it may, by the one-page guards before it: a fetch in kernel mode
-    /// reads a frame of the policy, and no write covers one.
+    /// reads a frame of the policy, and no write covers one; a device's write covers no frame outside its window.
     pub fn is_safe(&self, call: &Call, numbers: (u64, u64)) -> bool {
         match *call {
             Call::Fetch { page } => {
@@ -135,10 +146,11 @@ impl Claim {
                 (frames.first(), frames.last()) == (Some(&numbers.0), Some(&numbers.1))
                     && frames.iter().all(|&frame| self.is_free(frame))
             }
-            Call::DeviceWrite { address, length } => {
+            Call::DeviceWrite { devices, device, address, length } => {
                 let mut frames = touched(address, length);
                 numbers == (address / 4096, (address + length - 1) / 4096)
-                    && frames.all(|frame| self.is_free(frame))
+                    && frames
+                        .all(|frame| self.is_free(frame) && is_permitted(devices, device, frame))
             }
             _ => true,
         }
@@ -197,6 +209,12 @@ impl Claim {
 fn touched(address: u64, length: u64) -> impl Iterator<Item = u64> {
     let last_byte = u128::from(address) + u128::from(length.max(1)) - 1;
     address / 4096..=(last_byte / 4096) as u64
+}
+
+/// Whether the device with this place in the list may write to a frame.
+fn is_permitted(devices: &[Device], device: u64, frame: u64) -> bool {
+    let named = (0..).zip(devices).find(|&(place, _)| place == device);
+    named.is_some_and(|(_, window)| (window.first.into()..=window.last.into()).contains(&frame))
 }
 
 /// Question 17: whole tables of 512, a depth of 1 to 3, a root in the run.

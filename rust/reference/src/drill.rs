@@ -3,10 +3,13 @@
 
 use std::io::{self, BufWriter, ErrorKind, Read, Write};
 
+use crate::device::Device;
 use crate::fault::{self, Fault};
 use crate::record::{record_len, SIZES_BYTES};
-use crate::state::{vector_len, Answer, Mode, Refusal, State, MAX_FRAMES, MAX_PAGES, MAX_VECTOR};
-use crate::{device_write, fetch, start};
+use crate::start;
+use crate::state::{
+    vector_len, Answer, Mode, Refusal, State, MAX_DEVICES, MAX_FRAMES, MAX_PAGES, MAX_VECTOR,
+};
 
 const MAX_CALLS: usize = 1024;
 const CALL_BYTES: usize = 16;
@@ -87,7 +90,13 @@ impl Tables {
             self.f = u16::from_le_bytes([f0, f1]).min(MAX_FRAMES);
         }
         let (v, bytes) = (self.v, vector_len(self.f));
-        start(record, &mut self.shadow[..v], &mut self.map[..v], &mut self.exclusion[..bytes])
+        let (shadow, map) = (&mut self.shadow[..v], &mut self.map[..v]);
+        start(record, MAX_DEVICES.into(), shadow, map, &mut self.exclusion[..bytes])
+    }
+
+    /// "64 devices with all frames as window". A started guard has a frame at least.
+    fn devices(&self) -> [Device; MAX_DEVICES as usize] {
+        [Device { first: 0, last: self.f - 1 }; MAX_DEVICES as usize]
     }
 
     fn exclusion(&self) -> &[u8] {
@@ -168,11 +177,14 @@ impl Drill {
             0 => tables.edit(call.index, call.value),
             1 => fault::synchronise_one(*fault, state, kernel, shadow, map, exclusion, index),
             2 => fault::synchronise_all(*fault, state, kernel, shadow, map, exclusion),
-            3 => fetch(state, shadow, index),
+            3 => fault::fetch(*fault, state, shadow, index),
             4 => fault::write(*fault, state, shadow, exclusion, call.value, length),
             5 => fault::enter(*fault, state, shadow, index),
             6 => fault::leave(*fault, state, shadow, index),
-            7 => device_write(state, exclusion, call.value, length),
+            7 => {
+                let devices = &tables.devices();
+                fault::device_write(*fault, state, exclusion, devices, index, call.value, length)
+            }
             _ => Err(Refusal::UnknownKind),
         }
     }

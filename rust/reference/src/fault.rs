@@ -2,8 +2,10 @@
 //! show that it sees them.
 //! The calls here take the mistake as an argument; the plain calls are compiled apart and do not pay for it.
 
-use crate::access::write_checking;
+use crate::access;
 use crate::boundary;
+use crate::device::Device;
+use crate::device_fault;
 use crate::state::{Answer, State};
 use crate::switch;
 use crate::sync;
@@ -68,6 +70,62 @@ pub enum Fault {
     TreeBeforeTables = 26,
     /// K4: counting the levels, and not the entries met.
     ReadToTheDepth = 27,
+    /// K5: counting devices from 1.
+    DeviceFromOne = 28,
+    /// K5: taking a device past the list by its remainder.
+    DeviceWraps = 29,
+    /// K5: taking a device that is not in the list as one whose window has no frame.
+    NoDeviceAsNoWindow = 30,
+    /// K5: asking 18 before 8.
+    DeviceBeforeLength = 31,
+    /// K5: asking 18 after 9.
+    DeviceAfterExists = 32,
+    /// K5: asking 19 before 9.
+    WindowBeforeExists = 33,
+    /// K5: leaving the first frame out of a window.
+    WindowWithoutFirst = 34,
+    /// K5: leaving the last frame out of a window.
+    WindowWithoutLast = 35,
+    /// K5: cutting the device to 16 bits.
+    CutDevice = 36,
+    /// K5: comparing the transfer's first frame alone with the window.
+    FirstFrameOnly = 37,
+    /// K5: comparing its last frame alone.
+    LastFrameOnly = 38,
+    /// K5: allowing a transfer that has a frame of the window.
+    WindowTouched = 39,
+    /// K5: taking the window of the next device.
+    NeighbourWindow = 40,
+    /// K5: allowing a transfer within the window of any device.
+    AnyWindow = 41,
+    /// K5: taking a window whose first frame is above its last the other way round.
+    WindowTurned = 42,
+    /// K5: taking such a window as no limit.
+    EmptyWindowOpen = 43,
+    /// K5: asking 13 before 19.
+    ExcludedBeforeWindow = 44,
+    /// K5: not asking the list for its length.
+    ListNotAsked = 45,
+    /// K5: accepting a longer list.
+    LongerList = 46,
+    /// K5: asking 8 before the list's length.
+    LengthBeforeList = 47,
+    /// K5: asking for the list's length and not whether the state's number of devices is in range.
+    CountNotAsked = 48,
+    /// K5: asking that of device writes alone.
+    CountOfTransfersAlone = 49,
+    /// K5: cutting the number of devices to 16 bits at the start.
+    CutCount = 50,
+    /// K5: asking for it before 2.
+    CountBeforeSizes = 51,
+    /// K5: asking for it after 4.
+    CountAfterLength = 52,
+    /// K5: starting with 0 devices.
+    NoDeviceAtAll = 53,
+    /// K5: starting with 65.
+    OneDeviceMore = 54,
+    /// K5: keeping 64, whatever the number.
+    CountNotKept = 55,
 }
 
 pub(crate) const NONE: u8 = Fault::None as u8;
@@ -98,12 +156,18 @@ pub(crate) const WRAP_PAGES: u8 = Fault::WrapPages as u8;
 pub(crate) const PAGE_BEFORE_TREE: u8 = Fault::PageBeforeTree as u8;
 pub(crate) const TREE_BEFORE_TABLES: u8 = Fault::TreeBeforeTables as u8;
 pub(crate) const READ_TO_THE_DEPTH: u8 = Fault::ReadToTheDepth as u8;
+pub(crate) const CUT_COUNT: u8 = Fault::CutCount as u8;
+pub(crate) const COUNT_BEFORE_SIZES: u8 = Fault::CountBeforeSizes as u8;
+pub(crate) const COUNT_AFTER_LENGTH: u8 = Fault::CountAfterLength as u8;
+pub(crate) const NO_DEVICE_AT_ALL: u8 = Fault::NoDeviceAtAll as u8;
+pub(crate) const ONE_DEVICE_MORE: u8 = Fault::OneDeviceMore as u8;
+pub(crate) const COUNT_NOT_KEPT: u8 = Fault::CountNotKept as u8;
 /// No mistake of the list: the variant without steps 2 and 4.
 pub(crate) const NO_APPROVAL: u8 = 255;
 
 impl Fault {
     /// The mistakes of calls that a drill makes: the four in document 01's order, then those of the requests.
-    pub const PLANTED: [Fault; 10] = [
+    pub const PLANTED: [Fault; 18] = [
         Fault::TrustKernelFrame,
         Fault::WritableAlias,
         Fault::FirstPageOnly,
@@ -114,6 +178,14 @@ impl Fault {
         Fault::OneCacheBit,
         Fault::ApprovedCarriesCacheBits,
         Fault::SwitchClearsCacheBits,
+        Fault::DeviceFromOne,
+        Fault::DeviceWraps,
+        Fault::NoDeviceAsNoWindow,
+        Fault::DeviceBeforeLength,
+        Fault::DeviceAfterExists,
+        Fault::WindowBeforeExists,
+        Fault::WindowWithoutFirst,
+        Fault::WindowWithoutLast,
     ];
 
     /// The mistakes of writing a record, which no list and no drill does.
@@ -138,13 +210,41 @@ impl Fault {
 
     /// The other mistakes with a tree: in a list of demand 3 question 7 is passed before 17, and no call gives a count of entries read.
     pub const OF_WALKS: [Fault; 2] = [Fault::TreeBeforeTables, Fault::ReadToTheDepth];
+
+    /// The mistakes of device writes that a list of demand 3 shows. A drill brings one list, in which every window has all frames.
+    pub const OF_DEVICES: [Fault; 12] = [
+        Fault::CutDevice,
+        Fault::FirstFrameOnly,
+        Fault::LastFrameOnly,
+        Fault::WindowTouched,
+        Fault::NeighbourWindow,
+        Fault::AnyWindow,
+        Fault::WindowTurned,
+        Fault::EmptyWindowOpen,
+        Fault::ExcludedBeforeWindow,
+        Fault::ListNotAsked,
+        Fault::LongerList,
+        Fault::LengthBeforeList,
+    ];
+
+    /// The mistakes with the number of devices: a drill always has 64, and in a list of demand 3 a state has what its start was given.
+    pub const OF_DEVICE_COUNTS: [Fault; 8] = [
+        Fault::CountNotAsked,
+        Fault::CountOfTransfersAlone,
+        Fault::CutCount,
+        Fault::CountBeforeSizes,
+        Fault::CountAfterLength,
+        Fault::NoDeviceAtAll,
+        Fault::OneDeviceMore,
+        Fault::CountNotKept,
+    ];
 }
 
-/// The variant of a call for a mistake. Where the call cannot make it, the variant does what the plain call does.
+/// The variant of a call for a mistake. Where the call cannot make it, the variant does what the plain call does. The mistakes of K5
+/// are none of these: device_fault.rs has them, the start and [`seen`].
 macro_rules! variant {
     ($module:ident::$call:ident, $fault:expr) => {
         match $fault {
-            Fault::None => $module::$call::<NONE>,
             Fault::TrustKernelFrame => $module::$call::<TRUST_KERNEL_FRAME>,
             Fault::WritableAlias => $module::$call::<WRITABLE_ALIAS>,
             Fault::FirstPageOnly => $module::$call::<FIRST_PAGE_ONLY>,
@@ -172,8 +272,47 @@ macro_rules! variant {
             Fault::PageBeforeTree => $module::$call::<PAGE_BEFORE_TREE>,
             Fault::TreeBeforeTables => $module::$call::<TREE_BEFORE_TABLES>,
             Fault::ReadToTheDepth => $module::$call::<READ_TO_THE_DEPTH>,
+            _ => $module::$call::<NONE>,
         }
     };
+}
+
+/// The state as a call that is no device write sees it, which with [`Fault::CountOfTransfersAlone`] has its devices in order.
+fn seen(fault: Fault, state: &State) -> State {
+    let devices = if fault == Fault::CountOfTransfersAlone { 1 } else { state.devices };
+    State { devices, ..*state }
+}
+
+/// The same for a call that may change the mode.
+fn seeing(fault: Fault, state: &mut State, call: impl FnOnce(&mut State) -> Answer) -> Answer {
+    let mut seen = seen(fault, state);
+    let answer = call(&mut seen);
+    state.mode = seen.mode;
+    answer
+}
+
+/// [`boundary::start`] with a mistake.
+#[allow(clippy::too_many_arguments)]
+pub fn start(
+    fault: Fault,
+    policy: &[u8],
+    devices: u64,
+    run: &mut [u64],
+    shadow: &mut [u64],
+    map: &mut [u16],
+    exclusion: &mut [u8],
+    numbers: &mut [u64],
+) -> u64 {
+    let start = match fault {
+        Fault::CutCount => boundary::start_variant::<CUT_COUNT>,
+        Fault::CountBeforeSizes => boundary::start_variant::<COUNT_BEFORE_SIZES>,
+        Fault::CountAfterLength => boundary::start_variant::<COUNT_AFTER_LENGTH>,
+        Fault::NoDeviceAtAll => boundary::start_variant::<NO_DEVICE_AT_ALL>,
+        Fault::OneDeviceMore => boundary::start_variant::<ONE_DEVICE_MORE>,
+        Fault::CountNotKept => boundary::start_variant::<COUNT_NOT_KEPT>,
+        _ => boundary::start,
+    };
+    start(policy, devices, run, shadow, map, exclusion, numbers)
 }
 
 /// [`crate::synchronise_one`] with a mistake.
@@ -186,6 +325,7 @@ pub fn synchronise_one(
     exclusion: &[u8],
     page: u64,
 ) -> Answer {
+    let state = &seen(fault, state);
     variant!(sync::one, fault)(state, kernel, shadow, map, exclusion, page)
 }
 
@@ -198,6 +338,7 @@ pub fn synchronise_all(
     map: &mut [u16],
     exclusion: &[u8],
 ) -> Answer {
+    let state = &seen(fault, state);
     variant!(sync::all, fault)(state, kernel, shadow, map, exclusion)
 }
 
@@ -211,6 +352,7 @@ pub fn synchronise_one_from_tree(
     exclusion: &[u8],
     page: u64,
 ) -> Answer {
+    let state = &seen(fault, state);
     variant!(sync::one_from_tree, fault)(state, tree, shadow, map, exclusion, page)
 }
 
@@ -223,7 +365,13 @@ pub fn synchronise_all_from_tree(
     map: &mut [u16],
     exclusion: &[u8],
 ) -> Answer {
+    let state = &seen(fault, state);
     variant!(sync::all_from_tree, fault)(state, tree, shadow, map, exclusion)
+}
+
+/// [`crate::fetch`] with a mistake.
+pub fn fetch(fault: Fault, state: &mut State, shadow: &[u64], page: u64) -> Answer {
+    seeing(fault, state, |state| access::fetch(state, shadow, page))
 }
 
 /// [`crate::write`] with a mistake.
@@ -235,21 +383,40 @@ pub fn write(
     address: u64,
     length: u64,
 ) -> Answer {
+    let state = &seen(fault, state);
     if fault == Fault::FirstPageOnly {
-        write_checking::<false>(state, shadow, exclusion, address, length)
+        access::write_checking::<false>(state, shadow, exclusion, address, length)
     } else {
-        write_checking::<true>(state, shadow, exclusion, address, length)
+        access::write_checking::<true>(state, shadow, exclusion, address, length)
     }
 }
 
 /// [`crate::enter`] with a mistake.
 pub fn enter(fault: Fault, state: &mut State, shadow: &mut [u64], index: u64) -> Answer {
-    variant!(switch::enter_variant, fault)(state, shadow, index)
+    let enter = variant!(switch::enter_variant, fault);
+    seeing(fault, state, |state| enter(state, shadow, index))
 }
 
 /// [`crate::leave`] with a mistake.
 pub fn leave(fault: Fault, state: &mut State, shadow: &mut [u64], page: u64) -> Answer {
-    variant!(switch::leave_variant, fault)(state, shadow, page)
+    let leave = variant!(switch::leave_variant, fault);
+    seeing(fault, state, |state| leave(state, shadow, page))
+}
+
+/// [`crate::device_write`] with a mistake.
+pub fn device_write(
+    fault: Fault,
+    state: &State,
+    exclusion: &[u8],
+    devices: &[Device],
+    device: u64,
+    address: u64,
+    length: u64,
+) -> Answer {
+    if fault == Fault::None {
+        return access::device_write(state, exclusion, devices, device, address, length);
+    }
+    device_fault::device_write(fault, state, exclusion, devices, device, address, length)
 }
 
 /// [`boundary::write_record`] with a mistake; the sizes are V, F, n and e.

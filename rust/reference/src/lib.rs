@@ -5,6 +5,8 @@
 mod access;
 pub mod boundary;
 pub mod claim;
+mod device;
+mod device_fault;
 mod drill;
 mod entry;
 pub mod fault;
@@ -18,6 +20,7 @@ mod sync;
 mod tree;
 
 pub use access::{device_write, fetch, write};
+pub use device::Device;
 pub use drill::{drill, drill_with_fault};
 pub use entry::NO_FRAME;
 pub use fault::Fault;

@@ -1,9 +1,12 @@
-//! The start: the policy record is read, questions 1 to 7 are asked, and the tables are set.
+//! The start: the policy record is read, questions 1 to 7 are asked of it and of what else is given, and the tables are set.
 //! All questions come before the first store, so a refused start leaves the tables as they were.
 
 use crate::entry::{approved, framed, NO_FRAME};
+use crate::fault;
 use crate::record::{are_below, are_rising_below, ask_sizes};
-use crate::state::{vector_len, Answer, Mode, Refusal, State, ENTRY_PAGES, MAX_VECTOR};
+use crate::state::{
+    vector_len, Answer, Mode, Refusal, State, ENTRY_PAGES, MAX_DEVICES, MAX_VECTOR,
+};
 
 /// Two bytes of a record: a little-endian 16-bit number.
 type Word = [u8; 2];
@@ -20,6 +23,7 @@ impl<'a> Reader<'a> {
     }
 
     /// The next `count` words, or none where the record has too few bytes left.
+    #[inline(always)]
     fn words(&mut self, count: usize) -> Option<&'a [Word]> {
         let end = self.at + 2 * count;
         let (words, _) = self.bytes.get(self.at..end)?.as_chunks::<2>();
@@ -32,25 +36,35 @@ impl<'a> Reader<'a> {
     }
 }
 
-/// A policy record that questions 1 to 6 accept.
+/// A policy record and a number of devices that questions 1 to 6 accept.
 struct Policy<'a> {
     v: u16,
     f: u16,
     e: u16,
+    devices: u16,
     pages: &'a [Word],
     frames: &'a [Word],
 }
 
 impl<'a> Policy<'a> {
-    fn read(record: &'a [u8]) -> Result<Self, Refusal> {
+    fn read<const VARIANT: u8>(record: &'a [u8], devices: u64) -> Result<Self, Refusal> {
         let mut reader = Reader::new(record);
         let sizes = reader.words(4).ok_or(Refusal::RecordTooShort)?;
         let [v, f, n, e] = [0, 1, 2, 3].map(|i| u16::from_le_bytes(sizes[i]));
+        if VARIANT == fault::COUNT_BEFORE_SIZES {
+            ask_devices::<VARIANT>(devices)?;
+        }
         ask_sizes([v, f, n, e])?;
+        if VARIANT != fault::COUNT_AFTER_LENGTH {
+            ask_devices::<VARIANT>(devices)?;
+        }
         let pages = reader.words(n.into()).ok_or(Refusal::RecordLength)?;
         let frames = reader.words(n.into()).ok_or(Refusal::RecordLength)?;
         if !reader.is_at_end() {
             return Err(Refusal::RecordLength);
+        }
+        if VARIANT == fault::COUNT_AFTER_LENGTH {
+            ask_devices::<VARIANT>(devices)?;
         }
         if !are_rising_below(numbers(pages), v) {
             return Err(Refusal::ListedPage);
@@ -58,7 +72,8 @@ impl<'a> Policy<'a> {
         if !are_below(numbers(frames), f) {
             return Err(Refusal::ListedFrame);
         }
-        Ok(Policy { v, f, e, pages, frames })
+        let devices = if VARIANT == fault::COUNT_NOT_KEPT { MAX_DEVICES } else { devices as u16 };
+        Ok(Policy { v, f, e, devices, pages, frames })
     }
 
     /// The listed pages with their frames.
@@ -73,7 +88,23 @@ impl<'a> Policy<'a> {
             *place = page;
         }
         let mode = Mode::Kernel(entry_pages[0]);
-        State { v: self.v, f: self.f, e: self.e, entry_pages, mode }
+        State { v: self.v, f: self.f, e: self.e, entry_pages, mode, devices: self.devices }
+    }
+}
+
+/// Question 3 about the number of devices, in the width that it comes in.
+#[inline(always)]
+fn ask_devices<const VARIANT: u8>(devices: u64) -> Result<(), Refusal> {
+    let (devices, least, most) = match VARIANT {
+        fault::CUT_COUNT => (u64::from(devices as u16), 1, MAX_DEVICES),
+        fault::NO_DEVICE_AT_ALL => (devices, 0, MAX_DEVICES),
+        fault::ONE_DEVICE_MORE => (devices, 1, MAX_DEVICES + 1),
+        _ => (devices, 1, MAX_DEVICES),
+    };
+    if (least..=u64::from(most)).contains(&devices) {
+        Ok(())
+    } else {
+        Err(Refusal::CountOutOfRange)
     }
 }
 
@@ -82,27 +113,29 @@ fn numbers(words: &[Word]) -> impl Iterator<Item = u16> + '_ {
     words.iter().map(|&word| u16::from_le_bytes(word))
 }
 
-/// Starts the guard: the state, and n and e or the refusal.
+/// Starts the guard with a number of devices: the state, and n and e or the refusal.
 #[inline(always)]
 pub fn start(
     record: &[u8],
+    devices: u64,
     shadow: &mut [u64],
     map: &mut [u16],
     exclusion: &mut [u8],
 ) -> (State, Answer) {
-    start_where(true, record, shadow, map, exclusion)
+    start_where::<{ fault::NONE }>(true, record, devices, shadow, map, exclusion)
 }
 
 /// Starts the guard where what else question 7 asks for is in order.
 #[inline(always)]
-pub(crate) fn start_where(
+pub(crate) fn start_where<const VARIANT: u8>(
     in_order: bool,
     record: &[u8],
+    devices: u64,
     shadow: &mut [u64],
     map: &mut [u16],
     exclusion: &mut [u8],
 ) -> (State, Answer) {
-    let policy = match Policy::read(record) {
+    let policy = match Policy::read::<VARIANT>(record, devices) {
         Ok(policy) => policy,
         Err(refusal) => return (State::REFUSED, Err(refusal)),
     };

@@ -5,6 +5,8 @@
 pub(crate) const MAX_PAGES: u16 = 2048;
 /// The largest number of physical frames.
 pub(crate) const MAX_FRAMES: u16 = 4096;
+/// The largest number of devices.
+pub(crate) const MAX_DEVICES: u16 = 64;
 /// How many entry pages the state has room for.
 pub(crate) const ENTRY_PAGES: usize = 16;
 /// The bytes of a page and of a frame.
@@ -58,12 +60,14 @@ pub struct State {
     /// The entry pages; unused places are 0.
     pub entry_pages: [u16; ENTRY_PAGES],
     pub mode: Mode,
+    /// The number of devices.
+    pub devices: u16,
 }
 
 impl State {
     /// The answer of a refused start, which has no state to keep.
     pub const REFUSED: State =
-        State { v: 0, f: 0, e: 0, entry_pages: [0; ENTRY_PAGES], mode: Mode::User(0) };
+        State { v: 0, f: 0, e: 0, entry_pages: [0; ENTRY_PAGES], mode: Mode::User(0), devices: 0 };
 
     /// Question 7 about the state alone.
     #[inline]
@@ -72,6 +76,7 @@ impl State {
             && (1..=MAX_FRAMES).contains(&self.f)
             && (1..=ENTRY_PAGES as u16).contains(&self.e)
             && self.mode.page() < self.v
+            && (1..=MAX_DEVICES).contains(&self.devices)
     }
 
     /// Question 7 for a call that is lent one table with a place for each page.
@@ -114,10 +119,12 @@ pub enum Refusal {
     UnknownKind = 15,
     BufferTooShort = 16,
     Tree = 17,
+    NoDevice = 18,
+    OutsideWindow = 19,
 }
 
 impl Refusal {
-    pub const ALL: [Refusal; 17] = [
+    pub const ALL: [Refusal; 19] = [
         Refusal::RecordTooShort,
         Refusal::SizeOutOfRange,
         Refusal::CountOutOfRange,
@@ -135,6 +142,8 @@ impl Refusal {
         Refusal::UnknownKind,
         Refusal::BufferTooShort,
         Refusal::Tree,
+        Refusal::NoDevice,
+        Refusal::OutsideWindow,
     ];
 
     #[inline]

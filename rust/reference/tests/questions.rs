@@ -4,14 +4,14 @@
 mod common;
 
 use common::{cases_record, record, refused, Guard};
-use reference::{Answer, Mode, State, NO_FRAME};
+use reference::{Answer, Device, Mode, State, NO_FRAME};
 
 const NO_EXECUTE: u64 = 1 << 63;
 
 /// A refused start answers the state of zeros and leaves the tables as they were.
 fn assert_start_refused(record: &[u8], number: u8) {
     let (mut shadow, mut map, mut exclusion) = ([5u64; 4], [6u16; 4], [7u8; 1]);
-    let (state, answer) = reference::start(record, &mut shadow, &mut map, &mut exclusion);
+    let (state, answer) = reference::start(record, 1, &mut shadow, &mut map, &mut exclusion);
     assert_eq!(answer, refused(number), "{record:?}");
     assert_eq!(state, State::REFUSED);
     assert_eq!((shadow, map, exclusion), ([5; 4], [6; 4], [7]));
@@ -99,7 +99,7 @@ fn assert_refused(guard: &Guard, name: &str, call: Call, number: u8) {
 
 #[test]
 fn question_7_of_the_state_concerns_every_call() {
-    let broken: [fn(&mut State); 8] = [
+    let broken: [fn(&mut State); 11] = [
         |state| state.v = 0,
         |state| state.v = 2049,
         |state| state.f = 0,
@@ -108,12 +108,16 @@ fn question_7_of_the_state_concerns_every_call() {
         |state| state.e = 17,
         |state| state.mode = Mode::Kernel(4),
         |state| state.mode = Mode::User(65535),
+        |state| state.devices = 0,
+        |state| state.devices = 65,
+        |state| state.devices = 65535,
     ];
     for (name, call) in CALLS {
         for break_state in broken {
             let mut guard = busy_guard();
             break_state(&mut guard.state);
-            // Tables of the broken sizes, so that only the state is at fault.
+            // Tables and a list of the broken sizes, so that only the state is at fault.
+            guard.devices = vec![guard.devices[0]; guard.state.devices.into()];
             guard.kernel.resize(guard.state.v.into(), 0);
             guard.shadow.resize(guard.state.v.into(), 0);
             guard.map.resize(guard.state.v.into(), NO_FRAME);
@@ -126,7 +130,7 @@ fn question_7_of_the_state_concerns_every_call() {
 #[test]
 fn question_7_concerns_the_tables_that_a_call_is_lent() {
     type Resize = fn(&mut Guard, i32);
-    let tables: [(&str, Resize, &[&str]); 4] = [
+    let tables: [(&str, Resize, &[&str]); 5] = [
         ("kernel", |g, by| g.kernel.resize(4_usize.wrapping_add_signed(by as isize), 1), &["sync"]),
         (
             "shadow",
@@ -138,6 +142,14 @@ fn question_7_concerns_the_tables_that_a_call_is_lent() {
             "exclusion",
             |g, by| g.exclusion.resize(1_usize.wrapping_add_signed(by as isize), 0),
             &["sync", "write", "device write"],
+        ),
+        (
+            "list of devices",
+            |g, by| {
+                let length = 2_usize.wrapping_add_signed(by as isize);
+                g.devices.resize(length, Device { first: 0, last: 3 });
+            },
+            &["device write"],
         ),
     ];
     for (table, resize, lent_to) in tables {
@@ -496,7 +508,7 @@ fn a_switch_leaves_absent_entries_and_other_bits_alone() {
 fn synchronising_without_approval_takes_the_kernel_frame() {
     let mut guard = Guard::cases();
     guard.kernel = vec![0x2003, 0x3007, 0, 0x4003];
-    let Guard { state, kernel, shadow, map, exclusion } = &mut guard;
+    let Guard { state, kernel, shadow, map, exclusion, .. } = &mut guard;
     let answer =
         reference::without_approval::synchronise_all(state, kernel, shadow, map, exclusion);
     assert_eq!(answer, Ok((2, 0)));

@@ -3,7 +3,7 @@
 #![allow(dead_code)]
 
 pub use inputs::record;
-use reference::{Answer, Mode, Refusal, State};
+use reference::{Answer, Device, Mode, Refusal, State};
 
 /// The policy of document 01's cases: V 4, F 4, page 1 with frame 2.
 pub fn cases_record() -> Vec<u8> {
@@ -17,10 +17,12 @@ pub struct Guard {
     pub shadow: Vec<u64>,
     pub map: Vec<u16>,
     pub exclusion: Vec<u8>,
+    pub devices: Vec<Device>,
 }
 
 impl Guard {
-    /// Starts on tables of the record's sizes that hold other values, which the start has to overwrite.
+    /// Starts on tables of the record's sizes that hold other values, which the start has to overwrite. Two devices may write to
+    /// every frame.
     pub fn started(record: &[u8]) -> Guard {
         let (guard, answer) = Guard::try_start(record);
         answer.expect("the start is accepted");
@@ -36,9 +38,11 @@ impl Guard {
             shadow: vec![0x1234; v],
             map: vec![7; v],
             exclusion: vec![0xff; reference::vector_len(f)],
+            devices: vec![Device { first: 0, last: f - 1 }; 2],
         };
+        let Guard { shadow, map, exclusion, devices, .. } = &mut guard;
         let (state, answer) =
-            reference::start(record, &mut guard.shadow, &mut guard.map, &mut guard.exclusion);
+            reference::start(record, devices.len() as u64, shadow, map, exclusion);
         guard.state = state;
         (guard, answer)
     }
@@ -61,12 +65,12 @@ impl Guard {
     }
 
     pub fn synchronise_one(&mut self, page: u64) -> Answer {
-        let Guard { state, kernel, shadow, map, exclusion } = self;
+        let Guard { state, kernel, shadow, map, exclusion, .. } = self;
         reference::synchronise_one(state, kernel, shadow, map, exclusion, page)
     }
 
     pub fn synchronise_all(&mut self) -> Answer {
-        let Guard { state, kernel, shadow, map, exclusion } = self;
+        let Guard { state, kernel, shadow, map, exclusion, .. } = self;
         reference::synchronise_all(state, kernel, shadow, map, exclusion)
     }
 
@@ -86,8 +90,14 @@ impl Guard {
         reference::leave(&mut self.state, &mut self.shadow, page)
     }
 
+    /// A write of the first device.
     pub fn device_write(&self, address: u64, length: u64) -> Answer {
-        reference::device_write(&self.state, &self.exclusion, address, length)
+        self.write_of(0, address, length)
+    }
+
+    pub fn write_of(&self, device: u64, address: u64, length: u64) -> Answer {
+        let Guard { state, exclusion, devices, .. } = self;
+        reference::device_write(state, exclusion, devices, device, address, length)
     }
 }
 
