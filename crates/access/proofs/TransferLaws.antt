@@ -17,7 +17,7 @@ use Rattle.model.specs.Basics.{both, within, everyFrom}
 use Rattle.model.specs.Edges.{lastByte, lastPage, touched}
 use Rattle.model.specs.Keeps.{Tables, withExclusion, guardOf, vectorBytes, excludedIn}
 use Rattle.model.specs.Devices.{deviceAt, inWindow}
-use Rattle.model.specs.Questions.{Question, question, firstNo, seen, stateInOrder, inOrder, free, everyTouched, deviceWriteQuestions}
+use Rattle.model.specs.Questions.{Question, question, firstNo, View, seen, stateInOrder, inOrder, free, everyTouched, deviceWriteQuestions}
 use Rattle.model.specs.Calls.{replyOf, outcomeBy, keptBy, deviceWrite, questionsOf, effectOf, answer}
 use Rattle.model.proofs.QuestionLaws.{within-low, firstNo-yes, firstNo-no}
 use Rattle.model.proofs.AcceptedLaws.{deviceWrite-some, deviceWrite-byte}
@@ -58,6 +58,17 @@ window-asked d first last r u e = e ∙ by (leb (d .first) first) refl (leb last
     by true p false q =
         let l : d .first ≤ first = leb-true (d .first) first p in
         rw (le-leb (d .first) last (omega arith)) (sym (no (leb first (d .last))))
+
+-- The record of a device that is not in the list makes no difference: question 18 refuses before 19 looks at it.
+same-record : (v : View) (listed device address length : ℕ) (d d′ : Device) → (device < listed → d ≡ d′)
+    → firstNo (deviceWriteQuestions v listed d device address length) ≡ firstNo (deviceWriteQuestions v listed d′ device address length)
+unfolding deviceWriteQuestions firstNo
+same-record v listed device address length d d′ is = by (ltb device listed) refl
+  where
+    by : (b : Bool) → ltb device listed ≡ b
+        → firstNo (deviceWriteQuestions v listed d device address length) ≡ firstNo (deviceWriteQuestions v listed d′ device address length)
+    by true e = rw (is (ltb-true device listed e)) refl
+    by false e = rw e refl
 
 -- Question 7 is answered yes: the list has as many records as there are devices.
 list-fits : (listed : ℕ) → inOrder true (true ∷ eqb listed listed ∷ []) ≡ true
@@ -139,7 +150,7 @@ module _ (s : State) (exclusion : List ℕ) (listed : ℕ) (d : Device) (device 
     (e7 : r7 ≡ inOrder (stateInOrder s) (eqb (lib.ListN.length exclusion) (vectorBytes (s .frames)) ∷ eqb listed (s .devices) ∷ [])) where
   abbrev Transferred : Answer → Type 0
   Transferred r =
-      (t : Tables) (devices : List Device) → lib.ListN.length devices ≡ listed → deviceAt devices device ≡ d
+      (t : Tables) (devices : List Device) → lib.ListN.length devices ≡ listed → (device < listed → deviceAt devices device ≡ d)
       → keptBy r s (withExclusion exclusion t) ≡ answer (guardOf s (withExclusion exclusion t)) (deviceWrite devices device address length)
 
   pub transfer-unfit : not r7 ≡ true → Transferred (Refused 7)
@@ -153,11 +164,14 @@ module _ (s : State) (exclusion : List ℕ) (listed : ℕ) (d : Device) (device 
 
     module _ (number : ℕ) (e : number ≡ firstNo (deviceWriteQuestions (transferView listed (s .frames) exclusion) listed d device address length)) where
       -- The questions after 7 do not look at the lengths, nor at the mode.
-      transfer-number : (t : Tables) (devices : List Device) → lib.ListN.length devices ≡ listed → deviceAt devices device ≡ d
+      transfer-asked : (t : Tables) → firstNo (deviceWriteQuestions (seen (guardOf s (withExclusion exclusion t))) listed d device address length) ≡ number
+      unfolding deviceWriteQuestions inOrder both free
+      transfer-asked t = firstNo-yes 7 _ (sym e7 ∙ not-false r7 y7) ∙ sym (e ∙ firstNo-yes 7 _ (list-fits listed))
+
+      transfer-number : (t : Tables) (devices : List Device) → lib.ListN.length devices ≡ listed → (device < listed → deviceAt devices device ≡ d)
           → firstNo (questionsOf (seen (guardOf s (withExclusion exclusion t))) (deviceWrite devices device address length)) ≡ number
-      unfolding questionsOf deviceWriteQuestions inOrder both free
-      transfer-number t devices long is =
-          rw (long, is) (firstNo-yes 7 _ (sym e7 ∙ not-false r7 y7) ∙ sym (e ∙ firstNo-yes 7 _ (list-fits listed)))
+      unfolding questionsOf
+      transfer-number t devices long is = rw long (same-record _ listed device address length (deviceAt devices device) d is ∙ transfer-asked t)
 
       pub transfer-refused : (number ≡ 0 → ⊥) → Transferred (Refused number)
       transfer-refused z t devices long is =

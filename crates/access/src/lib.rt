@@ -220,7 +220,8 @@ fn device_write_refusal(
     0
 }
 
-// A device write, by how long the list of devices is and the device's record in it: whatever the list has elsewhere, the answer is the same.
+// A device write, by how long the list of devices is and the device's record in it, if it has one: whatever the list has elsewhere, the answer is the
+// same.
 pub fn device_write(
     s: State,
     exclusion: &[u8],
@@ -230,7 +231,7 @@ pub fn device_write(
     address: u64,
     length: u64,
 ) -> Answer
-    ensures { λ r. ⌜ ((t : Tables) (devices : List Device) → lib.ListN.length devices ≡ listed → deviceAt devices device ≡ window
+    ensures { λ r. ⌜ ((t : Tables) (devices : List Device) → lib.ListN.length devices ≡ listed → (device < listed → deviceAt devices device ≡ window)
         → keptBy r s (withExclusion (now (exclusion .entry)) t)
         ≡ answer (guardOf s (withExclusion (now (exclusion .entry)) t)) (deviceWrite devices device address length)) ⌝ }
 {

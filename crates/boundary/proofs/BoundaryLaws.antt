@@ -1,5 +1,5 @@
 -- Laws of what an exported call returns and leaves: the runs not usable, the call made. One of each serves every call.
-use Prim.Native.Nat.{ℕ, zero, suc}
+use Prim.Native.Nat.{ℕ, zero, suc, _<_}
 use mathlib.Core.Bool.{Bool, true, false, not}
 use mathlib.Core.List.{List, []}
 use mathlib.Core.Path.{_≡_, refl, sym, _∙_}
@@ -99,7 +99,7 @@ module _ (run numbers : List ℕ) (b : Bool) (asks : b ≡ usable answerNumbers 
     (after : List ℕ) (r : ℕ) (listed : ℕ) (d : Device) (device address size : ℕ) where
   abbrev OfEvery : ((t : Tables) → Call → Type 0) → Type 0
   OfEvery holds =
-      (t : Tables) (devices : List Device) → length devices ≡ listed → deviceAt devices device ≡ d → holds t (deviceWrite devices device address size)
+      (t : Tables) (devices : List Device) → length devices ≡ listed → (device < listed → deviceAt devices device ≡ d) → holds t (deviceWrite devices device address size)
 
   pub transfer-kept : (exclusion exclusion′ : List ℕ) (a : Answer)
       → OfEvery (λ t call. keptBy a s (withExclusion exclusion′ t) ≡ answer (guardOf s (withExclusion exclusion t)) call)

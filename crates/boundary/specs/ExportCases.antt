@@ -1,13 +1,16 @@
 -- Document 02, K2 and K4: what the exported calls that write a record and that walk a page return and leave, by their numbers run: of two words, of one
--- and of three.
+-- and of three. The state run, word by word: what a start writes there and what a call reads of it, the number of devices (K5) last.
+use Prim.Native.Nat.{ℕ}
 use mathlib.Core.List.{List, [], _∷_, _++_}
-use lib.ListN.{replicate}
-use Rattle.model.specs.Policy.{Policy}
+use lib.ListN.{replicate, set, take}
+use Rattle.model.specs.Keeps.{tables}
+use Rattle.model.specs.Policy.{Policy, givenOf}
+use Rattle.model.specs.Calls.{fetch, deviceWrite}
 use Rattle.model.specs.Record.{policyBy}
 use Rattle.model.specs.Cases.{Row, row}
-use Rattle.model.specs.Further.{twoEntries}
+use Rattle.model.specs.Further.{twoEntries, threeDevices, started6}
 use Rattle.model.specs.Tree.{Tree, treeOf}
-use Rattle.boundary.specs.Boundary.{Recorded, recorded, recordAt, Walked, walked, walkAt}
+use Rattle.boundary.specs.Boundary.{Returned, returned, startAt, callAt, Recorded, recorded, recordAt, Walked, walked, walkAt}
 
 -- The policy of twoEntries (Further).
 unfoldable pub listed3 : Policy
@@ -47,4 +50,32 @@ walkExportCases =
     ∷ row (walkAt lastTable 5 (9 ∷ [])) (walked 7 (9 ∷ []))
     ∷ row (walkAt shortTable 5 (9 ∷ 9 ∷ 9 ∷ [])) (walked 7 (9 ∷ 9 ∷ 9 ∷ []))
     ∷ row (walkAt shortTable 5 []) (walked 7 [])
+    ∷ []
+
+-- The state run of the started guard of Further: V, F, e, sixteen entry pages, kernel mode on page 1, and so many devices.
+unfoldable pub runWith : ℕ → List ℕ
+runWith devices = 6 ∷ 8 ∷ 2 ∷ 1 ∷ 2 ∷ (replicate 14 0 ++ (0 ∷ 1 ∷ devices ∷ []))
+
+abbrev pub CallExportCase : Type 0
+CallExportCase = Row Returned
+
+unfoldable pub callExportCases : List CallExportCase
+callExportCases =
+    -- An accepted start writes every word; a refused one none, and so does one that is lent a run of the old length
+    row (startAt (givenOf 3) twoEntries (replicate 22 9) (9 ∷ 9 ∷ []) (tables (replicate 6 1) (replicate 6 1) (replicate 1 1)))
+    (returned 0 (runWith 3) (3 ∷ 2 ∷ []) (started6 .tables))
+    ∷ row (startAt (givenOf 65) twoEntries (replicate 22 9) (9 ∷ 9 ∷ []) (started6 .tables))
+    (returned 3 (replicate 22 9) (0 ∷ 0 ∷ []) (started6 .tables))
+    ∷ row (startAt (givenOf 3) twoEntries (replicate 21 9) (9 ∷ 9 ∷ []) (started6 .tables))
+    (returned 7 (replicate 21 9) (0 ∷ 0 ∷ []) (started6 .tables))
+    -- A call reads the number of devices in the last word, which is not cut; a run of the old length gives 7
+    ∷ row (callAt (runWith 3) (9 ∷ 9 ∷ []) (started6 .tables) (deviceWrite threeDevices 2 4095 2))
+    (returned 0 (runWith 3) (0 ∷ 1 ∷ []) (started6 .tables))
+    ∷ row (callAt (runWith 65539) (9 ∷ 9 ∷ []) (started6 .tables) (deviceWrite threeDevices 2 4095 2))
+    (returned 7 (runWith 65539) (0 ∷ 0 ∷ []) (started6 .tables))
+    ∷ row (callAt (take 21 (runWith 3)) (9 ∷ 9 ∷ []) (started6 .tables) (fetch 2))
+    (returned 7 (take 21 (runWith 3)) (0 ∷ 0 ∷ []) (started6 .tables))
+    -- A fetch writes the page that runs, and no other word
+    ∷ row (callAt (runWith 3) (9 ∷ 9 ∷ []) (started6 .tables) (fetch 2))
+    (returned 0 (set (runWith 3) 20 2) (3 ∷ 3 ∷ []) (started6 .tables))
     ∷ []

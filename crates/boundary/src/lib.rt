@@ -2,6 +2,7 @@
 // Each promises what the model answers, on the decoded state where it is lent one, by one equation on all inputs.
 
 ghost use mathlib.Core.List.{List};
+ghost use Prim.Native.Nat.{_<_};
 ghost use mathlib.Core.Path.{_≡_};
 ghost use lib.ListN;
 ghost use Rattle.model.specs.Keeps.{Tables, tables, withShadow, withExclusion, withThree};
@@ -15,7 +16,7 @@ ghost use Rattle.model.specs.Calls.{settle, syncPage, syncAll, syncPageTree, sy
 ghost use Rattle.model.specs.Record.{policyBy};
 ghost use Rattle.model.specs.Cases.{Hold};
 ghost use Rattle.boundary.specs.Boundary.{returned, startAt, callAt, recorded, recordAt, walked, walkAt, StateHeld};
-ghost use Rattle.boundary.specs.ExportCases.{exportCases, walkExportCases};
+ghost use Rattle.boundary.specs.ExportCases.{exportCases, walkExportCases, callExportCases};
 use model::Answer;
 use model::Device;
 
@@ -236,7 +237,7 @@ pub fn leave(state: &mut [u64], shadow: &mut [u64], page: u64, numbers: &mut [u6
     words::put_switched(state, numbers, called)
 }
 
-// A device write, by how long the list of devices is and the device's record in it (K5).
+// A device write, by how long the list of devices is and the device's record in it, if it has one (K5).
 pub fn device_write(
     state: &[u64],
     exclusion: &[u8],
@@ -247,7 +248,7 @@ pub fn device_write(
     length: u64,
     numbers: &mut [u64],
 ) -> u64
-    ensures { λ r. ⌜ ((t : Tables) (devices : List Device) → ListN.length devices ≡ listed → deviceAt devices device ≡ window
+    ensures { λ r. ⌜ ((t : Tables) (devices : List Device) → ListN.length devices ≡ listed → (device < listed → deviceAt devices device ≡ window)
         → returned r (now (state .entry)) (now (numbers .exit)) (withExclusion (now (exclusion .entry)) t)
         ≡ callAt (now (state .entry)) (now (numbers .entry)) (withExclusion (now (exclusion .entry)) t) (deviceWrite devices device address length)) ⌝ }
 {
@@ -266,9 +267,9 @@ pub fn device_write(
     words::reply(numbers, answer)
 }
 
-// What writing a record and walking a page return and leave, by their numbers run.
+// What writing a record and walking a page return and leave, by their numbers run, and the words of a state run.
 pub fn export_cases()
-    ensures { λ _. ⌜ Hold exportCases × Hold walkExportCases ⌝ }
+    ensures { λ _. ⌜ Hold exportCases × Hold walkExportCases × Hold callExportCases ⌝ }
 {}
 
 // The state goes from call to call in its run as the definitions hand it on.

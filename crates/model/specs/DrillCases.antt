@@ -78,6 +78,7 @@ drillCases =
     ++ callBytes 2 9 9 9
     ++ callBytes 1 0 9 9
     ++ callBytes 4 9 17 12288
+    ++ callBytes 4 9 4097 12288
     ++ callBytes 4 9 16 12288
     ++ callBytes 4 9 16 16368
     ++ callBytes 6 3 9 9
@@ -92,6 +93,7 @@ drillCases =
     ∷ "0 0 0 0 K 4"
     ∷ "2 0 5 0 K 4"
     ∷ "1 0 0 0 K 4"
+    ∷ "4 8 0 0 K 4"
     ∷ "4 8 0 0 K 4"
     ∷ "4 0 7 7 K 4"
     ∷ "4 0 7 7 K 4"

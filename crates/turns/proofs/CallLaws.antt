@@ -1,5 +1,5 @@
 -- Each guard call by its kind: what the call promises of any tables that it is not lent is what the drill answers on its own tables.
-use Prim.Native.Nat.{ℕ}
+use Prim.Native.Nat.{ℕ, _<_}
 use mathlib.Core.List.{List}
 use mathlib.Core.Path.{_≡_, sym}
 use lib.ListN.{length}
@@ -63,10 +63,10 @@ module _ (s : State) (kernel shadow map exclusion : List ℕ) (devices : List De
   -- A device write promises of every list so long and with this record for its device, and so of the drill's.
   pub device-write-answered : (r : Answer) (listed : ℕ) (d : Device) → (kind ≡ 1 → ⊥) → (kind ≡ 2 → ⊥) → (kind ≡ 3 → ⊥) → (kind ≡ 4 → ⊥) → (kind ≡ 5 → ⊥)
       → (kind ≡ 6 → ⊥) → lib.ListN.length devices ≡ listed → d ≡ deviceAt devices index
-      → ((t : Tables) (ds : List Device) → lib.ListN.length ds ≡ listed → deviceAt ds index ≡ d
+      → ((t : Tables) (ds : List Device) → lib.ListN.length ds ≡ listed → (index < listed → deviceAt ds index ≡ d)
       → outcomeBy (kept r) (withExclusion exclusion t) ≡ answer (guardOf s (withExclusion exclusion t)) (deviceWrite ds index value length))
       → Answered (kept r) shadow map
   unfolding callOf
   device-write-answered r listed d a b c e f g long is promised =
       rw (ne-eqb kind 1 a, ne-eqb kind 2 b, ne-eqb kind 3 c, ne-eqb kind 4 e, ne-eqb kind 5 f, ne-eqb kind 6 g)
-      (promised (tables shadow map exclusion) devices long (sym is))
+      (promised (tables shadow map exclusion) devices long (λ _. sym is))

@@ -5,7 +5,9 @@ use Rattle.access.proofs.device_write.Statement.{statement}
 use Rattle.access.proofs.device_write.Tie as tie
 
 returns : tie.Need-returns
-returns c = search (needs, transfer-unfit)
+returns c =
+    let a = c .before .before .before .args in
+    transfer-unfit _ (a .exclusion .now) _ (a .window) _ _ _ _ (c .before .device-write-in-order .ensures) (c .if1 .taken)
 
 device-write-refusal-requires : tie.Need-device-write-refusal-requires
 device-write-refusal-requires c κs = search (needs, transfer-vector)

@@ -1,18 +1,25 @@
--- The cases of the exported calls that write a record and that walk a page: each row's outcome computes to the one that is fixed.
+-- The cases of the exported calls: each row's outcome computes to the one that is fixed.
 use mathlib.Core.Path.{refl}
-use Rattle.model.specs.Cases.{row}
-use Rattle.model.specs.Further.{twoEntries}
+use Rattle.model.specs.Cases.{row, Hold}
+use Rattle.model.specs.Further.{twoEntries, threeDevices, sixPages, with6, shadow6, started6}
 use Rattle.model.proofs.Computed.{computed}
 use Rattle.model.proofs.CaseLaws.{hold}
-use Rattle.words.specs.Words.{overwritten, withNumbers}
-use Rattle.boundary.specs.Boundary.{recordAt, walkAt}
-use Rattle.boundary.specs.ExportCases.{listed3, exportCases, lastTable, shortTable, walkExportCases}
+use Rattle.words.specs.Words.{narrow, field, entryPagesIn, stateIn, modeWord, wordsOf, withWords, overwritten, withNumbers, runsFit, lendable, runAfter, runStarted}
+use Rattle.boundary.specs.Boundary.{replied, startAt, callAt, recordAt, walkAt}
+use Rattle.boundary.specs.ExportCases.{listed3, exportCases, lastTable, shortTable, walkExportCases, runWith, callExportCases}
 use Rattle.boundary.proofs.export_cases.Statement.{statement}
 use Rattle.boundary.proofs.export_cases.Tie as tie
 
-returns : tie.Need-returns
+without-state : Hold exportCases × Hold walkExportCases
 unfolding computed row twoEntries overwritten withNumbers recordAt listed3 exportCases walkAt lastTable shortTable walkExportCases
-returns c = (hold exportCases refl, hold walkExportCases refl)
+without-state = (hold exportCases refl, hold walkExportCases refl)
+
+with-state : Hold callExportCases
+unfolding computed row twoEntries threeDevices sixPages with6 shadow6 started6 narrow field entryPagesIn stateIn modeWord wordsOf withWords overwritten withNumbers runsFit lendable runAfter runStarted replied startAt callAt runWith callExportCases
+with-state = hold callExportCases refl
+
+returns : tie.Need-returns
+returns c = (without-state .0, without-state .1, with-state)
 
 pub export-cases-spec : {M : Type 1} → statement M
 export-cases-spec = tie.close (tie.spec returns)

@@ -185,7 +185,7 @@ module _ {M : Type 1} (𝓤 : URA M) (H : Heap 𝓤) (A : Atoms 𝓤) (W : Given
   -- what it says, of every list so long and with this record for the device
   abbrev Said : Device → ℕ → List ℕ → Type 0
   Said d r zs =
-      (t : Keeps.Tables) (devices : List Device) → length devices ≡ length ys → deviceAt devices i ≡ d → returned r (s₀ .now) zs (withExclusion (e₀ .now) t)
+      (t : Keeps.Tables) (devices : List Device) → length devices ≡ length ys → (i < length ys → deviceAt devices i ≡ d) → returned r (s₀ .now) zs (withExclusion (e₀ .now) t)
       ≡ callAt (s₀ .now) (n₀ .now) (withExclusion (e₀ .now) t) (deviceWrite devices i address size)
 
   abbrev Lasts : Type 0
@@ -239,7 +239,7 @@ module _ {M : Type 1} (𝓤 : URA M) (H : Heap 𝓤) (A : Atoms 𝓤) (W : Given
         returns ! (look ! 29 refl) $ forget ! 7 refl $ forget ! 9 refl $ forget ! 11 refl $ forget ! 13 refl $ forget ! 15 refl $ forget ! 17 refl $ forget ! 19 refl $ forget ! 21 refl $ forget ! 23 refl $ forget ! 25 refl $ forget ! 27 refl $ forget ! 29 refl $
         move ! (29 ∷ 30 ∷ []) $ free1 ! $ move ! (27 ∷ 28 ∷ []) $ free1 ! $ move ! (25 ∷ 26 ∷ []) $ free1 ! $ move ! (23 ∷ 24 ∷ []) $ free1 ! $ move ! (21 ∷ 22 ∷ []) $ free1 ! $ move ! (19 ∷ 20 ∷ []) $ free1 ! $
         move ! (17 ∷ 18 ∷ []) $ free1 ! $ move ! (15 ∷ 16 ∷ []) $ free1 ! $ move ! (13 ∷ 14 ∷ []) $ free1 ! $ move ! (11 ∷ 12 ∷ []) $ free1 ! $ move ! (9 ∷ 10 ∷ []) $ free1 ! $ move ! (7 ∷ 8 ∷ []) $ free1 ! $ free0 ! $
-        keep ! (0 ∷ 5 ∷ 1 ∷ 4 ∷ 3 ∷ 6 ∷ []) $ by ! (exits r (last-run zs) (is-r .1) l (λ t. e₂ t ys refl (sym e₁)))))))))))))))))))))))))
+        keep ! (0 ∷ 5 ∷ 1 ∷ 4 ∷ 3 ∷ 6 ∷ []) $ by ! (exits r (last-run zs) (is-r .1) l (λ t. e₂ t ys refl (λ _. sym e₁)))))))))))))))))))))))))
 
 module _ {M : Type 1} (𝓤 : URA M) (H : Heap 𝓤) (A : Atoms 𝓤) (W : Given 𝓤 H A) (mem : Memory → SProp 𝓤) (run : Routine → Fun 𝓤) where
   f-walks : (C : Calls 𝓤 H) (Λ : Loops 𝓤 H) → FmC 𝓤 H (W .laws) C → Triple 𝓤 (C #devices·look-up) (Look 𝓤 H A mem run) → Triple 𝓤 (C #boundary·device-write) (Below 𝓤 H A mem run)
