@@ -141,8 +141,13 @@ impl Guard {
     }
 
     /// Asks for a device's write of 1 to 1,048,576 bytes at a physical address. The device is named by its number in
-    /// [`devices`](Guard::devices).
-    pub fn device_write(&self, device: u64, address: u64, length: u64) -> Result<Frames, Refusal> {
+    /// [`devices`](Guard::devices). It takes the guard to itself, since a later version counts the bytes of what it allows.
+    pub fn device_write(
+        &mut self,
+        device: u64,
+        address: u64,
+        length: u64,
+    ) -> Result<Frames, Refusal> {
         let Guard { state, exclusion, devices, .. } = self;
         let [first, last] = answer(|numbers| {
             archive::device_write(state, exclusion, devices, device, address, length, numbers)
@@ -151,7 +156,7 @@ impl Guard {
     }
 
     /// Gives a device another window, from the first frame to the last. No answer to another device changes. Where there is no such
-    /// device nothing changes, and the refusal is that of its writes.
+    /// device nothing changes, and the refusal is 18.
     pub fn set_window(&mut self, device: u64, first: u16, last: u16) -> Result<(), Refusal> {
         let place = usize::try_from(device).ok();
         let Some(device) = place.and_then(|place| self.devices.get_mut(place)) else {

@@ -96,7 +96,7 @@ fn a_wide_number_of_devices_gives_3() {
 
 #[test]
 fn a_window_includes_both_ends() {
-    let guard = started();
+    let mut guard = started();
     assert_eq!(guard.device_write(MUSIC, frames(4), frames(4)), accepted(4, 7));
     assert_eq!(guard.device_write(MUSIC, frames(4), 1), accepted(4, 4));
     assert_eq!(guard.device_write(MUSIC, frames(8) - 1, 1), accepted(7, 7));
@@ -117,7 +117,7 @@ fn a_window_includes_both_ends() {
 
 #[test]
 fn a_window_with_first_above_last_has_no_frame() {
-    let guard = started();
+    let mut guard = started();
     for frame in 0..16 {
         let answer = guard.device_write(CLOSED, frames(frame), 1);
         assert_eq!(answer, Err(Refusal::OutsideWindow), "{frame}");
@@ -128,7 +128,7 @@ fn a_window_with_first_above_last_has_no_frame() {
 /// The order is 8, 18, 9, 19, 13; each write fails the questions after its own too.
 #[test]
 fn questions_of_a_device_write_in_order() {
-    let guard = started();
+    let mut guard = started();
     let writes = [
         (4, u64::MAX, 0, Refusal::LengthOutOfRange),
         (4, frames(2), (1 << 20) + 1, Refusal::LengthOutOfRange),
@@ -166,7 +166,7 @@ fn a_device_that_is_not_in_the_list_gives_18() {
 fn each_device_has_its_own_window() {
     let windows = (0..64).map(|i| Device::new(i % 16, i % 16));
     let options = windows.fold(Options::new(), Options::device);
-    let guard = Guard::start(&record(4, 16, 1, &[(1, 15)]), options).unwrap();
+    let mut guard = Guard::start(&record(4, 16, 1, &[(1, 15)]), options).unwrap();
     for device in 0..64 {
         for frame in 0..16 {
             let expected = match frame {
@@ -180,7 +180,7 @@ fn each_device_has_its_own_window() {
 }
 
 /// The answers to a device, for transfers from every frame on of one to three frames, and of one byte more.
-fn answers(guard: &Guard, device: u64) -> Vec<Result<Frames, Refusal>> {
+fn answers(guard: &mut Guard, device: u64) -> Vec<Result<Frames, Refusal>> {
     let transfers = (0..18).flat_map(|first| (1..4).map(move |count| (first, count)));
     let answer = |(first, count)| {
         [0, 1].map(|more| guard.device_write(device, frames(first), frames(count) + more))
@@ -193,14 +193,14 @@ fn answers(guard: &Guard, device: u64) -> Vec<Result<Frames, Refusal>> {
 fn another_window_changes_no_answer_to_another_device() {
     let mut guard = started();
     let others = [BILLING, CLOSED, OPEN];
-    let before = others.map(|device| answers(&guard, device));
+    let before = others.map(|device| answers(&mut guard, device));
     let mut of_music = vec![];
     for first in (0..18).chain([u16::MAX]) {
         for last in (0..18).chain([u16::MAX]) {
             guard.set_window(MUSIC, first, last).unwrap();
             assert_eq!(guard.devices()[0], Device::new(first, last));
-            assert_eq!(others.map(|device| answers(&guard, device)), before, "{first} {last}");
-            of_music.push(answers(&guard, MUSIC));
+            assert_eq!(others.map(|device| answers(&mut guard, device)), before, "{first} {last}");
+            of_music.push(answers(&mut guard, MUSIC));
         }
     }
     of_music.dedup();
