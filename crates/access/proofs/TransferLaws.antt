@@ -19,7 +19,7 @@ use Rattle.model.specs.Keeps.{Tables, withExclusion, guardOf, vectorBytes, excl
 use Rattle.model.specs.Devices.{deviceAt, inWindow}
 use Rattle.model.specs.Questions.{Question, question, firstNo, View, seen, stateInOrder, inOrder, free, everyTouched, deviceWriteQuestions}
 use Rattle.model.specs.Calls.{replyOf, outcomeBy, keptBy, deviceWrite, questionsOf, effectOf, answer}
-use Rattle.model.proofs.QuestionLaws.{within-low, firstNo-yes, firstNo-no}
+use Rattle.model.proofs.QuestionLaws.{both-no-after, within-low, firstNo-yes, firstNo-no}
 use Rattle.model.proofs.AcceptedLaws.{deviceWrite-some, deviceWrite-byte}
 use Rattle.model.proofs.StateLaws.{frames-few, in-order}
 use Rattle.model.proofs.CallLaws.{passed, stopped, none-left, refused-by, accepted-by}
@@ -44,10 +44,6 @@ pub window-asked : (d : Device) (first last : ℕ) (r : Bool) → first ≤ last
 unfolding inWindow within both
 window-asked d first last r u e = e ∙ by (leb (d .first) first) refl (leb last (d .last)) refl
   where
-    no : (b : Bool) → both b false ≡ false
-    no true = refl
-    no false = refl
-
     by : (a : Bool) → leb (d .first) first ≡ a → (b : Bool) → leb last (d .last) ≡ b
         → both a b ≡ both (both a (leb first (d .last))) (both (leb (d .first) last) b)
     by false p b q = refl
@@ -57,7 +53,7 @@ window-asked d first last r u e = e ∙ by (leb (d .first) first) refl (leb last
         rw (le-leb first (d .last) (omega arith), le-leb (d .first) last (omega arith)) refl
     by true p false q =
         let l : d .first ≤ first = leb-true (d .first) first p in
-        rw (le-leb (d .first) last (omega arith)) (sym (no (leb first (d .last))))
+        rw (le-leb (d .first) last (omega arith)) (sym (both-no-after (leb first (d .last)) refl))
 
 -- The record of a device that is not in the list makes no difference: question 18 refuses before 19 looks at it.
 same-record : (v : View) (listed device address length : ℕ) (d d′ : Device) → (device < listed → d ≡ d′)

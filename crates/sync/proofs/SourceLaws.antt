@@ -13,7 +13,8 @@ use Rattle.tree.specs.declared.Below.the-variants.{Table, Large, Nowhere}
 use Rattle.tree.specs.declared.Part.{Part}
 use Rattle.tree.specs.Parts.{rightsBy, lastFlat, flatBelow, flatIn, readsIn, Sound}
 use Rattle.sync.specs.declared.Source.{Source}
-use Rattle.sync.specs.Steps.{stored, sweptFrom, Holds, wordBy, flatBy, entryBy}
+use Rattle.step.specs.Steps.{stored}
+use Rattle.sync.specs.Runs.{sweptFrom, Holds, wordBy, flatBy, entryBy}
 use Rattle.sync.proofs.RunLaws.{swept-more, swept-over, swept-same, swept-append, all-swept}
 
 module _ (words : List ℕ) (source : Source) (large : Bool) where

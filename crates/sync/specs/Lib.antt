@@ -1,2 +1,2 @@
 -- What this crate's contracts cite beside the model's definitions.
-pub mod Steps
+pub mod Runs

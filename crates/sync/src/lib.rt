@@ -1,126 +1,28 @@
-// Document 01, "Synchronising one page", and the same for all pages.
-// One page's step reads an entry and no table, and the loop goes over a run of pages, so that both serve further calls.
+// Document 01, "Synchronising one page", and the same for all pages. The step of a page is `step`'s, and the loop goes over a run of pages.
 // Document 02, K4: from a tree, a run is the 512 pages that share every entry above level 1.
 
 use model::Answer;
-use model::Entry;
-use model::NONE;
 use model::State;
+use step::Counts;
 use tree::Below;
 use tree::Part;
 ghost use mathlib.Core.Path.{_≡_};
 ghost use mathlib.Core.Bool.{true};
 ghost use Prim.Native.Nat.{_+_, _-_, _%_, _<_, _≤_};
-ghost use lib.ListN.{length, getD, set};
-ghost use Rattle.model.specs.Basics.{differs};
+ghost use lib.ListN.{length, getD};
 ghost use Rattle.model.specs.Bits.{takenApart};
 ghost use Rattle.model.specs.Keeps.{Tables, withThree, guardOf, vectorBytes};
-ghost use Rattle.model.specs.Sync;
 ghost use Rattle.model.specs.Tree.{treeOf, treeInOrder, flatAt};
-ghost use Rattle.model.specs.Sync.{slot, sweep, sweepFrom, entryIn, stepFrom};
+ghost use Rattle.model.specs.Sync.{sweep, sweepFrom, entryIn, stepFrom};
 ghost use Rattle.model.specs.Calls.{keptBy, syncPage, syncAll, syncPageTree, syncAllTree, answer};
 ghost use Rattle.tree.specs.Parts.{flatIn, Sound};
-ghost use Rattle.sync.specs.Steps.{rulesBy, stored, sweptFrom, Holds, wordBy, flatBy, entryBy};
+ghost use Rattle.step.specs.Steps.{rulesBy};
+ghost use Rattle.sync.specs.Runs.{sweptFrom, Holds, wordBy, flatBy, entryBy};
 
 // The pages that share every entry of a tree above level 1, and the weight of a frame in an entry.
 const PART: usize = 512;
 
 const FRAME: u64 = 0x1000;
-
-// A page's shadow entry and its number in the map.
-struct Slot {
-    entry: u64,
-    approval: u16,
-}
-
-// Steps 1 to 5 on a kernel entry and the page's number in the map. The vector has a bit for each frame below F, as question 7 has settled.
-fn step(user: bool, frames: u16, exclusion: &[u8], entry: u64, approval: u16) -> Slot
-    requires { ⌜ length (now exclusion) ≡ vectorBytes frames ⌝ }
-    ensures { λ r. ⌜ slot (r .entry) (r .approval) ≡ Sync.step (rulesBy user frames (now (exclusion .entry))) entry approval ⌝ }
-{
-    let empty = Slot { entry: 0, approval };
-    let Entry::Present(x) = entry::take_apart(entry) else {
-        return empty;
-    };
-    if approval != NONE {
-        return Slot {
-            entry: entry::approved(user, approval),
-            approval,
-        };
-    }
-    if frames as u64 <= x.frame {
-        return empty;
-    }
-    if bitmap::excluded_within(exclusion, x.frame) {
-        let frame = x.frame as u16;
-        return Slot {
-            entry: entry::approved(user, frame),
-            approval: frame,
-        };
-    }
-    Slot {
-        entry: entry::ordinary_of(user, entry),
-        approval,
-    }
-}
-
-// The shadow entries whose value changed, and the pages that joined the map.
-struct Counts {
-    changed: u64,
-    joined: u64,
-}
-
-// Stores a page's shadow entry where its value changed, and counts that. No more entries are counted than pages lie before this one.
-fn put_entry(shadow: &mut [u64], i: usize, entry: u64, changed: u64) -> u64
-    requires { ⌜ (i < length (now shadow)) × (changed ≤ i) ⌝ }
-    ensures { λ r. ⌜ (now (shadow .exit) ≡ set (now (shadow .entry)) i entry)
-        × (r ≡ changed + differs (getD (now (shadow .entry)) i 0) entry) × (r ≤ changed + 1) ⌝ }
-{
-    if shadow[i] == entry {
-        return changed;
-    }
-    shadow[i] = entry;
-    changed + 1
-}
-
-// The same of a page's number in the map: a number that changed is that of a page that joined.
-fn put_approval(map: &mut [u16], i: usize, approval: u16, joined: u64) -> u64
-    requires { ⌜ (i < length (now map)) × (joined ≤ i) ⌝ }
-    ensures { λ r. ⌜ (now (map .exit) ≡ set (now (map .entry)) i approval)
-        × (r ≡ joined + differs (getD (now (map .entry)) i 0) approval) × (r ≤ joined + 1) ⌝ }
-{
-    if map[i] == approval {
-        return joined;
-    }
-    map[i] = approval;
-    joined + 1
-}
-
-// The step of page i on its kernel entry, stored in both tables and counted. It asks that both tables have the page, which every
-// caller has settled, and that no more pages were counted than lie before it. The map's number is settled before an entry is written,
-// so that it is read once.
-fn sync_at(
-    user: bool,
-    frames: u16,
-    exclusion: &[u8],
-    entry: u64,
-    shadow: &mut [u64],
-    map: &mut [u16],
-    i: usize,
-    counts: Counts,
-) -> Counts
-    requires { ⌜ (i < length (now shadow)) × (i < length (now map)) × (counts .changed ≤ i) × (counts .joined ≤ i)
-        × (length (now exclusion) ≡ vectorBytes frames) ⌝ }
-    ensures { λ r. ⌜ (sweep (now (shadow .exit)) (now (map .exit)) (r .changed) (r .joined)
-        ≡ stored i (sweep (now (shadow .entry)) (now (map .entry)) (counts .changed) (counts .joined))
-        (Sync.step (rulesBy user frames (now (exclusion .entry))) entry (getD (now (map .entry)) i 0)))
-        × (r .changed ≤ counts .changed + 1) × (r .joined ≤ counts .joined + 1) ⌝ }
-{
-    let slot = step(user, frames, exclusion, entry, map[i]);
-    let joined = put_approval(map, i, slot.approval, counts.joined);
-    let changed = put_entry(shadow, i, slot.entry, counts.changed);
-    Counts { changed, joined }
-}
 
 // Every page of parts of one length, in rising order. The lengths are asked for since question 7 has settled them in every caller.
 fn sync_pages(
@@ -142,7 +44,7 @@ fn sync_pages(
     };
     let mut i = 0;
     while i < kernel.len() {
-        counts = sync_at(user, frames, exclusion, kernel[i], shadow, map, i, counts);
+        counts = step::sync_at(user, frames, exclusion, kernel[i], shadow, map, i, counts);
         i += 1;
     }
     counts
@@ -214,7 +116,7 @@ fn sync_run(
     let mut i = first;
     while i < end {
         let entry = kernel_entry(large, words, source, i - first);
-        counts = sync_at(user, frames, exclusion, entry, shadow, map, i, counts);
+        counts = step::sync_at(user, frames, exclusion, entry, shadow, map, i, counts);
         i += 1;
     }
     counts
@@ -381,7 +283,7 @@ pub fn sync_page(
         changed: 0,
         joined: 0,
     };
-    let one = sync_at(
+    let one = step::sync_at(
         questions::in_user(mode),
         s.frames,
         exclusion,
@@ -451,7 +353,7 @@ pub fn sync_page_tree(
         changed: 0,
         joined: 0,
     };
-    let one = sync_at(
+    let one = step::sync_at(
         questions::in_user(mode),
         s.frames,
         exclusion,

@@ -5,7 +5,7 @@ use native.Mathlib.Omega.{arith}
 use lib.ListN.{length}
 use Rattle.model.specs.Sync.{sweep, sweepFrom, entryIn, stepFrom}
 use Rattle.model.proofs.SweepLaws.{whole, whole-start}
-use Rattle.sync.specs.Steps.{rulesBy}
+use Rattle.step.specs.Steps.{rulesBy}
 use Rattle.sync.proofs.SyncLaws.{sweep-more, sweep-over}
 use borrow.Author.Needs.{needs}
 use Rattle.sync.proofs.sync_pages.Statement.{statement}

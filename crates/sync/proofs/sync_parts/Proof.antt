@@ -5,7 +5,8 @@ use native.Mathlib.Omega.{arith}
 use lib.ListN.{length}
 use Rattle.model.specs.Tree.{treeOf, flatAt}
 use Rattle.model.specs.Sync.{sweep, stepFrom}
-use Rattle.sync.specs.Steps.{rulesBy, sweptFrom}
+use Rattle.step.specs.Steps.{rulesBy}
+use Rattle.sync.specs.Runs.{sweptFrom}
 use Rattle.sync.proofs.SourceLaws.{parts-more, parts-over}
 use borrow.Author.Needs.{needs}
 use Rattle.sync.proofs.sync_parts.Statement.{statement}

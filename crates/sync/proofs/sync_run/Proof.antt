@@ -4,7 +4,8 @@ use mathlib.Core.Path.{_≡_, refl}
 use native.Mathlib.Omega.{arith}
 use lib.ListN.{length}
 use Rattle.model.specs.Sync.{sweep, stepFrom}
-use Rattle.sync.specs.Steps.{rulesBy, sweptFrom, entryBy}
+use Rattle.step.specs.Steps.{rulesBy}
+use Rattle.sync.specs.Runs.{sweptFrom, entryBy}
 use Rattle.sync.proofs.RunLaws.{swept-over}
 use Rattle.sync.proofs.SourceLaws.{fewer, run-more}
 use borrow.Author.Needs.{needs}

@@ -1,8 +1,8 @@
 -- A law for each of the five steps.
-use Rattle.sync.proofs.SyncLaws.{step-absent, step-valid, step-approved, step-above, step-excluded, step-ordinary, frame-in}
+use Rattle.step.proofs.StepLaws.{step-absent, step-valid, step-approved, step-above, step-excluded, step-ordinary, frame-in}
 use borrow.Author.Needs.{needs}
-use Rattle.sync.proofs.step.Statement.{statement}
-use Rattle.sync.proofs.step.Tie as tie
+use Rattle.step.proofs.step.Statement.{statement}
+use Rattle.step.proofs.step.Tie as tie
 
 returns : tie.Need-returns
 returns c = search (needs, step-absent)

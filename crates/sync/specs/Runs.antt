@@ -1,24 +1,13 @@
--- What this crate's contracts say of one page: what its step reads, and the tables and counts after it.
--- Of a state and its exclusion vector the rules are the model's `rulesOf`.
+-- What the contracts between the functions of this crate say of a run of pages: its tables and counts, and where its kernel entries come from.
 use Prim.Native.Nat.{ℕ, zero, suc, _+_, _-_, _*_, _%_, _^_, _<_, _≤_}
 use mathlib.Core.Bool.{Bool, true, false, cond}
 use mathlib.Core.List.{List}
-use lib.ListN.{length, getD, set}
-use Rattle.model.specs.Basics.{differs}
-use Rattle.model.specs.Keeps.{excludedIn}
+use lib.ListN.{length, getD}
 use Rattle.model.specs.Bits.{takenApart}
-use Rattle.model.specs.Sync.{Rules, rules, Slot, Sweep, sweep}
+use Rattle.model.specs.Sync.{Slot, Sweep}
 use Rattle.tree.specs.Parts.{rightsBy, lastFlat}
+use Rattle.step.specs.Steps.{stored}
 use Rattle.sync.specs.declared.Source.{Source}
-
-abbrev pub rulesBy : Bool → ℕ → List ℕ → Rules
-rulesBy user frames exclusion = rules user frames (excludedIn exclusion)
-
--- The slot p stored at page i of both tables, and counted where that changed them.
-unfoldable pub stored : ℕ → Sweep → Slot → Sweep
-stored i r p =
-    sweep (set (r .shadow) i (p .entry)) (set (r .map) i (p .approval)) (r .changed + differs (getD (r .shadow) i 0) (p .entry))
-    (r .joined + differs (getD (r .map) i 0) (p .approval))
 
 -- The slots of so many pages from page i on, each stored and counted.
 unfoldable pub sweptFrom : (ℕ → ℕ → ℕ → Slot) → ℕ → ℕ → Sweep → Sweep

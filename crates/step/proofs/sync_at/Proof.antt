@@ -1,8 +1,8 @@
 -- The slot stored in both tables, with the counts of that.
-use Rattle.sync.proofs.SyncLaws.{stored-step}
+use Rattle.step.proofs.StepLaws.{stored-step}
 use borrow.Author.Needs.{needs}
-use Rattle.sync.proofs.sync_at.Statement.{statement}
-use Rattle.sync.proofs.sync_at.Tie as tie
+use Rattle.step.proofs.sync_at.Statement.{statement}
+use Rattle.step.proofs.sync_at.Tie as tie
 
 returns : tie.Need-returns
 returns c = search (needs, stored-step)

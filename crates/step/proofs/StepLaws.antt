@@ -1,0 +1,70 @@
+-- A law for each answer of this crate's functions: the five steps, the counts, and a page stored.
+use Prim.Native.Nat.{ℕ, _+_, _/_, _≤_, _<_}
+use mathlib.Core.Bool.{Bool, true, false}
+use mathlib.Core.List.{List}
+use mathlib.Core.Path.{_≡_, sym, _∙_}
+use native.Mathlib.Omega.{arith}
+use lib.ListN.{getD, set}
+use lib.Seq.{set-getD}
+use borrow.Author.Tests.{eq-eqb, ne-eqb, le-leb, lt-leb}
+use Rattle.model.specs.declared.Entry.{Entry}
+use Rattle.model.specs.declared.Entry.the-variants.{Absent, Present}
+use Rattle.model.specs.declared.Fields.{Fields}
+use Rattle.model.specs.Basics.{differs}
+use Rattle.model.specs.Keeps.{none, vectorBytes}
+use Rattle.model.specs.Bits.{fieldsOf, valid, takenApart, approved, ordinary}
+use Rattle.model.specs.Sync.{Rules, Slot, slot, stepOf, step, sweep}
+use Rattle.model.proofs.BitLaws.{fields-apart, present-valid}
+use Rattle.step.specs.Steps.{stored}
+
+-- Steps 1 to 5.
+module _ (r : Rules) (k a : ℕ) (e : Entry) (apart : e ≡ takenApart k) where
+  pub step-absent : e ≡ Absent → slot 0 a ≡ step r k a
+  unfolding step stepOf
+  step-absent p = rw (← apart, p)
+
+  pub step-valid : (x : Fields) → e ≡ Present x → valid k ≡ true
+  step-valid x p = present-valid k x (sym apart ∙ p)
+
+  pub step-approved : (x : Fields) (n : ℕ) → e ≡ Present x → (a ≡ 65535 → ⊥) → n ≡ approved (r .user) a → slot n a ≡ step r k a
+  unfolding step stepOf
+  step-approved x n p q s = rw (← apart, p, ne-eqb a none q, s)
+
+  pub step-above : (x : Fields) → e ≡ Present x → a ≡ 65535 → r .frames ≤ x .frame → slot 0 a ≡ step r k a
+  unfolding step stepOf
+  step-above x p q l = rw (← apart, p, eq-eqb a none q, le-leb (r .frames) (x .frame) l)
+
+  pub step-excluded : (x : Fields) (n : ℕ) (b : Bool) → e ≡ Present x → a ≡ 65535 → x .frame < r .frames → b ≡ r .excluded (x .frame) → b ≡ true
+      → n ≡ approved (r .user) (x .frame) → slot n (x .frame) ≡ step r k a
+  unfolding step stepOf
+  step-excluded x n b p q l s t u = rw (← apart, p, eq-eqb a none q, lt-leb (r .frames) (x .frame) l, ← s, t, u)
+
+  pub step-ordinary : (x : Fields) (n : ℕ) (b : Bool) → e ≡ Present x → a ≡ 65535 → x .frame < r .frames → b ≡ r .excluded (x .frame) → b ≡ false
+      → n ≡ ordinary (r .user) (fieldsOf k) → slot n a ≡ step r k a
+  unfolding step stepOf
+  step-ordinary x n b p q l s t u =
+      rw (← apart, p, eq-eqb a none q, lt-leb (r .frames) (x .frame) l, ← s, t, u, fields-apart k x (sym apart ∙ p))
+
+-- The frame of a present entry below F has a bit in the vector.
+pub frame-in : (frames frame long : ℕ) → long ≡ vectorBytes frames → frame < frames → frame / 8 < long
+unfolding vectorBytes
+frame-in frames frame long p l = omega arith
+
+-- A value stored, and counted where it changed.
+pub kept : (l : List ℕ) (i v : ℕ) → getD l i 0 ≡ v → l ≡ set l i v
+kept l i v p = rw (← p) (sym (set-getD l i 0))
+
+pub same-counts : (n a b : ℕ) → a ≡ b → n ≡ n + differs a b
+unfolding differs
+same-counts n a b p = rw (eq-eqb a b p) (omega arith)
+
+pub other-counts : (n a b : ℕ) → (a ≡ b → ⊥) → n + 1 ≡ n + differs a b
+unfolding differs
+other-counts n a b p = rw (ne-eqb a b p)
+
+-- A page's slot stored in both tables.
+pub stored-step : (p : Slot) (i e a changed joined x y : ℕ) (shadow map shadow′ map′ : List ℕ) → slot e a ≡ p
+    → shadow′ ≡ set shadow i e → map′ ≡ set map i a → x ≡ changed + differs (getD shadow i 0) e → y ≡ joined + differs (getD map i 0) a
+    → sweep shadow′ map′ x y ≡ stored i (sweep shadow map changed joined) p
+unfolding stored
+stored-step p i e a changed joined x y shadow map shadow′ map′ q ps pm px py = rw (← q, ps, pm, px, py)
