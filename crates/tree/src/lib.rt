@@ -223,7 +223,7 @@ pub fn part_of(words: &[u64], root: u64, depth: u64, page: u64) -> Part
 }
 
 // The last entry of a page of the part, below the rights that the part has, and 0 where the page is absent above it. "the page number's low nine are
-// added" to the frame of a large page.
+// added" to the frame of a large page. It asks that the part's table is one of the run, or its large page aligned, as `part_of` gives it.
 pub fn last_in(words: &[u64], part: Part, page: u64) -> u64
     requires { ⌜ Sound (now words) part ⌝ }
     ensures { λ r. ⌜ lastFlat (rightsBy (part .all) (part .any)) (takenApart r) ≡ flatIn (now (words .entry)) part page ⌝ }
