@@ -5,6 +5,7 @@ use mathlib.Core.Bool.{Bool, true, not}
 use mathlib.Core.List.{List, [], _∷_}
 use lib.ListN.{getD}
 use lib.Dec.{ltb}
+use Rattle.model.specs.declared.Pending.the-variants.{Nothing}
 use Rattle.model.specs.Basics.{both}
 use Rattle.model.specs.Keeps.{none, excludedIn}
 use Rattle.model.specs.Bits.{present, frameOf}
@@ -18,6 +19,7 @@ lentView devices user pages frames shadow exclusion =
       entryCount = 0;
       entryPage = λ i. 0;
       devices = devices;
+      pending = Nothing;
       user = user;
       shadow = λ p. getD shadow p 0;
       approval = λ p. none;

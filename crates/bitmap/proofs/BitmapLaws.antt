@@ -1,4 +1,4 @@
--- A law for each answer of this crate's functions: a frame's bit read and set, in a byte of the vector and past its end.
+-- A law for each answer of this crate's functions: a frame's bit read, set and cleared, in a byte of the vector and past its end.
 use Prim.Native.Nat.{ℕ, _+_, _-_, _*_, _/_, _%_, _^_, _≤_, _<_}
 use mathlib.Core.Bool.{Bool, true, false, cond}
 use mathlib.Core.List.{List}
@@ -32,6 +32,21 @@ module _ (b : ℕ) (small : b < 256) where
       (omega (arith, or-sum 4, byteOf-sum (setBit 4) .0)) (omega (arith, or-sum 5, byteOf-sum (setBit 5) .0))
       (omega (arith, or-sum 6, byteOf-sum (setBit 6) .0)) (omega (arith, or-sum 7, byteOf-sum (setBit 7) .0))
 
+  -- That weight taken away again clears it.
+  clearBit : ℕ → ℕ → Bool
+  clearBit k j = cond (eqb j k) false (bit j b)
+
+  pub less-bit : (k : ℕ) → k < 8 → (1 * 2 ^ k % 256 ≤ bitOr b (1 * 2 ^ k % 256)) × (bitOr b (1 * 2 ^ k % 256) - 1 * 2 ^ k % 256 ≡ byteOf (λ j. cond (eqb j k) false (bit j b)))
+  unfolding clearBit flag
+  less-bit =
+      let whole : byteOf (λ j. bit j b) ≡ b = byteOf-bits b small in
+      let old = byteOf-sum (λ j. bit j b) in
+      below8 (λ k. (1 * 2 ^ k % 256 ≤ bitOr b (1 * 2 ^ k % 256)) × (bitOr b (1 * 2 ^ k % 256) - 1 * 2 ^ k % 256 ≡ byteOf (clearBit k)))
+      (omega (arith, old, or-sum 0), omega (arith, old, or-sum 0, byteOf-sum (clearBit 0) .0)) (omega (arith, old, or-sum 1), omega (arith, old, or-sum 1, byteOf-sum (clearBit 1) .0))
+      (omega (arith, old, or-sum 2), omega (arith, old, or-sum 2, byteOf-sum (clearBit 2) .0)) (omega (arith, old, or-sum 3), omega (arith, old, or-sum 3, byteOf-sum (clearBit 3) .0))
+      (omega (arith, old, or-sum 4), omega (arith, old, or-sum 4, byteOf-sum (clearBit 4) .0)) (omega (arith, old, or-sum 5), omega (arith, old, or-sum 5, byteOf-sum (clearBit 5) .0))
+      (omega (arith, old, or-sum 6), omega (arith, old, or-sum 6, byteOf-sum (clearBit 6) .0)) (omega (arith, old, or-sum 7), omega (arith, old, or-sum 7, byteOf-sum (clearBit 7) .0))
+
 -- A frame's bit, in a byte of the vector and past its end.
 pub excluded-in : (x : List ℕ) (f : ℕ) → eqb (getD x (f / 8) 0 / 2 ^ (f % 8) % 2) 1 ≡ excludedIn x f
 unfolding excludedIn bit
@@ -48,3 +63,17 @@ exclude-in x f small = ap (set x (f / 8)) (or-bit (getD x (f / 8) 0) small (f % 
 pub exclude-past : (x : List ℕ) (f : ℕ) → length x ≤ f / 8 → x ≡ withBit true x f
 unfolding withBit
 exclude-past x f past = sym (set-out x (f / 8) _ past)
+
+pub without-fits : (b k : ℕ) → b < 256 → k < 8 → 1 * 2 ^ k % 256 ≤ bitOr b (1 * 2 ^ k % 256)
+without-fits b k small h = less-bit b small k h .0
+
+pub without-is : (b k : ℕ) → b < 256 → k < 8 → bitOr b (1 * 2 ^ k % 256) - 1 * 2 ^ k % 256 ≡ byteOf (λ j. cond (eqb j k) false (bit j b))
+without-is b k small h = less-bit b small k h .1
+
+pub release-in : (x : List ℕ) (f r : ℕ) → r ≡ byteOf (λ j. cond (eqb j (f % 8)) false (bit j (getD x (f / 8) 0))) → set x (f / 8) r ≡ withBit false x f
+unfolding withBit
+release-in x f r e = ap (set x (f / 8)) e
+
+pub release-past : (x : List ℕ) (f : ℕ) → length x ≤ f / 8 → x ≡ withBit false x f
+unfolding withBit
+release-past x f past = sym (set-out x (f / 8) _ past)

@@ -1,12 +1,13 @@
-// Document 01, "What the guard keeps": the exclusion vector, a bit for each frame, read and set.
-// `excluded` and `exclude` are total: a byte past the vector's end counts as 0 and is not written.
+// Document 01, "What the guard keeps": the exclusion vector, a bit for each frame, read, set and cleared.
+// `excluded`, `exclude` and `release` are total: a byte past the vector's end counts as 0 and is not written.
 
 ghost use mathlib.Core.Path.{_≡_};
-ghost use mathlib.Core.Bool.{true, not};
+ghost use mathlib.Core.Bool.{true, false, not, cond};
 ghost use Prim.Native.Nat.{suc, _-_, _*_, _/_, _≤_, _<_};
+ghost use lib.Dec.{eqb};
 ghost use lib.ListN.{length};
 ghost use Rattle.model.specs.Basics.{bit, everyFrom};
-ghost use Rattle.model.specs.Keeps.{excludedIn, withBit};
+ghost use Rattle.model.specs.Keeps.{excludedIn, byteOf, withBit};
 
 // The bit of a frame that has a byte in the vector, so that no length is tested: question 7 and the limit at F have settled that.
 pub fn excluded_within(exclusion: &[u8], frame: u64) -> bool
@@ -33,6 +34,24 @@ pub fn exclude(exclusion: &mut [u8], frame: u64)
     let at = (frame / 8) as usize;
     if at < exclusion.len() {
         exclusion[at] = exclusion[at] | 1 << (frame % 8);
+    }
+}
+
+// A byte with one bit cleared. The bit is set first, so that its weight can be taken away: a mask, once compiled.
+fn without(byte: u8, k: u64) -> u8
+    requires { ⌜ k < 8 ⌝ }
+    ensures { λ r. ⌜ r ≡ byteOf (λ j. cond (eqb j k) false (bit j byte)) ⌝ }
+{
+    (byte | 1 << k) - (1 << k)
+}
+
+// The opposite of `exclude`.
+pub fn release(exclusion: &mut [u8], frame: u64)
+    ensures { λ _. ⌜ now (exclusion .exit) ≡ withBit false (now (exclusion .entry)) frame ⌝ }
+{
+    let at = (frame / 8) as usize;
+    if at < exclusion.len() {
+        exclusion[at] = without(exclusion[at], frame % 8);
     }
 }
 

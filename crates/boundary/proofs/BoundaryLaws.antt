@@ -11,7 +11,7 @@ use Rattle.model.specs.declared.Called.{Called}
 use Rattle.model.specs.declared.State.{State}
 use Rattle.model.specs.declared.Device.{Device}
 use Rattle.model.specs.Basics.{both}
-use Rattle.model.specs.Keeps.{Tables, withShadow, withExclusion, withThree, guardOf}
+use Rattle.model.specs.Keeps.{Tables, withShadow, withMap, withExclusion, withThree, guardOf}
 use Rattle.model.specs.Devices.{deviceAt}
 use Rattle.model.specs.Questions.{stateInOrder}
 use Rattle.model.specs.Calls.{replyOf, settle, outcomeBy, keptBy, Call, deviceWrite, answer}
@@ -73,6 +73,25 @@ module _ (run numbers : List ℕ) (b : Bool) (call : Call) (asks : b ≡ usable 
         → Says (numbersBy call) (c .answer) r numbers after → run′ ≡ runAfter run (changedBy call) (replyOf (c .answer)) (c .state)
         → (t : Tables) → returned r run′ after (withShadow shadow′ t) ≡ callAt run numbers (withShadow shadow t) call
     shadow-called shadow shadow′ = called s in-run after r (withShadow shadow) (withShadow shadow′)
+
+    -- Of what is pending: all three tables, shadow and map, the vector (K6).
+    pub ask-called : (shadow map exclusion exclusion′ run′ : List ℕ) (c : Called)
+        → ((t : Tables) → outcomeBy c (withThree shadow map exclusion′ t) ≡ answer (guardOf s (withThree shadow map exclusion t)) call)
+        → Says (numbersBy call) (c .answer) r numbers after → run′ ≡ runAfter run (changedBy call) (replyOf (c .answer)) (c .state)
+        → (t : Tables) → returned r run′ after (withThree shadow map exclusion′ t) ≡ callAt run numbers (withThree shadow map exclusion t) call
+    ask-called shadow map exclusion exclusion′ = called s in-run after r (withThree shadow map exclusion) (withThree shadow map exclusion′)
+
+    pub commit-called : (shadow map shadow′ map′ run′ : List ℕ) (c : Called)
+        → ((t : Tables) → outcomeBy c (withShadow shadow′ (withMap map′ t)) ≡ answer (guardOf s (withShadow shadow (withMap map t))) call)
+        → Says (numbersBy call) (c .answer) r numbers after → run′ ≡ runAfter run (changedBy call) (replyOf (c .answer)) (c .state)
+        → (t : Tables) → returned r run′ after (withShadow shadow′ (withMap map′ t)) ≡ callAt run numbers (withShadow shadow (withMap map t)) call
+    commit-called shadow map shadow′ map′ = called s in-run after r (λ t. withShadow shadow (withMap map t)) (λ t. withShadow shadow′ (withMap map′ t))
+
+    pub vector-called : (exclusion exclusion′ run′ : List ℕ) (c : Called)
+        → ((t : Tables) → outcomeBy c (withExclusion exclusion′ t) ≡ answer (guardOf s (withExclusion exclusion t)) call)
+        → Says (numbersBy call) (c .answer) r numbers after → run′ ≡ runAfter run (changedBy call) (replyOf (c .answer)) (c .state)
+        → (t : Tables) → returned r run′ after (withExclusion exclusion′ t) ≡ callAt run numbers (withExclusion exclusion t) call
+    vector-called exclusion exclusion′ = called s in-run after r (withExclusion exclusion) (withExclusion exclusion′)
 
     pub write-kept : (shadow exclusion shadow′ exclusion′ : List ℕ) (a : Answer) → changedBy call ≡ []
         → ((t : Tables) → keptBy a s (withShadow shadow′ (withExclusion exclusion′ t)) ≡ answer (guardOf s (withShadow shadow (withExclusion exclusion t))) call)

@@ -1,14 +1,14 @@
 -- Document 02, K2 and K4: what the exported calls that write a record and that walk a page return and leave, by their numbers run: of two words, of one
--- and of three. The state run, word by word: what a start writes there and what a call reads of it, the number of devices (K5) last.
+-- and of three. The state run, word by word: what a start writes there, and what a call reads of it and writes, the number of devices (K5) and what is pending (K6) last.
 use Prim.Native.Nat.{ℕ}
 use mathlib.Core.List.{List, [], _∷_, _++_}
 use lib.ListN.{replicate, set, take}
-use Rattle.model.specs.Keeps.{tables}
+use Rattle.model.specs.Keeps.{tables, withShadow, withMap, withExclusion}
 use Rattle.model.specs.Policy.{Policy, givenOf}
-use Rattle.model.specs.Calls.{fetch, deviceWrite}
+use Rattle.model.specs.Calls.{fetch, deviceWrite, ask, commit, drop}
 use Rattle.model.specs.Record.{policyBy}
 use Rattle.model.specs.Cases.{Row, row}
-use Rattle.model.specs.Further.{twoEntries, threeDevices, started6}
+use Rattle.model.specs.Further.{twoEntries, threeDevices, shadow6, started6}
 use Rattle.model.specs.Tree.{Tree, treeOf}
 use Rattle.boundary.specs.Boundary.{Returned, returned, startAt, callAt, Recorded, recorded, recordAt, Walked, walked, walkAt}
 
@@ -52,9 +52,9 @@ walkExportCases =
     ∷ row (walkAt shortTable 5 []) (walked 7 [])
     ∷ []
 
--- The state run of the started guard of Further: V, F, e, sixteen entry pages, kernel mode on page 1, and so many devices.
-unfoldable pub runWith : ℕ → List ℕ
-runWith devices = 6 ∷ 8 ∷ 2 ∷ 1 ∷ 2 ∷ (replicate 14 0 ++ (0 ∷ 1 ∷ devices ∷ []))
+-- The state run of the started guard of Further: V, F, e, sixteen entry pages, kernel mode on page 1, so many devices and what is pending.
+unfoldable pub runWith : ℕ → ℕ → ℕ → ℕ → List ℕ
+runWith devices pending page frame = 6 ∷ 8 ∷ 2 ∷ 1 ∷ 2 ∷ (replicate 14 0 ++ (0 ∷ 1 ∷ devices ∷ pending ∷ page ∷ frame ∷ []))
 
 abbrev pub CallExportCase : Type 0
 CallExportCase = Row Returned
@@ -62,20 +62,53 @@ CallExportCase = Row Returned
 unfoldable pub callExportCases : List CallExportCase
 callExportCases =
     -- An accepted start writes every word; a refused one none, and so does one that is lent a run of the old length
-    row (startAt (givenOf 3) twoEntries (replicate 22 9) (9 ∷ 9 ∷ []) (tables (replicate 6 1) (replicate 6 1) (replicate 1 1)))
-    (returned 0 (runWith 3) (3 ∷ 2 ∷ []) (started6 .tables))
-    ∷ row (startAt (givenOf 65) twoEntries (replicate 22 9) (9 ∷ 9 ∷ []) (started6 .tables))
-    (returned 3 (replicate 22 9) (0 ∷ 0 ∷ []) (started6 .tables))
-    ∷ row (startAt (givenOf 3) twoEntries (replicate 21 9) (9 ∷ 9 ∷ []) (started6 .tables))
-    (returned 7 (replicate 21 9) (0 ∷ 0 ∷ []) (started6 .tables))
-    -- A call reads the number of devices in the last word, which is not cut; a run of the old length gives 7
-    ∷ row (callAt (runWith 3) (9 ∷ 9 ∷ []) (started6 .tables) (deviceWrite threeDevices 2 4095 2))
-    (returned 0 (runWith 3) (0 ∷ 1 ∷ []) (started6 .tables))
-    ∷ row (callAt (runWith 65539) (9 ∷ 9 ∷ []) (started6 .tables) (deviceWrite threeDevices 2 4095 2))
-    (returned 7 (runWith 65539) (0 ∷ 0 ∷ []) (started6 .tables))
-    ∷ row (callAt (take 21 (runWith 3)) (9 ∷ 9 ∷ []) (started6 .tables) (fetch 2))
-    (returned 7 (take 21 (runWith 3)) (0 ∷ 0 ∷ []) (started6 .tables))
-    -- A fetch writes the page that runs, and no other word
-    ∷ row (callAt (runWith 3) (9 ∷ 9 ∷ []) (started6 .tables) (fetch 2))
-    (returned 0 (set (runWith 3) 20 2) (3 ∷ 3 ∷ []) (started6 .tables))
+    row (startAt (givenOf 3) twoEntries (replicate 25 9) (9 ∷ 9 ∷ []) (tables (replicate 6 1) (replicate 6 1) (replicate 1 1)))
+    (returned 0 (runWith 3 0 0 0) (3 ∷ 2 ∷ []) (started6 .tables))
+    ∷ row (startAt (givenOf 65) twoEntries (replicate 25 9) (9 ∷ 9 ∷ []) (started6 .tables))
+    (returned 3 (replicate 25 9) (0 ∷ 0 ∷ []) (started6 .tables))
+    ∷ row (startAt (givenOf 3) twoEntries (replicate 22 9) (9 ∷ 9 ∷ []) (started6 .tables))
+    (returned 7 (replicate 22 9) (0 ∷ 0 ∷ []) (started6 .tables))
+    -- A call reads the number of devices, which is not cut; a run of the old length gives 7
+    ∷ row (callAt (runWith 3 0 0 0) (9 ∷ 9 ∷ []) (started6 .tables) (deviceWrite threeDevices 2 4095 2))
+    (returned 0 (runWith 3 0 0 0) (0 ∷ 1 ∷ []) (started6 .tables))
+    ∷ row (callAt (runWith 65539 0 0 0) (9 ∷ 9 ∷ []) (started6 .tables) (deviceWrite threeDevices 2 4095 2))
+    (returned 7 (runWith 65539 0 0 0) (0 ∷ 0 ∷ []) (started6 .tables))
+    ∷ row (callAt (take 22 (runWith 3 0 0 0)) (9 ∷ 9 ∷ []) (started6 .tables) (fetch 2))
+    (returned 7 (take 22 (runWith 3 0 0 0)) (0 ∷ 0 ∷ []) (started6 .tables))
+    -- A fetch writes the page that runs, and no other word: the pair's words are not read where none is pending, and stay
+    ∷ row (callAt (runWith 3 0 6 65536) (9 ∷ 9 ∷ []) (started6 .tables) (fetch 2))
+    (returned 0 (set (runWith 3 0 6 65536) 20 2) (3 ∷ 3 ∷ []) (started6 .tables))
+    ∷ row (callAt (runWith 3 1 0 6) (9 ∷ 9 ∷ []) (started6 .tables) (fetch 2))
+    (returned 0 (set (runWith 3 1 0 6) 20 2) (3 ∷ 3 ∷ []) (started6 .tables))
+    -- An ask writes what is pending, over whatever stood there; a refused one no word
+    ∷ row (callAt (runWith 3 0 6 65536) (9 ∷ 9 ∷ []) (started6 .tables) (ask 3 6))
+    (returned 0 (runWith 3 1 3 6) (0 ∷ 0 ∷ []) (withExclusion (0x68 ∷ []) (started6 .tables)))
+    ∷ row (callAt (runWith 3 1 3 6) (9 ∷ 9 ∷ []) (started6 .tables) (ask 0 7))
+    (returned 20 (runWith 3 1 3 6) (0 ∷ 0 ∷ []) (started6 .tables))
+    -- Neither a page nor a frame of an ask is cut
+    ∷ row (callAt (runWith 3 0 0 0) (9 ∷ 9 ∷ []) (started6 .tables) (ask 65539 6))
+    (returned 9 (runWith 3 0 0 0) (0 ∷ 0 ∷ []) (started6 .tables))
+    ∷ row (callAt (runWith 3 0 0 0) (9 ∷ 9 ∷ []) (started6 .tables) (ask 3 65542))
+    (returned 9 (runWith 3 0 0 0) (0 ∷ 0 ∷ []) (started6 .tables))
+    -- A commit and a drop write 0 to all three words
+    ∷ row (callAt (runWith 3 1 3 6) (9 ∷ 9 ∷ []) (started6 .tables) commit)
+    (returned 0 (runWith 3 0 0 0) (1 ∷ 1 ∷ []) (withShadow (set shadow6 3 0x6401) (withMap (65535 ∷ 5 ∷ 3 ∷ 6 ∷ 5 ∷ 65535 ∷ []) (started6 .tables))))
+    ∷ row (callAt (runWith 3 1 3 6) (9 ∷ 9 ∷ []) (withExclusion (0x68 ∷ []) (started6 .tables)) drop)
+    (returned 0 (runWith 3 0 0 0) (0 ∷ 0 ∷ []) (started6 .tables))
+    -- With nothing pending they write none
+    ∷ row (callAt (runWith 3 0 6 65536) (9 ∷ 9 ∷ []) (started6 .tables) commit)
+    (returned 22 (runWith 3 0 6 65536) (0 ∷ 0 ∷ []) (started6 .tables))
+    ∷ row (callAt (runWith 3 0 6 65536) (9 ∷ 9 ∷ []) (started6 .tables) drop)
+    (returned 22 (runWith 3 0 6 65536) (0 ∷ 0 ∷ []) (started6 .tables))
+    -- A pending word of 2, and a pair with a page or a frame out of range or too wide, give 7
+    ∷ row (callAt (runWith 3 2 3 6) (9 ∷ 9 ∷ []) (started6 .tables) (fetch 2))
+    (returned 7 (runWith 3 2 3 6) (0 ∷ 0 ∷ []) (started6 .tables))
+    ∷ row (callAt (runWith 3 1 6 6) (9 ∷ 9 ∷ []) (started6 .tables) (fetch 2))
+    (returned 7 (runWith 3 1 6 6) (0 ∷ 0 ∷ []) (started6 .tables))
+    ∷ row (callAt (runWith 3 1 3 8) (9 ∷ 9 ∷ []) (started6 .tables) (fetch 2))
+    (returned 7 (runWith 3 1 3 8) (0 ∷ 0 ∷ []) (started6 .tables))
+    ∷ row (callAt (runWith 3 1 65539 6) (9 ∷ 9 ∷ []) (started6 .tables) (fetch 2))
+    (returned 7 (runWith 3 1 65539 6) (0 ∷ 0 ∷ []) (started6 .tables))
+    ∷ row (callAt (runWith 3 1 3 65542) (9 ∷ 9 ∷ []) (started6 .tables) (fetch 2))
+    (returned 7 (runWith 3 1 3 65542) (0 ∷ 0 ∷ []) (started6 .tables))
     ∷ []

@@ -5,7 +5,7 @@ ghost use mathlib.Core.List.{List};
 ghost use Prim.Native.Nat.{_<_};
 ghost use mathlib.Core.Path.{_≡_};
 ghost use lib.ListN;
-ghost use Rattle.model.specs.Keeps.{Tables, tables, withShadow, withExclusion, withThree};
+ghost use Rattle.model.specs.Keeps.{Tables, tables, withShadow, withMap, withExclusion, withThree};
 ghost use Rattle.model.specs.Policy.{givenOf, policyOf};
 ghost use Rattle.model.specs.Questions.{firstNo, recordQuestions};
 ghost use Rattle.model.specs.Calls;
@@ -265,6 +265,50 @@ pub fn device_write(
         length,
     );
     words::reply(numbers, answer)
+}
+
+// Asks for the approval of a frame for a page (K6).
+pub fn ask(
+    state: &mut [u64],
+    shadow: &[u64],
+    map: &[u16],
+    exclusion: &mut [u8],
+    page: u64,
+    frame: u64,
+    numbers: &mut [u64],
+) -> u64
+    ensures { λ r. ⌜ ((t : Tables) → returned r (now (state .exit)) (now (numbers .exit)) (withThree (now (shadow .entry)) (now (map .entry)) (now (exclusion .exit)) t)
+        ≡ callAt (now (state .entry)) (now (numbers .entry)) (withThree (now (shadow .entry)) (now (map .entry)) (now (exclusion .entry)) t) (Calls.ask page frame)) ⌝ }
+{
+    if !words::usable(state, numbers, words::NUMBERS) {
+        return words::reply(numbers, Answer::Refused(7));
+    }
+    let called = approvals::ask(words::state_in(state), shadow, map, exclusion, page, frame);
+    words::put_paired(state, numbers, called)
+}
+
+// Commits what is pending (K6).
+pub fn commit(state: &mut [u64], shadow: &mut [u64], map: &mut [u16], numbers: &mut [u64]) -> u64
+    ensures { λ r. ⌜ ((t : Tables) → returned r (now (state .exit)) (now (numbers .exit)) (withShadow (now (shadow .exit)) (withMap (now (map .exit)) t))
+        ≡ callAt (now (state .entry)) (now (numbers .entry)) (withShadow (now (shadow .entry)) (withMap (now (map .entry)) t)) Calls.commit) ⌝ }
+{
+    if !words::usable(state, numbers, words::NUMBERS) {
+        return words::reply(numbers, Answer::Refused(7));
+    }
+    let called = approvals::commit(words::state_in(state), shadow, map);
+    words::put_paired(state, numbers, called)
+}
+
+// Drops what is pending (K6).
+pub fn drop_pending(state: &mut [u64], exclusion: &mut [u8], numbers: &mut [u64]) -> u64
+    ensures { λ r. ⌜ ((t : Tables) → returned r (now (state .exit)) (now (numbers .exit)) (withExclusion (now (exclusion .exit)) t)
+        ≡ callAt (now (state .entry)) (now (numbers .entry)) (withExclusion (now (exclusion .entry)) t) Calls.drop) ⌝ }
+{
+    if !words::usable(state, numbers, words::NUMBERS) {
+        return words::reply(numbers, Answer::Refused(7));
+    }
+    let called = approvals::drop_pending(words::state_in(state), exclusion);
+    words::put_paired(state, numbers, called)
 }
 
 // What writing a record and walking a page return and leave, by their numbers run, and the words of a state run.

@@ -2,3 +2,4 @@
 mod ApartLaws
 mod OrdinaryLaws
 mod SwitchLaws
+mod MapsLaws

@@ -1,12 +1,12 @@
--- An ordinary entry made of a valid kernel entry.
-use Prim.Native.Nat.{ℕ, zero, suc, _+_, _*_, _/_, _%_, _^_, _<_}
+-- An ordinary entry made of a valid kernel entry, and one whose frame is pending.
+use Prim.Native.Nat.{ℕ, zero, suc, _+_, _*_, _/_, _%_, _^_, _≤_, _<_}
 use mathlib.Core.Bool.{Bool, true, false, not, cond, _||_}
 use mathlib.Core.Path.{_≡_, refl, ap, ap₂, _∙_}
 use native.Mathlib.Omega.{arith}
 use lib.Bits.{bitOr, or-block, or-zero-r}
 use Rattle.model.specs.Basics.{bit, either, flag}
-use Rattle.model.specs.Bits.{writable, userBit, writeThrough, cacheDisable, noExecute, frameOf, fieldsOf, valid, ordinaryNoExecute, ordinary}
-use Rattle.model.proofs.VectorLaws.{flag-weight, flag-bit}
+use Rattle.model.specs.Bits.{writable, userBit, writeThrough, cacheDisable, noExecute, frameOf, fieldsOf, valid, ordinaryNoExecute, ordinary, inspected}
+use Rattle.model.proofs.VectorLaws.{flag-weight, flag-small, flag-bit}
 use Rattle.model.proofs.BitLaws.{valid-parts, lowest, lowest-of}
 use Rattle.entry.proofs.ApartLaws.{above-12}
 
@@ -63,3 +63,42 @@ ordinary-is user entry u w h p q r =
     (ap (λ (y : ℕ). bitOr (y * 2 ^ 12 + entry % 2 ^ 5 + t * 2 ^ 9) (cond set (2 ^ 63) 0)) (above-12 entry p)
     ∙ top-set ((t * 2 ^ 51 + f) * 2 ^ 12 + entry % 2 ^ 5 + t * 2 ^ 9) set (bit 63 entry) (high ∙ top)
     ∙ ap₂ (λ (a : ℕ) (b : Bool). a + flag b 63) (low ∙ flags) (ordinary-bit user (bit 63 entry) (bit 2 entry)))
+
+-- One whose frame is pending: bit 1 clear, bits 9 and 63 set.
+parts-pending : (t f r : ℕ) → t < 2 → f < 2 ^ 40 → r < 2 ^ 10
+    → (((t * 2 ^ 51 + f) * 2 ^ 12 + r) / 2 ^ 63 ≡ t) × (((t * 2 ^ 51 + f) * 2 ^ 12 + r) % 2 ^ 63 ≡ r + f * 2 ^ 12)
+parts-pending zero f r a b c = (omega arith, omega arith)
+parts-pending (suc zero) f r a b c = (omega arith, omega arith)
+parts-pending (suc (suc t)) f r a b c = absurd (omega arith)
+
+top-on : (t : Bool) → either t true ≡ true
+unfolding either
+top-on true = refl
+top-on false = refl
+
+-- Bits 2 to 4 of a number by its digits.
+bits-kept : (r w u t c : ℕ) → w ≤ 1 → r ≡ 1 + w * 2 + u * 4 + t * 8 + c * 16 → r / 4 * 4 ≡ u * 4 + t * 8 + c * 16
+bits-kept r w u t c h e = omega arith
+
+pub inspected-fits : (y r : ℕ) → y < 2 ^ 52 → r < 2 ^ 5 → y * 2 ^ 12 + r / 4 * 4 + 1 + 2 ^ 9 < 2 ^ 64
+inspected-fits y r a b = omega arith
+
+pub inspected-is : (entry : ℕ) → entry < 2 ^ 64 → valid entry ≡ true
+    → bitOr (entry / 2 ^ 12 * 2 ^ 12 + entry % 2 ^ 5 / 2 ^ 2 * 2 ^ 2 + 2 ^ 0 + 2 ^ 9) (2 ^ 63) ≡ ordinary true (inspected (fieldsOf entry))
+unfolding ordinary inspected fieldsOf writable userBit writeThrough cacheDisable noExecute frameOf ordinaryNoExecute either flag
+inspected-is entry h p =
+    let t : ℕ = entry / 2 ^ 63 in
+    let f : ℕ = frameOf entry in
+    let r : ℕ = entry % 2 ^ 5 / 4 * 4 + 1 + 2 ^ 9 in
+    let odd : entry % 2 ≡ 1 = (valid-parts entry p) .0 in
+    let top : t ≡ flag (bit 63 entry) 0 = omega (arith, flag-bit 63 entry) in
+    let (high, low) = parts-pending t f r (omega arith) (omega arith) (omega arith) in
+    let shape : entry / 2 ^ 12 * 2 ^ 12 + entry % 2 ^ 5 / 4 * 4 + 1 + 2 ^ 9 ≡ (t * 2 ^ 51 + f) * 2 ^ 12 + r =
+    ap (λ (y : ℕ). y * 2 ^ 12 + entry % 2 ^ 5 / 4 * 4 + 1 + 2 ^ 9) (above-12 entry p) ∙ omega arith in
+    let low-bits : entry % 2 ^ 5 / 4 * 4 ≡ flag (bit 2 entry) 2 + flag (bit 3 entry) 3 + flag (bit 4 entry) 4 =
+    bits-kept (entry % 2 ^ 5) (flag (bit 1 entry) 0) (flag (bit 2 entry) 0) (flag (bit 3 entry) 0) (flag (bit 4 entry) 0) (flag-small (bit 1 entry))
+    (lowest-of entry odd ∙ omega (arith, flag-weight (bit 1 entry) 1, flag-weight (bit 2 entry) 2, flag-weight (bit 3 entry) 3, flag-weight (bit 4 entry) 4))
+    ∙ omega (arith, flag-weight (bit 2 entry) 2, flag-weight (bit 3 entry) 3, flag-weight (bit 4 entry) 4) in
+    ap (λ (x : ℕ). bitOr x (2 ^ 63)) shape
+    ∙ top-set ((t * 2 ^ 51 + f) * 2 ^ 12 + r) true (bit 63 entry) (high ∙ top)
+    ∙ omega (arith, low, low-bits, ap (λ (b : Bool). flag b 63) (top-on (bit 63 entry)))

@@ -1,6 +1,6 @@
-// Document 01, "Entry bits", with requests K1 and K3: the bits of kernel and shadow entries, kernel entries taken apart, shadow entries made and
+// Document 01, "Entry bits", with requests K1, K3 and K6: the bits of kernel and shadow entries, kernel entries taken apart, shadow entries made and
 // switched.
-// Every function gives what its definition in the model gives; two ask for a kernel entry that is valid.
+// Every function gives what its definition in the model gives; three ask for a kernel entry that is valid.
 
 use model::Entry;
 use model::Fields;
@@ -9,7 +9,8 @@ ghost use mathlib.Core.Bool.{true, cond, not};
 ghost use Prim.Native.Nat.{_+_, _*_, _/_, _%_, _^_, _<_, _≤_};
 ghost use lib.Bits.{bitXor};
 ghost use Rattle.model.specs.Basics.{bit, differs, flag};
-ghost use Rattle.model.specs.Bits.{present, writable, userBit, noExecute, kernelNoExecute, approvedMark, frameOf, fieldsOf, valid, takenApart, approved, ordinary};
+ghost use Rattle.model.specs.Bits.{present, writable, userBit, noExecute, kernelNoExecute, approvedMark, frameOf, fieldsOf, valid, takenApart, approved, ordinary, inspected};
+ghost use Rattle.model.specs.Approvals.{maps, mapsWritable};
 ghost use Rattle.model.specs.Switch.{noExecuteIn, switched};
 
 // The weights of the bits. Division and remainder by them are shifts and masks.
@@ -147,6 +148,28 @@ pub fn ordinary_of(user: bool, entry: u64) -> u64
 {
     entry / FRAME * FRAME + entry % COPIED + entry / NO_EXECUTE * KERNEL_NO_EXECUTE
         | weight_if(!user | !user_bit(entry), NO_EXECUTE)
+}
+
+// The entry of a kernel entry whose frame is pending (K6): bits 2 to 4 and the frame as they are, bit 1 clear, bit 9 set. Where bit 9 is set the rule for an
+// ordinary entry sets bit 63 in both modes, so that no mode is asked. As above it asks for a valid entry.
+pub fn inspected_of(entry: u64) -> u64
+    requires { ⌜ valid entry ≡ true ⌝ }
+    ensures { λ r. ⌜ r ≡ ordinary true (inspected (fieldsOf entry)) ⌝ }
+{
+    entry / FRAME * FRAME + entry % COPIED / USER * USER + PRESENT + KERNEL_NO_EXECUTE | NO_EXECUTE
+}
+
+// A present shadow entry has the frame (K6), and one that has it is writable: both parts in one comparison.
+pub fn maps(entry: u64, frame: u16) -> bool
+    ensures { λ r. ⌜ r ≡ maps frame entry ⌝ }
+{
+    entry % WRITABLE + frame_of(entry) * FRAME == PRESENT + frame as u64 * FRAME
+}
+
+pub fn maps_writable(entry: u64, frame: u16) -> bool
+    ensures { λ r. ⌜ r ≡ mapsWritable frame entry ⌝ }
+{
+    entry % USER + frame_of(entry) * FRAME == PRESENT + WRITABLE + frame as u64 * FRAME
 }
 
 // Bit 63 of the result is whether the entry may be executed in the mode: an approved one in kernel mode, an ordinary one in user mode by

@@ -2,10 +2,10 @@
 // include/guard.h documents them. Each promises what the crate below it promises.
 
 ghost use mathlib.Core.Path.{_≡_};
-ghost use Rattle.model.specs.Keeps.{Tables, tables, withShadow, withExclusion, withThree};
+ghost use Rattle.model.specs.Keeps.{Tables, tables, withShadow, withMap, withExclusion, withThree};
 ghost use Rattle.model.specs.Policy.{givenOf};
 ghost use Rattle.model.specs.Tree.{treeOf};
-ghost use Rattle.model.specs.Calls.{syncPage, syncAll, syncPageTree, syncAllTree, fetch, write, enter, leave, deviceWrite};
+ghost use Rattle.model.specs.Calls.{syncPage, syncAll, syncPageTree, syncAllTree, fetch, write, enter, leave, deviceWrite, ask, commit, drop};
 ghost use Rattle.model.specs.Record.{policyBy};
 ghost use Rattle.boundary.specs.Boundary.{returned, startAt, callAt, recorded, recordAt, walked, walkAt};
 use model::Device;
@@ -228,4 +228,44 @@ pub extern "C" fn guard_device_write(
         length,
         numbers,
     )
+}
+
+// Asks for the approval of a frame for a page (K6).
+#[no_mangle]
+pub extern "C" fn guard_ask(
+    state: &mut [u64],
+    shadow: &[u64],
+    map: &[u16],
+    exclusion: &mut [u8],
+    page: u64,
+    frame: u64,
+    numbers: &mut [u64],
+) -> u64
+    ensures { λ r. ⌜ ((t : Tables) → returned r (now (state .exit)) (now (numbers .exit)) (withThree (now (shadow .entry)) (now (map .entry)) (now (exclusion .exit)) t)
+        ≡ callAt (now (state .entry)) (now (numbers .entry)) (withThree (now (shadow .entry)) (now (map .entry)) (now (exclusion .entry)) t) (ask page frame)) ⌝ }
+{
+    boundary::ask(state, shadow, map, exclusion, page, frame, numbers)
+}
+
+// Commits what is pending (K6).
+#[no_mangle]
+pub extern "C" fn guard_commit(
+    state: &mut [u64],
+    shadow: &mut [u64],
+    map: &mut [u16],
+    numbers: &mut [u64],
+) -> u64
+    ensures { λ r. ⌜ ((t : Tables) → returned r (now (state .exit)) (now (numbers .exit)) (withShadow (now (shadow .exit)) (withMap (now (map .exit)) t))
+        ≡ callAt (now (state .entry)) (now (numbers .entry)) (withShadow (now (shadow .entry)) (withMap (now (map .entry)) t)) commit) ⌝ }
+{
+    boundary::commit(state, shadow, map, numbers)
+}
+
+// Drops what is pending (K6).
+#[no_mangle]
+pub extern "C" fn guard_drop(state: &mut [u64], exclusion: &mut [u8], numbers: &mut [u64]) -> u64
+    ensures { λ r. ⌜ ((t : Tables) → returned r (now (state .exit)) (now (numbers .exit)) (withExclusion (now (exclusion .exit)) t)
+        ≡ callAt (now (state .entry)) (now (numbers .entry)) (withExclusion (now (exclusion .entry)) t) drop) ⌝ }
+{
+    boundary::drop_pending(state, exclusion, numbers)
 }

@@ -1,18 +1,19 @@
 -- What the questions of an accepted call, each looked up by its number, say of what the call names. They hold of any view: of the guard's, of
 -- the one-page guards', and of what the functions below a call are lent.
 use Prim.Native.Nat.{ℕ, _+_, _*_, _/_, _≤_, _<_}
-use mathlib.Core.Bool.{Bool, true, false}
+use mathlib.Core.Bool.{Bool, true, false, not}
 use mathlib.Core.Path.{_≡_, refl}
-use lib.Dec.{ltb}
+use lib.Dec.{ltb, eqb}
 use native.Mathlib.Omega.{arith}
 use borrow.Author.Tests.{ltb-true, not-true}
 use Rattle.model.specs.Basics.{both, either}
+use Rattle.model.specs.Keeps.{none, isPending}
 use Rattle.model.specs.Edges.{pageBytes, lastByte, lastPage}
 use Rattle.model.specs.Bits.{present, noExecute, frameOf}
 use Rattle.model.specs.declared.Device.{Device}
 use Rattle.model.specs.Tree.{Tree}
 use Rattle.model.specs.Devices.{inWindow}
-use Rattle.model.specs.Questions.{View, firstNo, syncPageQuestions, syncPageTreeQuestions, fetchPermitted, fetchQuestions, free, everyTouched, writeQuestions, enterQuestions, leaveQuestions, deviceWriteQuestions}
+use Rattle.model.specs.Questions.{View, firstNo, syncPageQuestions, syncPageTreeQuestions, fetchPermitted, fetchQuestions, free, everyTouched, writeQuestions, enterQuestions, leaveQuestions, deviceWriteQuestions, askQuestions, commitQuestions, dropQuestions}
 use Rattle.model.proofs.QuestionLaws.{asked, numbered, all-yes, both-first, both-second, within-low, within-high, within-yes}
 use Rattle.model.proofs.TouchLaws.{touched-at}
 
@@ -99,3 +100,34 @@ module _ (v : View) where
         let high : lastPage address size ≤ d .last =
         within-high (d .first) (d .last) (lastPage address size) (both-second (inWindow d (address / pageBytes)) (inWindow d (lastPage address size)) window-ends) in
         within-yes (d .first) (d .last) (a / pageBytes) (omega arith) (omega arith)
+
+  -- Of an ask (K6): page and frame are in range, nothing is pending, and its frame is not excluded.
+  module _ (page frame : ℕ) (h : firstNo (askQuestions v page frame) ≡ 0) where
+    ask-9 : both (ltb page (v .pages)) (ltb frame (v .frames)) ≡ true
+    unfolding askQuestions asked numbered both either
+    ask-9 = both-first _ _ (all-yes 9 (askQuestions v page frame) refl h)
+
+    ask-20 : both (not (isPending (v .pending))) (both (eqb (v .approval page) none) (not (v .excluded frame))) ≡ true
+    unfolding askQuestions asked numbered both either
+    ask-20 = both-first _ _ (all-yes 20 (askQuestions v page frame) refl h)
+
+    pub ask-page : page < v .pages
+    ask-page = ltb-true page (v .pages) (both-first _ _ ask-9)
+
+    pub ask-frame : frame < v .frames
+    ask-frame = ltb-true frame (v .frames) (both-second (ltb page (v .pages)) (ltb frame (v .frames)) ask-9)
+
+    pub ask-first : isPending (v .pending) ≡ false
+    ask-first = not-true _ (both-first _ _ ask-20)
+
+    pub ask-free : v .excluded frame ≡ false
+    ask-free = not-true _ (both-second (eqb (v .approval page) none) _ (both-second (not (isPending (v .pending))) _ ask-20))
+
+  -- Of a commit and a drop: something is pending.
+  pub commit-pending : firstNo (commitQuestions v) ≡ 0 → isPending (v .pending) ≡ true
+  unfolding commitQuestions asked numbered both either
+  commit-pending h = both-first _ _ (all-yes 22 (commitQuestions v) refl h)
+
+  pub drop-pending : firstNo (dropQuestions v) ≡ 0 → isPending (v .pending) ≡ true
+  unfolding dropQuestions asked numbered both either
+  drop-pending h = both-first _ _ (all-yes 22 (dropQuestions v) refl h)

@@ -1,6 +1,6 @@
 -- Laws of the bits of entries: those of an approved and of an ordinary entry, and those that a mode switch keeps and sets. What is said of several
 -- bits is said once, of the bit.
-use Prim.Native.Nat.{ℕ, suc, _+_, _-_, _*_, _/_, _%_, _^_, _≤_, _<_}
+use Prim.Native.Nat.{ℕ, zero, suc, _+_, _-_, _*_, _/_, _%_, _^_, _≤_, _<_}
 use mathlib.Core.Bool.{Bool, true, false, cond}
 use mathlib.Core.Logic.{_⊎_, inl, inr}
 use mathlib.Core.Path.{_≡_, refl, sym, ap, _∙_}
@@ -12,7 +12,7 @@ use Rattle.model.specs.declared.Entry.{Entry}
 use Rattle.model.specs.declared.Entry.the-variants.{Absent, Present}
 use Rattle.model.specs.declared.Fields.{Fields}
 use Rattle.model.specs.Basics.{bit, flag}
-use Rattle.model.specs.Bits.{present, writable, userBit, writeThrough, cacheDisable, noExecute, frameOf, approvedMark, approvedNoExecute, approved, fieldsOf, reserved, valid, takenApart, ordinaryNoExecute, ordinary}
+use Rattle.model.specs.Bits.{present, writable, userBit, writeThrough, cacheDisable, noExecute, frameOf, approvedMark, approvedNoExecute, approved, fieldsOf, reserved, valid, takenApart, ordinaryNoExecute, ordinary, inspected}
 use Rattle.model.specs.Switch.{noExecuteIn, switched}
 use Rattle.model.specs.Cache.{OrdinaryCarries, SwitchKeeps}
 use Rattle.model.proofs.VectorLaws.{flag-weight, flag-small, flag-test, bits-to}
@@ -159,6 +159,43 @@ module _ (user : Bool) (x : Fields) where
   pub noExecute-ordinary : x .frame < 2 ^ 40 → noExecute (ordinary user x) ≡ ordinaryNoExecute user (x .«no_execute») (x .user)
   unfolding noExecute ordinary
   noExecute-ordinary h = whole-63 (lowest x) (x .frame) _ _ (lowest-lt x) h
+
+  -- Bits 0 to 4, each by its field.
+  ordinary-digits : (k : ℕ) (b : Bool) → ordinary user x % 2 ^ 5 / 2 ^ k % 2 ≡ flag b 0 → k < 5 → bit k (ordinary user x) ≡ b
+  ordinary-digits k b e l =
+      let same : bit k (ordinary user x) ≡ bit k (ordinary user x % 2 ^ 5) = bits-below 5 (ordinary user x) (ordinary user x % 2 ^ 5) (omega arith) k l in
+      same ∙ bit-is k (ordinary user x % 2 ^ 5) b e
+
+  pub present-ordinary : present (ordinary user x) ≡ true
+  unfolding present flag
+  present-ordinary =
+      ordinary-digits 0 true
+      (omega (arith, ordinary-low, flag-is (x .writable) 1, flag-is (x .user) 2, flag-is (x .«write_through») 3, flag-is (x .«cache_disable») 4)) (omega arith)
+
+  pub writable-ordinary : writable (ordinary user x) ≡ x .writable
+  unfolding writable
+  writable-ordinary =
+      ordinary-digits 1 (x .writable)
+      (omega (arith, ordinary-low, flag-is (x .writable) 1, flag-is (x .user) 2, flag-is (x .«write_through») 3, flag-is (x .«cache_disable») 4)) (omega arith)
+
+-- K6: an entry whose frame is pending has bits 2 to 4 as it would have them else.
+same-digit : (k a b : ℕ) → a / 2 ^ k % 2 ≡ b / 2 ^ k % 2 → bit k a ≡ bit k b
+unfolding bit
+same-digit k a b e = rw e refl
+
+bits-2-to-4 : (a b : ℕ) → a % 2 ^ 5 / 4 ≡ b % 2 ^ 5 / 4 → (k : ℕ) → 2 ≤ k → k < 5 → bit k a ≡ bit k b
+bits-2-to-4 a b e zero l h = absurd (omega arith)
+bits-2-to-4 a b e (suc zero) l h = absurd (omega arith)
+bits-2-to-4 a b e (suc (suc zero)) l h = same-digit 2 a b (omega arith)
+bits-2-to-4 a b e (suc (suc (suc zero))) l h = same-digit 3 a b (omega arith)
+bits-2-to-4 a b e (suc (suc (suc (suc zero)))) l h = same-digit 4 a b (omega arith)
+bits-2-to-4 a b e (suc (suc (suc (suc (suc k))))) l h = absurd (omega arith)
+
+pub inspected-keeps : (user : Bool) (x : Fields) (k : ℕ) → 2 ≤ k → k < 5 → bit k (ordinary user (inspected x)) ≡ bit k (ordinary user x)
+unfolding inspected flag
+inspected-keeps user x =
+    bits-2-to-4 (ordinary user (inspected x)) (ordinary user x)
+    (rw (ordinary-low user (inspected x), ordinary-low user x) (omega (arith, flag-is (x .writable) 1, flag-is (x .user) 2, flag-is (x .«write_through») 3, flag-is (x .«cache_disable») 4)))
 
 -- K3: of a valid kernel entry, bits 0 to 4.
 pub ordinary-carries : OrdinaryCarries

@@ -2,15 +2,15 @@
 use Prim.Native.Nat.{ℕ, _≤_, _<_}
 use mathlib.Core.Bool.{Bool, true, false, not}
 use mathlib.Core.Path.{_≡_, refl, sym, ap, _∙_}
+use lib.Dec.{eqb}
 use native.Mathlib.Omega.{arith}
 use lib.Pow.{pow-lt}
 use Rattle.model.specs.declared.Fields.{Fields}
 use Rattle.model.specs.Basics.{bit, both}
-use Rattle.model.specs.Bits.{present, writeThrough, cacheDisable, frameOf, approvedMark, fieldsOf, valid, approved, ordinary}
+use Rattle.model.specs.Bits.{present, writable, writeThrough, cacheDisable, frameOf, approvedMark, fieldsOf, approved, ordinary, inspected}
 use Rattle.model.specs.Sync.{Slot}
-use Rattle.model.specs.Cache.{ApartYields, isOrdinary, StepCarries}
-use Rattle.model.proofs.QuestionLaws.{both-first}
-use Rattle.model.proofs.BitLaws.{bit-above, fields-apart, approvedMark-approved, approved-none, approvedMark-ordinary, ordinary-carries}
+use Rattle.model.specs.Cache.{ApartYields, isOrdinary, StepCarries, StepWrites}
+use Rattle.model.proofs.BitLaws.{bit-above, fields-apart, approvedMark-approved, approved-none, present-ordinary, writable-ordinary, approvedMark-ordinary, inspected-keeps, ordinary-carries}
 use Rattle.model.proofs.ClaimPages.{step-cases}
 
 pub apart-yields : ApartYields
@@ -25,10 +25,10 @@ unfolding both
 marked true c d p = rw p
 marked false c d p = refl
 
--- A shadow entry that a step may leave: 0, an approved one and an ordinary one.
-module _ (entry k : ℕ) (l : 1 ≤ k) (h : k < 5) where
+-- A shadow entry that a step may leave: 0, an approved one, an ordinary one and one whose frame is pending. Of bit k of it, by a bit that it may carry.
+module _ (k : ℕ) (b : Bool) (l : 1 ≤ k) (h : k < 5) where
   Carries : ℕ → Type 0
-  Carries shadow = bit k shadow ≡ both (isOrdinary shadow) (bit k entry)
+  Carries shadow = bit k shadow ≡ both (isOrdinary shadow) b
 
   absent : Carries 0
   unfolding Carries bit both present
@@ -37,18 +37,30 @@ module _ (entry k : ℕ) (l : 1 ≤ k) (h : k < 5) where
   mapped : (user : Bool) (f : ℕ) → Carries (approved user f)
   unfolding Carries
   mapped user f =
-      approved-none user f k l (omega arith)
-      ∙ marked (present (approved user f)) (bit k entry) (approvedMark (approved user f)) (approvedMark-approved user f)
+      approved-none user f k l (omega arith) ∙ marked (present (approved user f)) b (approvedMark (approved user f)) (approvedMark-approved user f)
 
-  plain : (user : Bool) → valid entry ≡ true → Carries (ordinary user (fieldsOf entry))
-  unfolding Carries present valid both
-  plain user p =
-      let there : bit 0 (ordinary user (fieldsOf entry)) ≡ true = ordinary-carries user entry 0 p (omega arith) ∙ both-first (bit 0 entry) _ p in
-      rw (there, approvedMark-ordinary user (fieldsOf entry)) (ordinary-carries user entry k p (omega arith))
+  plain : (user : Bool) (x : Fields) → bit k (ordinary user x) ≡ b → Carries (ordinary user x)
+  unfolding Carries both
+  plain user x e = rw (present-ordinary user x, approvedMark-ordinary user x) e
 
 pub step-carries : StepCarries
 unfolding Carries
 step-carries rules entry approval k l h =
-    step-cases (λ (s : Slot). Carries entry k l h (s .entry)) rules entry approval (absent entry k l h)
-    (λ e. mapped entry k l h (rules .user) approval) (λ m e. mapped entry k l h (rules .user) (frameOf entry))
-    (λ p m e. plain entry k l h (rules .user) p)
+    let low : 1 ≤ k = omega arith in
+    step-cases (λ (s : Slot). Carries k (bit k entry) low h (s .entry)) rules entry approval (absent k _ low h)
+    (λ e. mapped k _ low h (rules .user) approval)
+    (λ p m e. plain k _ low h (rules .user) (inspected (fieldsOf entry)) (inspected-keeps (rules .user) (fieldsOf entry) k l h ∙ ordinary-carries (rules .user) entry k p h))
+    (λ m o e. mapped k _ low h (rules .user) (frameOf entry))
+    (λ p m o. plain k _ low h (rules .user) (fieldsOf entry) (ordinary-carries (rules .user) entry k p h))
+
+-- Bit 1: a pending frame clears it.
+pub step-writes : StepWrites
+unfolding Carries both inspected writable
+step-writes rules entry approval =
+    let low : 1 ≤ 1 = omega arith in
+    let h : 1 < 5 = omega arith in
+    step-cases (λ (s : Slot). Carries 1 (both (not (eqb (frameOf entry) (rules .pending))) (bit 1 entry)) low h (s .entry)) rules entry approval (absent 1 _ low h)
+    (λ e. mapped 1 _ low h (rules .user) approval)
+    (λ p m e. plain 1 _ low h (rules .user) (inspected (fieldsOf entry)) (rw e (writable-ordinary (rules .user) (inspected (fieldsOf entry)))))
+    (λ m o e. mapped 1 _ low h (rules .user) (frameOf entry))
+    (λ p m o. plain 1 _ low h (rules .user) (fieldsOf entry) (rw o (ordinary-carries (rules .user) entry 1 p h)))

@@ -8,9 +8,9 @@ use native.Mathlib.Omega.{arith}
 use borrow.Author.Tests.{not-true, not-false}
 use Rattle.model.specs.declared.Answer.the-variants.{Refused}
 use Rattle.model.specs.declared.Called.{Called}
-use Rattle.model.specs.Keeps.{Guard, running, inMode}
-use Rattle.model.specs.Questions.{Question, question, firstNo, View, seen, stateInOrder, syncPageQuestions, syncAllQuestions, syncPageTreeQuestions, syncAllTreeQuestions, fetchQuestions, writeQuestions, enterQuestions, leaveQuestions, deviceWriteQuestions}
-use Rattle.model.specs.Calls.{replyOf, settle, Outcome, outcomeBy, refusedOf, Call, syncPage, syncAll, syncPageTree, syncAllTree, fetch, write, enter, leave, deviceWrite, broughtBy, questionsOf, pageSynced, allSynced, pageFrom, allFrom, switchTo, effectOf, answer}
+use Rattle.model.specs.Keeps.{Guard, running, inMode, withPending}
+use Rattle.model.specs.Questions.{Question, question, firstNo, View, seen, stateInOrder, syncPageQuestions, syncAllQuestions, syncPageTreeQuestions, syncAllTreeQuestions, fetchQuestions, writeQuestions, enterQuestions, leaveQuestions, deviceWriteQuestions, askQuestions, commitQuestions, dropQuestions}
+use Rattle.model.specs.Calls.{replyOf, settle, Outcome, outcomeBy, refusedOf, Call, syncPage, syncAll, syncPageTree, syncAllTree, fetch, write, enter, leave, deviceWrite, ask, commit, drop, broughtBy, questionsOf, pageSynced, allSynced, pageFrom, allFrom, switchTo, bitPut, pairCommitted, effectOf, answer}
 use Rattle.model.proofs.QuestionLaws.{firstNo-yes, firstNo-no, settle-accepted}
 use Rattle.model.proofs.StateLaws.{running-modeOf, state-no}
 use Rattle.model.proofs.AcceptedLaws.{fetch-page, enter-page, leave-page}
@@ -49,7 +49,7 @@ module _ (g : Guard) (call : Call) where
 
 -- A state that is not in order: every call refuses it with 7, whatever else it asks.
 pub state-refused : (v : View) (call : Call) → v .stateFits ≡ false → firstNo (questionsOf v call) ≡ 7
-unfolding questionsOf syncPageQuestions syncAllQuestions syncPageTreeQuestions syncAllTreeQuestions fetchQuestions writeQuestions enterQuestions leaveQuestions deviceWriteQuestions
+unfolding questionsOf syncPageQuestions syncAllQuestions syncPageTreeQuestions syncAllTreeQuestions fetchQuestions writeQuestions enterQuestions leaveQuestions deviceWriteQuestions askQuestions commitQuestions dropQuestions
 state-refused v (syncPage kernel page) p = firstNo-no 7 _ (state-no _ _ p)
 state-refused v (syncAll kernel) p = firstNo-no 7 _ (state-no _ _ p)
 state-refused v (syncPageTree tree page) p = firstNo-no 7 _ (state-no _ _ p)
@@ -59,10 +59,13 @@ state-refused v (write address length) p = firstNo-no 7 _ (state-no _ _ p)
 state-refused v (enter index) p = firstNo-no 7 _ (state-no _ _ p)
 state-refused v (leave page) p = firstNo-no 7 _ (state-no _ _ p)
 state-refused v (deviceWrite devices device address size) p = firstNo-no 7 _ (state-no _ _ p)
+state-refused v (ask page frame) p = firstNo-no 7 _ (state-no _ _ p)
+state-refused v commit p = firstNo-no 7 _ (state-no _ _ p)
+state-refused v drop p = firstNo-no 7 _ (state-no _ _ p)
 
 -- An accepted call has no number, and says that it is allowed.
 pub effect-reply : (g : Guard) (call : Call) → ((effectOf g call) .reply .number ≡ 0) × ((effectOf g call) .reply .allowed ≡ true)
-unfolding effectOf pageFrom allFrom pageSynced allSynced switchTo
+unfolding effectOf pageFrom allFrom pageSynced allSynced switchTo bitPut pairCommitted
 effect-reply g (syncPage kernel page) = (refl, refl)
 effect-reply g (syncAll kernel) = (refl, refl)
 effect-reply g (syncPageTree tree page) = (refl, refl)
@@ -72,10 +75,14 @@ effect-reply g (write address length) = (refl, refl)
 effect-reply g (enter index) = (refl, refl)
 effect-reply g (leave page) = (refl, refl)
 effect-reply g (deviceWrite devices device address size) = (refl, refl)
+effect-reply g (ask page frame) = (refl, refl)
+effect-reply g commit = (refl, refl)
+effect-reply g drop = (refl, refl)
 
--- An accepted call changes the mode of the state alone, and a page that runs then is below V, where one ran below V before.
-pub effect-state : (g : Guard) (call : Call) → effectOf g call .guard .state ≡ inMode (g .state) (effectOf g call .guard .state .mode)
-unfolding effectOf pageFrom allFrom pageSynced allSynced switchTo inMode
+-- An accepted call changes the mode of the state and what is pending alone, and a page that runs then is below V, where one ran below V before.
+pub effect-state : (g : Guard) (call : Call)
+    → effectOf g call .guard .state ≡ withPending (inMode (g .state) (effectOf g call .guard .state .mode)) (effectOf g call .guard .state .pending)
+unfolding effectOf pageFrom allFrom pageSynced allSynced switchTo bitPut pairCommitted inMode withPending
 effect-state g (syncPage kernel page) = refl
 effect-state g (syncAll kernel) = refl
 effect-state g (syncPageTree tree page) = refl
@@ -85,10 +92,13 @@ effect-state g (write address length) = refl
 effect-state g (enter index) = refl
 effect-state g (leave page) = refl
 effect-state g (deviceWrite devices device address size) = refl
+effect-state g (ask page frame) = refl
+effect-state g commit = refl
+effect-state g drop = refl
 
 pub effect-runs : (g : Guard) (call : Call) (limit : ℕ) → g .state .pages ≤ limit → running (g .state .mode) < limit
     → firstNo (questionsOf (seen g) call) ≡ 0 → running (effectOf g call .guard .state .mode) < limit
-unfolding questionsOf effectOf pageFrom allFrom pageSynced allSynced switchTo inMode running
+unfolding questionsOf effectOf pageFrom allFrom pageSynced allSynced switchTo bitPut pairCommitted inMode withPending running
 effect-runs g (syncPage kernel page) limit few now passed = now
 effect-runs g (syncAll kernel) limit few now passed = now
 effect-runs g (syncPageTree tree page) limit few now passed = now
@@ -98,6 +108,9 @@ effect-runs g (write address length) limit few now passed = now
 effect-runs g (enter index) limit few now passed = let b : getD (g .state .«entry_pages») index 0 < g .state .pages = enter-page (seen g) index passed in omega arith
 effect-runs g (leave page) limit few now passed = let b : page < g .state .pages = leave-page (seen g) page passed in omega arith
 effect-runs g (deviceWrite devices device address size) limit few now passed = now
+effect-runs g (ask page frame) limit few now passed = now
+effect-runs g commit limit few now passed = now
+effect-runs g drop limit few now passed = now
 
 pub answer-unfit : (g : Guard) (call : Call) → stateInOrder (g .state) ≡ false → answer g call ≡ refusedOf g (broughtBy call) 7
 unfolding answer

@@ -1,32 +1,41 @@
 -- Demand 3: an accepted call does to each page what its one-page guard is told, and keeps what always holds.
 use Prim.Native.Nat.{ℕ, _≤_, _<_}
-use mathlib.Core.Bool.{Bool, true, false, cond}
+use mathlib.Core.Bool.{Bool, true, false, cond, true≢false}
 use mathlib.Core.List.{List}
-use mathlib.Core.Path.{_≡_, refl, sym, subst, _∙_}
+use mathlib.Core.Path.{_≡_, refl, sym, ap, subst, fun-ext, _∙_}
 use lib.ListN.{length, getD, length-set, List·getD-eq-default}
 use lib.Seq.{getD-set-same, getD-set-other}
 use lib.Dec.{ltb, eqb}
 use native.Mathlib.Nat.{add-zero}
 use native.Mathlib.Omega.{arith}
-use borrow.Author.Tests.{ltb-true, ltb-false, eqb-true, eqb-false}
+use borrow.Author.Tests.{lt-ltb, ltb-true, ltb-false, eq-eqb, eqb-true, eqb-false}
+use Rattle.model.specs.declared.Pending.{Pending}
+use Rattle.model.specs.declared.Pending.the-variants.{Nothing, Pair}
 use Rattle.model.specs.declared.Mode.{Mode}
 use Rattle.model.specs.declared.Mode.the-variants.{Kernel, User}
-use Rattle.model.specs.Keeps.{none, withShadow, withMap, Guard, guardOf, inUser, running, modeOf, inMode}
-use Rattle.model.specs.Policy.{Policy}
+use Rattle.model.specs.Basics.{bit, both, either}
+use Rattle.model.specs.Bits.{present}
+use Rattle.model.specs.Keeps.{none, Tables, withShadow, withMap, withExclusion, Guard, guardOf, vectorBytes, excludedIn, withBit, inUser, running, modeOf, isPending, pendingFrame, isAsked, inMode, withPending}
+use Rattle.model.specs.Policy.{Policy, named}
 use Rattle.model.specs.Tree.{flatAt}
-use Rattle.model.specs.Sync.{Slot, step, entryIn, stepFrom, Sweep, sweepFrom}
+use Rattle.model.specs.Sync.{Slot, slot, step, entryIn, stepFrom, Sweep, sweepFrom}
 use Rattle.model.specs.Switch.{switchedAll}
-use Rattle.model.specs.Calls.{Call, syncPage, syncAll, syncPageTree, syncAllTree, fetch, write, enter, leave, deviceWrite, questionsOf, rulesOf, pageSynced, allSynced, pageFrom, allFrom, switchTo, effectOf}
-use Rattle.model.specs.OnePage.{synchronised, nothing, seenBy, settled, stepped, switchedPage, told, newsOfOne, newsOfAll, news}
-use Rattle.model.specs.Claim.{Carried, carriedAfter}
-use Rattle.model.proofs.StateLaws.{inUser-modeOf, running-modeOf, state-parts, frames-few, mode-fits}
-use Rattle.model.proofs.ClaimPages.{Good, told-good}
+use Rattle.model.specs.Questions.{View, pendingInRange}
+use Rattle.model.specs.Calls.{Call, syncPage, syncAll, syncPageTree, syncAllTree, fetch, write, enter, leave, deviceWrite, ask, commit, drop, settle, questionsOf, rulesOf, pageSynced, allSynced, pageFrom, allFrom, switchTo, bitPut, pairCommitted, effectOf}
+use Rattle.model.specs.OnePage.{Page, withPair, synchronised, nothing, seenBy, settled, stepped, switchedPage, excludedWith, askedPage, committedPage, droppedPage, told, newsOfOne, newsOfAll, news}
+use Rattle.model.specs.Approvals.{maps, committedSlot}
+use Rattle.model.specs.Terms.{Terms, pendingTerm, afterDrop, termAfter, termsAfter, inTerm, isCommitted, protected, code}
+use Rattle.model.proofs.QuestionLaws.{both-yes, either-second}
+use Rattle.model.proofs.StateLaws.{inUser-modeOf, running-modeOf, state-parts, frames-few, mode-fits, pending-fits}
+use Rattle.model.proofs.ClaimPages.{Good, good-more, Allows, told-good}
 use Rattle.model.proofs.SweepLaws.{sweep-shadow-length, sweep-map-length, sweep-at}
 use Rattle.model.proofs.SwitchLaws.{length-switched, switched-at}
-use Rattle.model.proofs.AcceptedLaws.{syncPage-page, syncPageTree-page, fetch-page, enter-page, leave-page}
+use Rattle.model.proofs.AcceptedLaws.{syncPage-page, syncPageTree-page, fetch-page, enter-page, leave-page, ask-page, ask-frame, ask-first, ask-free, commit-pending, drop-pending}
+use Rattle.model.proofs.VectorLaws.{byte-below, withBit-length, excluded-withBit}
+use Rattle.model.proofs.TermLaws.{isWaiting, awaited, commit-in, commit-over, commit-code, drop-over, drop-in, drop-out, drop-code, term-code, code-term, term-named, term-none, awaited-none, awaited-is, awaited-other, awaited-below, pending-below, asked-below, waiting-in}
 use Rattle.model.proofs.ClaimKept.{Kept, pageOf}
 
-module _ (policy : Policy) (carried : Carried) (g : Guard) (h : Kept policy carried g) where
+module _ (policy : Policy) (terms : Terms) (g : Guard) (h : Kept policy terms g) where
   -- A synchronised page is as its one-page guard is told, if the tables have the step's slot at it.
   stepped-at : (shadow map : List ℕ) (p k : ℕ)
       → getD shadow p 0 ≡ (step (rulesOf (g .state) (g .tables .exclusion)) k (getD (g .tables .map) p none)) .entry
@@ -87,10 +96,67 @@ module _ (policy : Policy) (carried : Carried) (g : Guard) (h : Kept policy carr
         at false e =
             past-kept (after .shadow) (after .map) p (ltb-false p (policy .pages) e) (sweep-shadow-length f 0 (g .tables .shadow) (g .tables .map) ∙ h .shadowLength) (sweep-map-length f 0 (g .tables .shadow) (g .tables .map) ∙ h .mapLength)
 
+  -- The pending pair is below V and F.
+  pair-fits : pendingInRange (policy .pages) (policy .frames) (g .state .pending) ≡ true
+  pair-fits = rw (h .pages, h .frames) at (state-parts (g .state) (h .fits) .pending)
+
+  pending-small : isPending (g .state .pending) ≡ true → pendingFrame (g .state .pending) < policy .frames
+  pending-small = pending-below (policy .pages) (policy .frames) (g .state .pending) pair-fits
+
+  -- A frame below F has a bit, and a frame's bit set or cleared is told as that frame excluded, or not.
+  bit-put : (b : Bool) (frame : ℕ) → frame < policy .frames → (f : ℕ)
+      → excludedIn (withBit b (g .tables .exclusion) frame) f ≡ excludedWith b frame (excludedIn (g .tables .exclusion)) f
+  unfolding excludedWith
+  bit-put b frame small = excluded-withBit b (g .tables .exclusion) frame (rw (h .exclusionLength) (byte-below (policy .frames) frame small))
+
+  bit-commutes : (b : Bool) (frame : ℕ) (pending : Pending) (p : ℕ) → frame < policy .frames
+      → withPair (pageOf g p) (excludedWith b frame (excludedIn (g .tables .exclusion))) (pendingFrame pending) (isAsked pending p)
+      ≡ pageOf ((bitPut g b frame pending) .guard) p
+  unfolding bitPut withPending
+  bit-commutes b frame pending p small = rw (fun-ext (bit-put b frame small)) refl
+
+  -- A commit, of a page below V and past it, where no page was asked for.
+  committing : ℕ → ℕ → ℕ → Slot
+  committing q entry approval = committedSlot (inUser (g .state .mode)) (pendingFrame (g .state .pending)) (isAsked (g .state .pending) q) entry approval
+
+  past-unasked : (p : ℕ) → policy .pages ≤ p → isAsked (g .state .pending) p ≡ false
+  past-unasked p past = by (isAsked (g .state .pending) p) refl
+    where
+      by : (b : Bool) → isAsked (g .state .pending) p ≡ b → b ≡ false
+      by true e = absurd (omega (arith, asked-below (policy .pages) (policy .frames) (g .state .pending) pair-fits p e))
+      by false e = refl
+
+  past-slot : (p : ℕ) → policy .pages ≤ p → committing p 0 none ≡ slot 0 none
+  unfolding committing committedSlot maps either both present bit
+  past-slot p past = rw (past-unasked p past) refl
+
+  commit-commutes : (p : ℕ) → committedPage (pageOf g p) ≡ pageOf ((pairCommitted g) .guard) p
+  unfolding committing committedPage pairCommitted withPending pendingFrame isAsked
+  commit-commutes p = at (ltb p (policy .pages)) refl
+    where
+      f : ℕ → ℕ → ℕ → Slot
+      f = committing
+
+      after : Sweep
+      after = sweepFrom f 0 (g .tables .shadow) (g .tables .map)
+
+      at : (b : Bool) → ltb p (policy .pages) ≡ b → committedPage (pageOf g p) ≡ pageOf ((pairCommitted g) .guard) p
+      at true e =
+          let below : p < policy .pages = ltb-true p (policy .pages) e in
+          let there = rw add-zero at (sweep-at f 0 (g .tables .shadow) (g .tables .map) p 0 none (omega (arith, h .shadowLength)) (omega (arith, h .mapLength))) in
+          rw (there .0, there .1) refl
+      at false e =
+          let past : policy .pages ≤ p = ltb-false p (policy .pages) e in
+          let entry : getD (g .tables .shadow) p 0 ≡ 0 = List·getD-eq-default (g .tables .shadow) 0 (omega (arith, h .shadowLength)) in
+          let approval : getD (g .tables .map) p none ≡ none = List·getD-eq-default (g .tables .map) none (omega (arith, h .mapLength)) in
+          let entry′ : getD (after .shadow) p 0 ≡ 0 = List·getD-eq-default (after .shadow) 0 (omega (arith, sweep-shadow-length f 0 (g .tables .shadow) (g .tables .map), h .shadowLength)) in
+          let approval′ : getD (after .map) p none ≡ none = List·getD-eq-default (after .map) none (omega (arith, sweep-map-length f 0 (g .tables .shadow) (g .tables .map), h .mapLength)) in
+          rw (entry, approval, entry′, approval′, past-slot p past) refl
+
   -- Each accepted call, as the one-page guards are told of it.
   pub commutes : (call : Call) → settled policy (pageOf g) g call ≡ 0 → (p : ℕ)
       → told policy (pageOf g p) (news policy p call) ≡ pageOf ((effectOf g call) .guard) p
-  unfolding news told settled questionsOf effectOf switchTo inMode inUser switchedPage
+  unfolding news told settled questionsOf effectOf switchTo inMode inUser switchedPage askedPage droppedPage pendingFrame isAsked
   commutes (syncPage kernel page) passed p = one-commutes (entryIn kernel) page (syncPage-page (seenBy policy (pageOf g) g) (length kernel) page passed) p
   commutes (syncAll kernel) passed p = all-commutes (entryIn kernel) p
   commutes (syncPageTree tree page) passed p = one-commutes (flatAt tree) page (syncPageTree-page (seenBy policy (pageOf g) g) tree page passed) p
@@ -100,18 +166,47 @@ module _ (policy : Policy) (carried : Carried) (g : Guard) (h : Kept policy carr
   commutes (enter index) passed p = rw switched-at
   commutes (leave page) passed p = rw switched-at
   commutes (deviceWrite devices device address size) passed p = refl
+  commutes (ask page frame) passed p = bit-commutes true frame (Pair page frame) p (ask-frame (seenBy policy (pageOf g) g) page frame passed)
+  commutes commit passed p = commit-commutes p
+  commutes drop passed p =
+      bit-commutes false (pendingFrame (g .state .pending)) Nothing p (pending-small (drop-pending (seenBy policy (pageOf g) g) passed))
 
-  -- Every page stays good.
-  good-after : (call : Call) → settled policy (pageOf g) g call ≡ 0 → (p : ℕ) → Good (carried .code) (pageOf ((effectOf g call) .guard) p)
-  good-after call passed p =
-      subst (Good (carried .code)) (commutes call passed p)
-      (told-good policy (carried .code) (pageOf g p) (news policy p call) (rw (h .frames) at (frames-few (g .state) (h .fits))) (h .below)
-      (λ f e. h .code f (sym (h .excluded f) ∙ e)) (h .good p))
+  -- Every page stays good, where there is as much code as before and the pending frame is code after a commit.
+  most : policy .frames ≤ 4096
+  most = rw (h .frames) at (frames-few (g .state) (h .fits))
+
+  joins-code : (f : ℕ) → excludedIn (g .tables .exclusion) f ≡ true → eqb f (pendingFrame (g .state .pending)) ≡ false → code policy terms f ≡ true
+  unfolding code protected
+  joins-code f e other = term-code (named policy f) (terms f) (sym (h .excluded f) ∙ e) (h .waiting f ∙ awaited-other (g .state .pending) f other)
+
+  good-with : (code′ : ℕ → Bool) → ((f : ℕ) → code policy terms f ≡ true → code′ f ≡ true) → ((f : ℕ) → code′ f ≡ true → f < policy .frames)
+      → (call : Call) → settled policy (pageOf g) g call ≡ 0 → ((p : ℕ) → Allows code′ (pageOf g p) (news policy p call))
+      → (p : ℕ) → Good code′ (pageOf ((effectOf g call) .guard) p)
+  good-with code′ more below′ call passed allows p =
+      subst (Good code′) (commutes call passed p)
+      (told-good policy code′ (pageOf g p) (news policy p call) most below′ (λ f e other. more f (joins-code f e other)) (allows p)
+      (good-more (code policy terms) code′ (pageOf g p) more (h .good p)))
+
+  good-after : (call : Call) → settled policy (pageOf g) g call ≡ 0 → ((p : ℕ) → Allows (code policy terms) (pageOf g p) (news policy p call))
+      → (p : ℕ) → Good (code policy terms) (pageOf ((effectOf g call) .guard) p)
+  good-after = good-with (code policy terms) (λ f e. e) (h .below)
+
+  allows-sync : (page : Page) (b : Bool) (k : ℕ) → Allows (code policy terms) page (cond b (synchronised k) nothing)
+  allows-sync page true k = tt
+  allows-sync page false k = tt
+
+  allows-one : (kernel : ℕ → ℕ) (page p : ℕ) → Allows (code policy terms) (pageOf g p) (newsOfOne p kernel page)
+  unfolding newsOfOne
+  allows-one kernel page p = allows-sync (pageOf g p) (eqb p page) (kernel p)
+
+  allows-all : (kernel : ℕ → ℕ) (p : ℕ) → Allows (code policy terms) (pageOf g p) (newsOfAll policy p kernel)
+  unfolding newsOfAll
+  allows-all kernel p = allows-sync (pageOf g p) (ltb p (policy .pages)) (kernel p)
 
   -- What always holds is kept by another mode on a page below V and by tables of the same lengths, if every page stays good.
   kept-with : (mode : Mode) (shadow map : List ℕ) → running mode < policy .pages → length shadow ≡ policy .pages → length map ≡ policy .pages
       → let after : Guard = guardOf (inMode (g .state) mode) (withShadow shadow (withMap map (g .tables))) in
-      ((p : ℕ) → Good (carried .code) (pageOf after p)) → Kept policy carried after
+      ((p : ℕ) → Good (code policy terms) (pageOf after p)) → Kept policy terms after
   unfolding inMode
   kept-with mode shadow map runs shadowLength mapLength good =
       record {
@@ -124,8 +219,34 @@ module _ (policy : Policy) (carried : Carried) (g : Guard) (h : Kept policy carr
         mapLength = mapLength;
         exclusionLength = h .exclusionLength;
         excluded = h .excluded;
-        code = h .code;
+        waiting = h .waiting;
+        apart = h .apart;
         below = h .below;
+        good = good;
+      }
+
+  -- And by another pair, or none, with tables of the same lengths, if what is said of frames holds with the terms then.
+  kept-pair : (terms′ : Terms) (pending : Pending) (t : Tables) → pendingInRange (policy .pages) (policy .frames) pending ≡ true
+      → length (t .shadow) ≡ length (g .tables .shadow) → length (t .map) ≡ length (g .tables .map) → length (t .exclusion) ≡ length (g .tables .exclusion)
+      → ((f : ℕ) → excludedIn (t .exclusion) f ≡ protected policy terms′ f) → ((f : ℕ) → isWaiting (terms′ f) ≡ awaited pending f)
+      → ((f : ℕ) → isWaiting (terms′ f) ≡ true → named policy f ≡ false) → ((f : ℕ) → code policy terms′ f ≡ true → f < policy .frames)
+      → let after : Guard = guardOf (withPending (g .state) pending) t in
+      ((p : ℕ) → Good (code policy terms′) (pageOf after p)) → Kept policy terms′ after
+  unfolding withPending
+  kept-pair terms′ pending t fits shadowLength mapLength exclusionLength excluded waiting apart below good =
+      record {
+        pages = h .pages;
+        frames = h .frames;
+        entryCount = h .entryCount;
+        entryPages = h .entryPages;
+        fits = pending-fits (g .state) pending (h .fits) (rw (h .pages, h .frames) fits);
+        shadowLength = shadowLength ∙ h .shadowLength;
+        mapLength = mapLength ∙ h .mapLength;
+        exclusionLength = exclusionLength ∙ h .exclusionLength;
+        excluded = excluded;
+        waiting = waiting;
+        apart = apart;
+        below = below;
         good = good;
       }
 
@@ -133,33 +254,132 @@ module _ (policy : Policy) (carried : Carried) (g : Guard) (h : Kept policy carr
   now-runs = rw (h .pages) at (state-parts (g .state) (h .fits) .running-below)
 
   -- A synchronisation keeps it.
-  one-kept : (kernel : ℕ → ℕ) (page : ℕ) → ((p : ℕ) → Good (carried .code) (pageOf ((pageFrom g kernel page) .guard) p))
-      → Kept policy carried ((pageFrom g kernel page) .guard)
+  one-kept : (kernel : ℕ → ℕ) (page : ℕ) → ((p : ℕ) → Good (code policy terms) (pageOf ((pageFrom g kernel page) .guard) p))
+      → Kept policy terms ((pageFrom g kernel page) .guard)
   unfolding pageFrom pageSynced inMode
   one-kept kernel page good =
       kept-with (g .state .mode) _ _ now-runs (length-set (g .tables .shadow) page _ ∙ h .shadowLength) (length-set (g .tables .map) page _ ∙ h .mapLength) good
 
-  all-kept : (kernel : ℕ → ℕ) → ((p : ℕ) → Good (carried .code) (pageOf ((allFrom g kernel) .guard) p)) → Kept policy carried ((allFrom g kernel) .guard)
+  all-kept : (kernel : ℕ → ℕ) → ((p : ℕ) → Good (code policy terms) (pageOf ((allFrom g kernel) .guard) p)) → Kept policy terms ((allFrom g kernel) .guard)
   unfolding allFrom allSynced inMode
   all-kept kernel good =
       kept-with (g .state .mode) _ _ now-runs (sweep-shadow-length _ 0 (g .tables .shadow) (g .tables .map) ∙ h .shadowLength)
       (sweep-map-length _ 0 (g .tables .shadow) (g .tables .map) ∙ h .mapLength) good
 
+  -- The pending frame is protected, and every protected frame is below F.
+  pending-protected : isPending (g .state .pending) ≡ true → protected policy terms (pendingFrame (g .state .pending)) ≡ true
+  unfolding protected
+  pending-protected there =
+      let frame : ℕ = pendingFrame (g .state .pending) in
+      either-second (named policy frame) (waiting-in (terms frame) (h .waiting frame ∙ awaited-is (g .state .pending) frame there ∙ eq-eqb frame frame refl))
+
+  protected-below : (f : ℕ) → protected policy terms f ≡ true → f < policy .frames
+  unfolding protected code
+  protected-below f e = by (isWaiting (terms f)) refl
+    where
+      by : (b : Bool) → isWaiting (terms f) ≡ b → f < policy .frames
+      by true w = awaited-below (policy .pages) (policy .frames) (g .state .pending) pair-fits f (sym (h .waiting f) ∙ w)
+      by false w = h .below f (term-code (named policy f) (terms f) e w)
+
   -- Every accepted call keeps what always holds.
-  pub kept : (call : Call) → settled policy (pageOf g) g call ≡ 0 → Kept policy (carriedAfter 0 call (pageOf g) carried) ((effectOf g call) .guard)
-  unfolding carriedAfter settled questionsOf effectOf pageFrom allFrom pageSynced allSynced switchTo inMode running inUser
-  kept (syncPage kernel page) passed = one-kept (entryIn kernel) page (good-after (syncPage kernel page) passed)
-  kept (syncAll kernel) passed = all-kept (entryIn kernel) (good-after (syncAll kernel) passed)
-  kept (syncPageTree tree page) passed = one-kept (flatAt tree) page (good-after (syncPageTree tree page) passed)
-  kept (syncAllTree tree) passed = all-kept (flatAt tree) (good-after (syncAllTree tree) passed)
+  pub kept : (call : Call) → settled policy (pageOf g) g call ≡ 0 → Kept policy (termsAfter 0 call terms) ((effectOf g call) .guard)
+  unfolding termsAfter termAfter settle news settled questionsOf effectOf pageFrom allFrom pageSynced allSynced switchTo bitPut pairCommitted inMode running inUser pendingInRange isWaiting awaited protected code inTerm isCommitted either excludedWith
+  kept (syncPage kernel page) passed = one-kept (entryIn kernel) page (good-after (syncPage kernel page) passed (allows-one (entryIn kernel) page))
+  kept (syncAll kernel) passed = all-kept (entryIn kernel) (good-after (syncAll kernel) passed (allows-all (entryIn kernel)))
+  kept (syncPageTree tree page) passed = one-kept (flatAt tree) page (good-after (syncPageTree tree page) passed (allows-one (flatAt tree) page))
+  kept (syncAllTree tree) passed = all-kept (flatAt tree) (good-after (syncAllTree tree) passed (allows-all (flatAt tree)))
   kept (fetch page) passed =
       kept-with (modeOf (inUser (g .state .mode)) page) (g .tables .shadow) (g .tables .map)
-      (rw running-modeOf (fetch-page (seenBy policy (pageOf g) g) page passed)) (h .shadowLength) (h .mapLength) (good-after (fetch page) passed)
+      (rw running-modeOf (fetch-page (seenBy policy (pageOf g) g) page passed)) (h .shadowLength) (h .mapLength) (good-after (fetch page) passed (λ p. tt))
   kept (write address size) passed = h
   kept (enter index) passed =
       kept-with (Kernel (getD (g .state .«entry_pages») index 0)) (switchedAll false (g .tables .shadow)) (g .tables .map)
-      (rw (h .entryPages) (enter-page (seenBy policy (pageOf g) g) index passed)) (length-switched false (g .tables .shadow) ∙ h .shadowLength) (h .mapLength) (good-after (enter index) passed)
+      (rw (h .entryPages) (enter-page (seenBy policy (pageOf g) g) index passed)) (length-switched false (g .tables .shadow) ∙ h .shadowLength) (h .mapLength) (good-after (enter index) passed (λ p. tt))
   kept (leave page) passed =
       kept-with (User page) (switchedAll true (g .tables .shadow)) (g .tables .map) (leave-page (seenBy policy (pageOf g) g) page passed) (length-switched true (g .tables .shadow) ∙ h .shadowLength)
-      (h .mapLength) (good-after (leave page) passed)
+      (h .mapLength) (good-after (leave page) passed (λ p. tt))
   kept (deviceWrite devices device address size) passed = h
+  kept (ask page frame) passed =
+      kept-pair (termsAfter 0 (ask page frame) terms) (Pair page frame) _ pair-in refl refl (withBit-length true (g .tables .exclusion) frame) excluded waiting apart below
+      (good-with _ more below (ask page frame) passed (λ p. tt))
+    where
+      v : View
+      v = seenBy policy (pageOf g) g
+
+      pair-in : pendingInRange (policy .pages) (policy .frames) (Pair page frame) ≡ true
+      pair-in = both-yes (lt-ltb page (policy .pages) (ask-page v page frame passed)) (lt-ltb frame (policy .frames) (ask-frame v page frame passed))
+
+      free : protected policy terms frame ≡ false
+      free = sym (h .excluded frame) ∙ ask-free v page frame passed
+
+      excluded : (f : ℕ) → excludedIn (withBit true (g .tables .exclusion) frame) f ≡ protected policy (termsAfter 0 (ask page frame) terms) f
+      excluded f = bit-put true frame (ask-frame v page frame passed) f ∙ by (eqb f frame) refl
+        where
+          by : (b : Bool) → eqb f frame ≡ b → cond b true (excludedIn (g .tables .exclusion) f) ≡ either (named policy f) (inTerm (cond b pendingTerm (terms f)))
+          by true e = sym (either-second (named policy f) refl)
+          by false e = h .excluded f
+
+      waiting : (f : ℕ) → isWaiting (cond (eqb f frame) pendingTerm (terms f)) ≡ eqb f frame
+      waiting f = by (eqb f frame)
+        where
+          by : (b : Bool) → isWaiting (cond b pendingTerm (terms f)) ≡ b
+          by true = refl
+          by false = h .waiting f ∙ awaited-none (g .state .pending) f (ask-first v page frame passed)
+
+      apart : (f : ℕ) → isWaiting (cond (eqb f frame) pendingTerm (terms f)) ≡ true → named policy f ≡ false
+      apart f w =
+          rw (eqb-true f frame (sym (waiting f) ∙ w)) (term-named (named policy frame) (terms frame) free)
+
+      below : (f : ℕ) → code policy (termsAfter 0 (ask page frame) terms) f ≡ true → f < policy .frames
+      below f = by (eqb f frame) refl
+        where
+          by : (b : Bool) → eqb f frame ≡ b → either (named policy f) (isCommitted (cond b pendingTerm (terms f))) ≡ true → f < policy .frames
+          by true e c = rw (eqb-true f frame e) (ask-frame v page frame passed)
+          by false e c = h .below f c
+
+      more : (f : ℕ) → code policy terms f ≡ true → code policy (termsAfter 0 (ask page frame) terms) f ≡ true
+      more f = by (eqb f frame) refl
+        where
+          by : (b : Bool) → eqb f frame ≡ b → code policy terms f ≡ true → either (named policy f) (isCommitted (cond b pendingTerm (terms f))) ≡ true
+          by true e c = absurd (true≢false (sym (rw (eqb-true f frame e) at (code-term (named policy f) (terms f) c)) ∙ free))
+          by false e c = c
+  kept commit passed =
+      kept-pair (termsAfter 0 commit terms) Nothing _ refl (sweep-shadow-length _ 0 (g .tables .shadow) (g .tables .map)) (sweep-map-length _ 0 (g .tables .shadow) (g .tables .map)) refl
+      (λ f. h .excluded f ∙ sym (ap (either (named policy f)) (commit-in (terms f)))) (λ f. commit-over (terms f))
+      (λ f w. absurd (true≢false (sym w ∙ commit-over (terms f)))) below
+      (good-with _ more below commit passed (λ p. now-code))
+    where
+      code-is : (f : ℕ) → code policy (termsAfter 0 commit terms) f ≡ protected policy terms f
+      code-is f = ap (either (named policy f)) (commit-code (terms f))
+
+      below : (f : ℕ) → code policy (termsAfter 0 commit terms) f ≡ true → f < policy .frames
+      below f c = protected-below f (sym (code-is f) ∙ c)
+
+      more : (f : ℕ) → code policy terms f ≡ true → code policy (termsAfter 0 commit terms) f ≡ true
+      more f c = code-is f ∙ code-term (named policy f) (terms f) c
+
+      there : isPending (g .state .pending) ≡ true
+      there = commit-pending (seenBy policy (pageOf g) g) passed
+
+      now-code : code policy (termsAfter 0 commit terms) (pendingFrame (g .state .pending)) ≡ true
+      now-code = code-is _ ∙ pending-protected there
+  kept drop passed =
+      kept-pair (termsAfter 0 drop terms) Nothing _ refl refl refl (withBit-length false (g .tables .exclusion) frame) excluded (λ f. drop-over (terms f))
+      (λ f w. absurd (true≢false (sym w ∙ drop-over (terms f)))) (λ f c. h .below f (sym (code-is f) ∙ c))
+      (good-with _ (λ f c. code-is f ∙ c) (λ f c. h .below f (sym (code-is f) ∙ c)) drop passed (λ p. tt))
+    where
+      frame : ℕ
+      frame = pendingFrame (g .state .pending)
+
+      there : isPending (g .state .pending) ≡ true
+      there = drop-pending (seenBy policy (pageOf g) g) passed
+
+      code-is : (f : ℕ) → code policy (termsAfter 0 drop terms) f ≡ code policy terms f
+      code-is f = ap (either (named policy f)) (drop-code (terms f))
+
+      excluded : (f : ℕ) → excludedIn (withBit false (g .tables .exclusion) frame) f ≡ protected policy (termsAfter 0 drop terms) f
+      excluded f = bit-put false frame (pending-small there) f ∙ by (eqb f frame) (h .waiting f ∙ awaited-is (g .state .pending) f there)
+        where
+          by : (b : Bool) → isWaiting (terms f) ≡ b → cond b false (excludedIn (g .tables .exclusion) f) ≡ either (named policy f) (inTerm (afterDrop (terms f)))
+          by true w = sym (rw (h .apart f w) (drop-out (terms f) w))
+          by false w = h .excluded f ∙ sym (ap (either (named policy f)) (drop-in (terms f) w))

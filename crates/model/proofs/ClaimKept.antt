@@ -1,16 +1,17 @@
 -- Demand 3: what is always true of the guard after an accepted start, and the one-page guards that its tables show. The questions of a call
 -- see the same through both, so that the guard's answer is the one that they settle.
 use Prim.Native.Nat.{ℕ, _<_}
-use mathlib.Core.Bool.{true}
+use mathlib.Core.Bool.{true, false}
 use mathlib.Core.Path.{_≡_, sym, ap, _∙_}
 use lib.ListN.{length, getD}
 use borrow.Author.Tests.{eq-eqb}
-use Rattle.model.specs.Keeps.{none, Guard, vectorBytes, excludedIn, inUser}
-use Rattle.model.specs.Policy.{Policy, entryPages}
+use Rattle.model.specs.Keeps.{none, Guard, vectorBytes, excludedIn, inUser, pendingFrame, isAsked}
+use Rattle.model.specs.Policy.{Policy, named, entryPages}
 use Rattle.model.specs.Questions.{View, firstNo, seen, stateInOrder}
 use Rattle.model.specs.Calls.{settle, refusedOf, broughtBy, Call, questionsOf, effectOf, answer}
 use Rattle.model.specs.OnePage.{Page, seenBy, settled}
-use Rattle.model.specs.Claim.{Carried}
+use Rattle.model.specs.Terms.{Terms, protected, code}
+use Rattle.model.proofs.TermLaws.{isWaiting, awaited}
 use Rattle.model.proofs.ClaimPages.{Good}
 
 -- The one-page guard of a page, as the tables show it: in the proof only. Beyond V it reads 0 and 65535.
@@ -21,10 +22,12 @@ pageOf g p =
       entry = getD (g .tables .shadow) p 0;
       approval = getD (g .tables .map) p none;
       excluded = excludedIn (g .tables .exclusion);
+      pending = pendingFrame (g .state .pending);
+      own = isAsked (g .state .pending) p;
     }
 
--- What holds of the guard after the start and after every call. What a later call excludes changes `excluded` and `code` alone.
-pub record Kept (policy : Policy) (carried : Carried) (g : Guard) : Type 0 where
+-- What holds of the guard after the start and after every call. What a later call excludes or approves changes the fields about frames alone.
+pub record Kept (policy : Policy) (terms : Terms) (g : Guard) : Type 0 where
   -- the state's sizes and entry pages are the policy's
   pub pages : g .state .pages ≡ policy .pages
   pub frames : g .state .frames ≡ policy .frames
@@ -36,14 +39,17 @@ pub record Kept (policy : Policy) (carried : Carried) (g : Guard) : Type 0 where
   pub shadowLength : length (g .tables .shadow) ≡ policy .pages
   pub mapLength : length (g .tables .map) ≡ policy .pages
   pub exclusionLength : length (g .tables .exclusion) ≡ vectorBytes (policy .frames)
-  -- the excluded frames are the protected ones, and all of them are frames of code, which are below F
-  pub excluded : (f : ℕ) → excludedIn (g .tables .exclusion) f ≡ carried .protected f
-  pub code : (f : ℕ) → carried .protected f ≡ true → carried .code f ≡ true
-  pub below : (f : ℕ) → carried .code f ≡ true → f < policy .frames
+  -- the excluded frames are the protected ones: the policy's, the committed ones and the pending one
+  pub excluded : (f : ℕ) → excludedIn (g .tables .exclusion) f ≡ protected policy terms f
+  -- the frame whose term is pending is the state's pending frame, and none of the policy's
+  pub waiting : (f : ℕ) → isWaiting (terms f) ≡ awaited (g .state .pending) f
+  pub apart : (f : ℕ) → isWaiting (terms f) ≡ true → named policy f ≡ false
+  -- the frames of code are below F
+  pub below : (f : ℕ) → code policy terms f ≡ true → f < policy .frames
   -- every page is good
-  pub good : (p : ℕ) → Good (carried .code) (pageOf g p)
+  pub good : (p : ℕ) → Good (code policy terms) (pageOf g p)
 
-module _ (policy : Policy) (carried : Carried) (g : Guard) (h : Kept policy carried g) where
+module _ (policy : Policy) (terms : Terms) (g : Guard) (h : Kept policy terms g) where
   -- The questions see the same in the tables as in the one-page guards.
   same-view : seen g ≡ seenBy policy (pageOf g) g
   same-view i =
@@ -53,6 +59,7 @@ module _ (policy : Policy) (carried : Carried) (g : Guard) (h : Kept policy carr
         entryCount = h .entryCount i;
         entryPage = λ n. getD (h .entryPages i) n 0;
         devices = g .state .devices;
+        pending = g .state .pending;
         user = inUser (g .state .mode);
         shadow = λ p. getD (g .tables .shadow) p 0;
         approval = λ p. getD (g .tables .map) p none;

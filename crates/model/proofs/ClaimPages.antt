@@ -9,13 +9,14 @@ use borrow.Author.Tests.{leb-false, ne-eqb, not-true}
 use mathlib.Core.Logic.{_⊎_, inl, inr}
 use Rattle.model.specs.declared.Entry.the-variants.{Absent, Present}
 use Rattle.model.specs.declared.Fields.{Fields}
-use Rattle.model.specs.Basics.{bit}
+use Rattle.model.specs.Basics.{bit, both, either}
 use Rattle.model.specs.Keeps.{none}
 use Rattle.model.specs.Policy.{Policy}
-use Rattle.model.specs.Bits.{present, noExecute, frameOf, approvedMark, fieldsOf, valid, takenApart, approvedNoExecute, approved, ordinaryNoExecute, ordinary}
+use Rattle.model.specs.Bits.{present, noExecute, frameOf, approvedMark, fieldsOf, valid, takenApart, approvedNoExecute, approved, ordinaryNoExecute, ordinary, inspected}
 use Rattle.model.specs.Sync.{Rules, rules, Slot, slot, stepOf, step}
 use Rattle.model.specs.Switch.{noExecuteIn}
-use Rattle.model.specs.OnePage.{Page, withSlot, News, synchronised, entered, exited, nothing, switchedPage, stepped, told}
+use Rattle.model.specs.Approvals.{maps, committedSlot}
+use Rattle.model.specs.OnePage.{Page, withSlot, withPair, News, synchronised, entered, exited, asked, committed, dropped, nothing, switchedPage, stepped, askedPage, committedPage, droppedPage, told}
 use Rattle.model.proofs.BitLaws.{taken-apart, present-valid, approvedMark-approved, frameOf-approved, approvedMark-ordinary, noExecute-ordinary, present-switched, approvedMark-switched, frameOf-switched, noExecute-switched}
 
 -- A good page: its approval, if it has one, is a frame of code; an entry with bits 0 and 10 has its approval for its frame; and in kernel
@@ -74,16 +75,18 @@ cond-cases : {A : Type 0} (P : A → Type 0) (b : Bool) {x y : A} → (b ≡ tru
 cond-cases P true p q = p refl
 cond-cases P false p q = q refl
 
--- Steps 1 to 5: the slot that a step gives has a property if an absent entry has it, an approved one with the map's frame, an approved one
--- with an excluded frame, and an ordinary one.
+-- Steps 1 to 5: the slot that a step gives has a property if an absent entry has it, an approved one with the map's frame, one with the pending
+-- frame, an approved one with an excluded frame, and an ordinary one.
 pub step-cases : (P : Slot → Type 0) (rules : Rules) (k a : ℕ)
     → P (slot 0 a)
     → (eqb a none ≡ false → P (slot (approved (rules .user) a) a))
-    → (frameOf k < rules .frames → rules .excluded (frameOf k) ≡ true → P (slot (approved (rules .user) (frameOf k)) (frameOf k)))
-    → (valid k ≡ true → frameOf k < rules .frames → rules .excluded (frameOf k) ≡ false → P (slot (ordinary (rules .user) (fieldsOf k)) a))
+    → (valid k ≡ true → frameOf k < rules .frames → eqb (frameOf k) (rules .pending) ≡ true → P (slot (ordinary (rules .user) (inspected (fieldsOf k))) a))
+    → (frameOf k < rules .frames → eqb (frameOf k) (rules .pending) ≡ false → rules .excluded (frameOf k) ≡ true
+    → P (slot (approved (rules .user) (frameOf k)) (frameOf k)))
+    → (valid k ≡ true → frameOf k < rules .frames → eqb (frameOf k) (rules .pending) ≡ false → P (slot (ordinary (rules .user) (fieldsOf k)) a))
     → P (step rules k a)
 unfolding step fieldsOf stepOf
-step-cases P rules k a absent mapped joins plain = by (taken-apart k)
+step-cases P rules k a absent mapped waits joins plain = by (taken-apart k)
   where
     by : (takenApart k ≡ Absent) ⊎ (takenApart k ≡ Present (fieldsOf k)) → P (stepOf rules (takenApart k) a)
     by (inl e) = rw e absent
@@ -92,18 +95,21 @@ step-cases P rules k a absent mapped joins plain = by (taken-apart k)
         (cond-cases P (not (eqb a none)) (λ e. mapped (not-true (eqb a none) e)) (λ e.
         cond-cases P (leb (rules .frames) (frameOf k)) (λ e. absent) (λ e.
         let below : frameOf k < rules .frames = leb-false (rules .frames) (frameOf k) e in
-        cond-cases P (rules .excluded (frameOf k)) (joins below) (plain (present-valid k (fieldsOf k) there) below))))
+        let there-valid : valid k ≡ true = present-valid k (fieldsOf k) there in
+        cond-cases P (eqb (frameOf k) (rules .pending)) (waits there-valid below) (λ other.
+        cond-cases P (rules .excluded (frameOf k)) (joins below other) (λ e. plain there-valid below other)))))
 
--- A synchronisation keeps a page good, if code is below F and every excluded frame is code.
+-- A synchronisation keeps a page good, if code is below F and every excluded frame but the pending one is code.
 pub stepped-good : (policy : Policy) (code : ℕ → Bool) (page : Page) (k : ℕ) → policy .frames ≤ 4096
-    → ((f : ℕ) → code f ≡ true → f < policy .frames) → ((f : ℕ) → page .excluded f ≡ true → code f ≡ true)
+    → ((f : ℕ) → code f ≡ true → f < policy .frames) → ((f : ℕ) → page .excluded f ≡ true → eqb f (page .pending) ≡ false → code f ≡ true)
     → Good code page → Good code (stepped policy page k)
-unfolding stepped fieldsOf
+unfolding stepped fieldsOf inspected
 stepped-good policy code page k most below excluded h =
-    step-cases (λ p. Good code (withSlot page p)) (rules (page .user) (policy .frames) (page .excluded)) k (page .approval)
+    step-cases (λ p. Good code (withSlot page p)) (rules (page .user) (policy .frames) (page .pending) (page .excluded)) k (page .approval)
     (good-absent code page (page .approval) (h .approval))
     (λ e. good-approved code page (page .approval) (h .approval e) (omega (arith, below (page .approval) (h .approval e))))
-    (λ l e. good-approved code page (frameOf k) (excluded (frameOf k) e) (omega arith))
+    (λ p l e. good-ordinary code page (inspected (fieldsOf k)) (page .approval) (omega arith) (h .approval))
+    (λ l o e. good-approved code page (frameOf k) (excluded (frameOf k) e o) (omega arith))
     (λ p l e. good-ordinary code page (fieldsOf k) (page .approval) (omega arith) (h .approval))
 
 -- In kernel mode the rule for bit 63 clears it for an approved mark only.
@@ -128,12 +134,42 @@ switched-good user code page h =
           rw approvedMark-switched (clear-marked (page .entry) (rw u at ruled));
     }
 
+-- Other excluded frames and another pending one keep a page good, and so does more code.
+pub good-pair : (code : ℕ → Bool) (page : Page) (excluded : ℕ → Bool) (pending : ℕ) (own : Bool) → Good code page → Good code (withPair page excluded pending own)
+good-pair code page excluded pending own h =
+    record { approval = h .approval; marked = h .marked; frame = h .frame; executable = h .executable }
+
+pub good-more : (code code′ : ℕ → Bool) (page : Page) → ((f : ℕ) → code f ≡ true → code′ f ≡ true) → Good code page → Good code′ page
+good-more code code′ page more h =
+    record { approval = λ e. more (page .approval) (h .approval e); marked = h .marked; frame = h .frame; executable = h .executable }
+
+-- A commit keeps a page good, if the pending frame is code.
+committed-good : (code : ℕ → Bool) (page : Page) → code (page .pending) ≡ true → page .pending < 4096 → Good code page → Good code (committedPage page)
+unfolding committedPage committedSlot
+committed-good code page is small h =
+    good-pair code _ (page .excluded) none false
+    (cond-cases (λ (p : Slot). Good code (withSlot page p)) (either (page .own) (both (eqb (page .approval) none) (maps (page .pending) (page .entry))))
+    (λ e. good-approved code page (page .pending) is small) (λ e. h))
+
+-- What a commit needs besides: that the pending frame is code then.
+abbrev pub Allows : (ℕ → Bool) → Page → News → Type 0
+Allows code page (synchronised k) = Unit {0}
+Allows code page entered = Unit {0}
+Allows code page exited = Unit {0}
+Allows code page (asked own frame) = Unit {0}
+Allows code page committed = code (page .pending) ≡ true
+Allows code page dropped = Unit {0}
+Allows code page nothing = Unit {0}
+
 -- Everything that a one-page guard is told keeps it good.
 pub told-good : (policy : Policy) (code : ℕ → Bool) (page : Page) (n : News) → policy .frames ≤ 4096
-    → ((f : ℕ) → code f ≡ true → f < policy .frames) → ((f : ℕ) → page .excluded f ≡ true → code f ≡ true)
-    → Good code page → Good code (told policy page n)
-unfolding told
-told-good policy code page (synchronised k) most below excluded h = stepped-good policy code page k most below excluded h
-told-good policy code page entered most below excluded h = switched-good false code page h
-told-good policy code page exited most below excluded h = switched-good true code page h
-told-good policy code page nothing most below excluded h = h
+    → ((f : ℕ) → code f ≡ true → f < policy .frames) → ((f : ℕ) → page .excluded f ≡ true → eqb f (page .pending) ≡ false → code f ≡ true)
+    → Allows code page n → Good code page → Good code (told policy page n)
+unfolding told askedPage droppedPage
+told-good policy code page (synchronised k) most below excluded allows h = stepped-good policy code page k most below excluded h
+told-good policy code page entered most below excluded allows h = switched-good false code page h
+told-good policy code page exited most below excluded allows h = switched-good true code page h
+told-good policy code page (asked own frame) most below excluded allows h = good-pair code page _ _ _ h
+told-good policy code page committed most below excluded allows h = committed-good code page allows (omega (arith, below (page .pending) allows)) h
+told-good policy code page dropped most below excluded allows h = good-pair code page _ _ _ h
+told-good policy code page nothing most below excluded allows h = h

@@ -12,17 +12,18 @@ use Rattle.model.specs.Policy.{Policy}
 use Rattle.model.specs.Bits.{frameOf}
 use Rattle.model.specs.Devices.{deviceAt}
 use Rattle.model.specs.Questions.{free}
-use Rattle.model.specs.Calls.{Call, syncPage, syncAll, syncPageTree, syncAllTree, fetch, write, enter, leave, deviceWrite, questionsOf, effectOf}
+use Rattle.model.specs.Calls.{Call, syncPage, syncAll, syncPageTree, syncAllTree, fetch, write, enter, leave, deviceWrite, ask, commit, drop, questionsOf, effectOf}
 use Rattle.model.specs.OnePage.{seenBy, settled}
-use Rattle.model.specs.Claim.{Carried, Clear, coveredBy, Safe}
+use Rattle.model.specs.Claim.{Clear, coveredBy, Safe}
+use Rattle.model.specs.Terms.{Terms, code}
 use Rattle.model.proofs.QuestionLaws.{both-first, both-second}
 use Rattle.model.proofs.ClaimPages.{good-code}
 use Rattle.model.proofs.AcceptedLaws.{fetch-there, fetch-executable, write-free, deviceWrite-free, deviceWrite-windowed}
 use Rattle.model.proofs.ClaimKept.{Kept, pageOf}
 
-module _ (policy : Policy) (carried : Carried) (g : Guard) (h : Kept policy carried g) where
+module _ (policy : Policy) (terms : Terms) (g : Guard) (h : Kept policy terms g) where
   -- Any byte of a frame that question 13 lets pass is clear.
-  free-clear : (f x : ℕ) → free (seenBy policy (pageOf g) g) f ≡ true → x / pageBytes ≡ f → Clear policy carried x
+  free-clear : (f x : ℕ) → free (seenBy policy (pageOf g) g) f ≡ true → x / pageBytes ≡ f → Clear policy terms x
   unfolding free
   free-clear f x passed e =
       let below : f < policy .frames = ltb-true f (policy .frames) (both-first _ _ passed) in
@@ -32,7 +33,7 @@ module _ (policy : Policy) (carried : Carried) (g : Guard) (h : Kept policy carr
       }
 
   -- Every accepted call is safe.
-  pub safe : (call : Call) → settled policy (pageOf g) g call ≡ 0 → Safe policy carried (pageOf g) call ((effectOf g call) .reply)
+  pub safe : (call : Call) → settled policy (pageOf g) g call ≡ 0 → Safe policy terms (pageOf g) call ((effectOf g call) .reply)
   unfolding settled questionsOf effectOf coveredBy lastPage lastByte
   safe (syncPage kernel page) passed = tt
   safe (syncAll kernel) passed = tt
@@ -42,8 +43,8 @@ module _ (policy : Policy) (carried : Carried) (g : Guard) (h : Kept policy carr
       record {
         first = refl;
         second = refl;
-        code = λ kernel.
-            good-code (carried .code) (pageOf g page) (h .good page) kernel (fetch-there (seenBy policy (pageOf g) g) page passed)
+        approved = λ kernel.
+            good-code (code policy terms) (pageOf g page) (h .good page) kernel (fetch-there (seenBy policy (pageOf g) g) page passed)
             (fetch-executable (seenBy policy (pageOf g) g) page passed);
       }
   safe (write address size) passed =
@@ -62,3 +63,6 @@ module _ (policy : Policy) (carried : Carried) (g : Guard) (h : Kept policy carr
         bytes = λ a l m. free-clear (a / pageBytes) a (deviceWrite-free v (length devices) (deviceAt devices device) device address size passed a l m) refl;
         windowed = λ a l m. deviceWrite-windowed v (length devices) (deviceAt devices device) device address size passed a l m;
       }
+  safe (ask page frame) passed = tt
+  safe commit passed = tt
+  safe drop passed = tt

@@ -11,18 +11,19 @@ use native.Mathlib.Omega.{arith}
 use borrow.Author.Tests.{leb-true, ltb-true, ltb-false, eqb-true, ne-eqb}
 use Rattle.model.specs.Basics.{both, either, table, member, bit, flag}
 use Rattle.model.specs.Edges.{pagesInRange, framesInRange}
-use Rattle.model.specs.Keeps.{none, vectorBytes, excludedIn, byteOf, vectorOf, inUser, running}
+use Rattle.model.specs.Keeps.{none, vectorBytes, excludedIn, byteOf, vectorOf, inUser, running, pendingFrame, isAsked}
 use Rattle.model.specs.Policy.{Givens, Policy, policyOf, frameFor, approvalFor, named, firstEntry, startState, startTables, startGuard}
 use Rattle.model.specs.Bits.{approved}
-use Rattle.model.specs.Questions.{firstNo, stateInOrder, givensInRange, Lengths, startQuestions, rising}
+use Rattle.model.specs.Questions.{firstNo, pendingInRange, stateInOrder, givensInRange, Lengths, startQuestions, rising}
 use Rattle.model.specs.OnePage.{Page, indexIn, firstPage}
-use Rattle.model.specs.Claim.{carriedFirst}
+use Rattle.model.specs.Terms.{firstTerms, inTerm, isCommitted, protected, code}
 use Rattle.model.proofs.QuestionLaws.{both-first, both-second, within-yes}
 use Rattle.model.proofs.StateLaws.{state-whole}
 use Rattle.model.proofs.TableLaws.{length-table, getD-table}
 use Rattle.model.proofs.PolicyLaws.{Passed, start-passed, start-given, length-numbersAt, allBelow-getD, allBelow-member, member-here, member-there, member-later, frameFor-unlisted, frameFor-member}
 use Rattle.model.proofs.VectorLaws.{byteOf-bit, byteOf-ext, vectorOf-length}
 use Rattle.model.proofs.ClaimPages.{Good, good-absent, good-approved}
+use Rattle.model.proofs.TermLaws.{isWaiting, awaited}
 use Rattle.model.proofs.ClaimKept.{Kept, pageOf}
 
 -- A test that holds only below a limit fails past it.
@@ -123,7 +124,7 @@ module _ (given : Givens) (bytes : List ℕ) (l : Lengths) (accepted : firstNo (
   named-below f e = allBelow-member (policy .frames) f (policy .listedFrames) (passed .frames-below) e
 
   start-fits : stateInOrder (startState given policy) ≡ true
-  unfolding startState pagesInRange framesInRange givensInRange running
+  unfolding startState pagesInRange framesInRange givensInRange pendingInRange running
   start-fits =
       state-whole (startState given policy)
       (record {
@@ -132,6 +133,7 @@ module _ (given : Givens) (bytes : List ℕ) (l : Lengths) (accepted : firstNo (
         entryCount = within-yes 1 16 (policy .entryCount) (passed .entry-count-low) (passed .entry-count-high);
         running-below = allBelow-getD (policy .pages) (policy .listedPages) 0 (passed .pages-below) (omega (arith, passed .count-low, pages-length));
         devices = start-given given bytes policy l accepted;
+        pending = refl;
       })
 
   -- The frame of a listed page is named in the policy, so it is not 65535. No page past V is listed.
@@ -171,7 +173,7 @@ module _ (given : Givens) (bytes : List ℕ) (l : Lengths) (accepted : firstNo (
 
   -- The tables of the start show the one-page guards as they begin.
   pub first-pages : pageOf (startGuard given policy) ≡ firstPage policy
-  unfolding startGuard startState startTables inUser firstPage
+  unfolding startGuard startState startTables inUser pendingFrame isAsked firstPage
   first-pages =
       fun-ext λ p i.
       record {
@@ -179,6 +181,8 @@ module _ (given : Givens) (bytes : List ℕ) (l : Lengths) (accepted : firstNo (
         entry = (at-entry p ∙ first-entry p (listed p) refl) i;
         approval = (at-approval p ∙ first-approval p (listed p) refl) i;
         excluded = (fun-ext (excluded-is (policy .frames) (named policy) (named-below))) i;
+        pending = none;
+        own = false;
       }
     where
       at-approval : (p : ℕ) → getD (table (policy .pages) (approvalFor policy)) p none ≡ approvalFor policy p
@@ -193,12 +197,26 @@ module _ (given : Givens) (bytes : List ℕ) (l : Lengths) (accepted : firstNo (
     where
       at : (b : Bool) → listed p ≡ b
           → Good (named policy)
-          (record { user = false; entry = cond b (approved false (ownFrame p)) 0; approval = cond b (ownFrame p) none; excluded = named policy })
+          (record { user = false; entry = cond b (approved false (ownFrame p)) 0; approval = cond b (ownFrame p) none; excluded = named policy; pending = none; own = false })
       at true e = good-approved (named policy) (firstPage policy p) (ownFrame p) (own-named p e) (own-small p e)
       at false e = good-absent (named policy) (firstPage policy p) none (λ k. absurd (true≢false k))
 
-  pub start-kept : Kept policy (carriedFirst policy) (startGuard given policy)
-  unfolding startGuard startState startTables carriedFirst
+  -- No frame has a term yet: the policy's alone are protected, and they are code.
+  either-false : (b : Bool) → either b false ≡ b
+  unfolding either
+  either-false true = refl
+  either-false false = refl
+
+  protected-first : (f : ℕ) → protected policy firstTerms f ≡ named policy f
+  unfolding protected firstTerms inTerm
+  protected-first f = either-false (named policy f)
+
+  code-first : code policy firstTerms ≡ named policy
+  unfolding code firstTerms isCommitted
+  code-first = fun-ext (λ f. either-false (named policy f))
+
+  pub start-kept : Kept policy firstTerms (startGuard given policy)
+  unfolding startGuard startState startTables firstTerms isWaiting awaited
   start-kept =
       record {
         pages = refl;
@@ -209,8 +227,9 @@ module _ (given : Givens) (bytes : List ℕ) (l : Lengths) (accepted : firstNo (
         shadowLength = length-table (policy .pages) (λ p. firstEntry (approvalFor policy p));
         mapLength = length-table (policy .pages) (approvalFor policy);
         exclusionLength = vectorOf-length (policy .frames) (named policy);
-        excluded = excluded-is (policy .frames) (named policy) (named-below);
-        code = λ f e. e;
-        below = named-below;
-        good = λ p. subst (λ (ps : ℕ → Page). Good (named policy) (ps p)) (sym first-pages) (first-good p);
+        excluded = λ f. excluded-is (policy .frames) (named policy) (named-below) f ∙ sym (protected-first f);
+        waiting = λ f. refl;
+        apart = λ f e. absurd (false≢true e);
+        below = λ f e. named-below f (rw code-first at e);
+        good = λ p. rw code-first (subst (λ (ps : ℕ → Page). Good (named policy) (ps p)) (sym first-pages) (first-good p));
       }

@@ -2,7 +2,7 @@
 use Prim.Native.Nat.{ℕ, zero, suc}
 use mathlib.Core.Path.{_≡_, refl, ap, _∙_}
 use Rattle.model.specs.declared.State.{State}
-use Rattle.model.specs.Keeps.{Guard, inMode}
+use Rattle.model.specs.Keeps.{Guard, inMode, withPending}
 use Rattle.model.specs.Questions.{firstNo, seen, deviceWriteQuestions}
 use Rattle.model.specs.Calls.{Outcome, settle, Call, questionsOf, effectOf, broughtBy, refusedOf, answer}
 use Rattle.model.specs.Windows.{SameBut, WindowsApart, DevicesKept}
@@ -19,7 +19,7 @@ settled-devices g zero count done refusal d r = d
 settled-devices g (suc n) count done refusal d r = r (suc n)
 
 pub devices-kept : DevicesKept
-unfolding DevicesKept answer inMode
+unfolding DevicesKept answer inMode withPending
 devices-kept g call =
     settled-devices g (firstNo (questionsOf (seen g) call)) (g .state .devices) (effectOf g call) (refusedOf g (broughtBy call))
     (ap (λ (s : State). s .devices) (effect-state g call)) (λ k. refl)

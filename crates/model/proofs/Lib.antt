@@ -15,6 +15,7 @@ pub mod AcceptedLaws
 pub mod SweepLaws
 pub mod SwitchLaws
 pub mod TreeLaws
+pub mod TermLaws
 pub mod ClaimPages
 mod CacheLaws
 mod DeviceLaws
@@ -23,3 +24,4 @@ pub mod ClaimCalls
 pub mod ClaimSafe
 pub mod ClaimStart
 pub mod ClaimLists
+mod CommittingLaws

@@ -1,5 +1,5 @@
--- Laws of the mode, and of question 7 by its parts: the tables that a call is lent, and of the state V, F and the page that runs. Another mode on a page below V
--- keeps it.
+-- Laws of the mode, and of question 7 by its parts: the tables that a call is lent, and of the state V, F, the page that runs and the pending pair. Another mode on
+-- a page below V keeps it, and so does another pair below V and F.
 use Prim.Native.Nat.{ℕ, _≤_, _<_}
 use mathlib.Core.Bool.{Bool, true, false, not}
 use mathlib.Core.List.{List, [], _∷_}
@@ -7,11 +7,12 @@ use mathlib.Core.Path.{_≡_, refl, sym, _∙_}
 use lib.Dec.{eqb}
 use borrow.Author.Tests.{lt-ltb, ltb-true, eqb-true, not-false}
 use Rattle.model.specs.declared.Mode.{Mode}
+use Rattle.model.specs.declared.Pending.{Pending}
 use Rattle.model.specs.declared.State.{State}
 use Rattle.model.specs.Basics.{within}
 use Rattle.model.specs.Edges.{pagesInRange, framesInRange, devicesInRange}
-use Rattle.model.specs.Keeps.{inUser, running, modeOf, inMode}
-use Rattle.model.specs.Questions.{stateInOrder, inOrder}
+use Rattle.model.specs.Keeps.{inUser, running, modeOf, inMode, withPending}
+use Rattle.model.specs.Questions.{pendingInRange, stateInOrder, inOrder}
 use Rattle.model.proofs.QuestionLaws.{both-yes, both-no-after, both-first, both-second, within-high}
 
 -- Kernel or user, and the page that runs, of a mode made of both.
@@ -32,6 +33,7 @@ pub record Fits (s : State) : Type 0 where
   pub entryCount : within 1 16 (s .«entry_count») ≡ true
   pub running-below : running (s .mode) < s .pages
   pub devices : devicesInRange (s .devices) ≡ true
+  pub pending : pendingInRange (s .pages) (s .frames) (s .pending) ≡ true
 
 pub state-parts : (s : State) → stateInOrder s ≡ true → Fits s
 unfolding stateInOrder
@@ -39,18 +41,20 @@ state-parts s p =
     let rest = both-second _ _ p in
     let more = both-second _ _ rest in
     let last = both-second _ _ more in
+    let end = both-second _ _ last in
     record {
       pages = both-first _ _ p;
       frames = both-first _ _ rest;
       entryCount = both-first _ _ more;
       running-below = ltb-true (running (s .mode)) (s .pages) (both-first _ _ last);
-      devices = both-second _ _ last;
+      devices = both-first _ _ end;
+      pending = both-second _ _ end;
     }
 
 pub state-whole : (s : State) → Fits s → stateInOrder s ≡ true
 unfolding stateInOrder
 state-whole s f =
-    both-yes (f .pages) (both-yes (f .frames) (both-yes (f .entryCount) (both-yes (lt-ltb (running (s .mode)) (s .pages) (f .running-below)) (f .devices))))
+    both-yes (f .pages) (both-yes (f .frames) (both-yes (f .entryCount) (both-yes (lt-ltb (running (s .mode)) (s .pages) (f .running-below)) (both-yes (f .devices) (f .pending)))))
 
 pub pages-few : (s : State) → stateInOrder s ≡ true → s .pages ≤ 2048
 unfolding pagesInRange
@@ -64,7 +68,16 @@ pub mode-fits : (s : State) (m : Mode) → stateInOrder s ≡ true → running m
 unfolding inMode
 mode-fits s m p r =
     let f : Fits s = state-parts s p in
-    state-whole (inMode s m) (record { pages = f .pages; frames = f .frames; entryCount = f .entryCount; running-below = r; devices = f .devices })
+    state-whole (inMode s m)
+    (record { pages = f .pages; frames = f .frames; entryCount = f .entryCount; running-below = r; devices = f .devices; pending = f .pending })
+
+pub pending-fits : (s : State) (pending : Pending) → stateInOrder s ≡ true → pendingInRange (s .pages) (s .frames) pending ≡ true
+    → stateInOrder (withPending s pending) ≡ true
+unfolding withPending
+pending-fits s pending p r =
+    let f : Fits s = state-parts s p in
+    state-whole (withPending s pending)
+    (record { pages = f .pages; frames = f .frames; entryCount = f .entryCount; running-below = f .running-below; devices = f .devices; pending = r })
 
 -- Question 7 was answered yes: so was each part of it.
 abbrev pub Fit : List Bool → Type 0

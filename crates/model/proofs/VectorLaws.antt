@@ -5,12 +5,12 @@ use mathlib.Core.List.{List}
 use mathlib.Core.Path.{_≡_, refl, sym, _∙_}
 use native.Mathlib.Omega.{arith}
 use lib.Dec.{eqb}
-use lib.ListN.{length, getD, length-set}
+use lib.ListN.{length, getD, set, length-set}
 use lib.Pow.{mod-pow-add}
 use lib.Seq.{getD-set-same, getD-set-other, ext-getD}
 use borrow.Author.Tests.{eq-eqb, ne-eqb, eqb-true, eqb-false}
 use Rattle.model.specs.Basics.{bit, flag}
-use Rattle.model.specs.Keeps.{vectorBytes, byteOf, vectorOf, withBit}
+use Rattle.model.specs.Keeps.{vectorBytes, excludedIn, byteOf, vectorOf, withBit}
 use Rattle.model.proofs.TableLaws.{length-table, getD-table}
 
 -- What holds of 0 to 7 holds of every number below 8.
@@ -112,7 +112,7 @@ pub vectorOf-length : (frames : ℕ) (h : ℕ → Bool) → length (vectorOf fra
 unfolding vectorOf
 vectorOf-length frames h = length-table (vectorBytes frames) (λ i. byteOf (λ j. h (i * 8 + j)))
 
-byte-below : (frames f : ℕ) → f < frames → f / 8 < vectorBytes frames
+pub byte-below : (frames f : ℕ) → f < frames → f / 8 < vectorBytes frames
 unfolding vectorBytes
 byte-below frames f l = omega arith
 
@@ -124,6 +124,22 @@ vectorOf-byte frames h i d l = getD-table (vectorBytes frames) (λ i. byteOf (λ
 pub withBit-length : (b : Bool) (x : List ℕ) (f : ℕ) → length (withBit b x f) ≡ length x
 unfolding withBit
 withBit-length b x f = simp length-set
+
+-- A frame is excluded by its own bit, so that setting or clearing the bit of a frame that has one says it of that frame alone.
+pub excluded-withBit : (b : Bool) (x : List ℕ) (f : ℕ) → f / 8 < length x → (g : ℕ) → excludedIn (withBit b x f) g ≡ cond (eqb g f) b (excludedIn x g)
+unfolding excludedIn withBit
+excluded-withBit b x f here g = at (eqb (g / 8) (f / 8)) refl
+  where
+    new : ℕ → Bool
+    new j = cond (eqb j (f % 8)) b (bit j (getD x (f / 8) 0))
+
+    at : (t : Bool) → eqb (g / 8) (f / 8) ≡ t → bit (g % 8) (getD (set x (f / 8) (byteOf new)) (g / 8) 0) ≡ cond (eqb g f) b (bit (g % 8) (getD x (g / 8) 0))
+    at true e =
+        let q : g / 8 ≡ f / 8 = eqb-true (g / 8) (f / 8) e in
+        rw (q, getD-set-same x (f / 8) (byteOf new) 0 here, byteOf-bit new (g % 8) (omega arith), eqb-together (g % 8) (f % 8) g f (λ p. omega arith) (λ p. omega arith)) refl
+    at false e =
+        let q : g / 8 ≡ f / 8 → ⊥ = eqb-false (g / 8) (f / 8) e in
+        rw (getD-set-other x (f / 8) (g / 8) (byteOf new) 0 q, ne-eqb g f (λ p. q (omega arith))) refl
 
 pub withBit-vectorOf : (b : Bool) (frames : ℕ) (h : ℕ → Bool) (f : ℕ) → f < frames
     → withBit b (vectorOf frames h) f ≡ vectorOf frames (λ g. cond (eqb g f) b (h g))

@@ -1,6 +1,6 @@
 -- Document 01, "Entry bits", as requests K1 and K3 (document 02) changed them, with the entries that "Synchronising one page" makes of them: kernel entries taken apart, shadow entries made.
 use Prim.Native.Nat.{ℕ, _+_, _*_, _/_, _%_, _^_}
-use mathlib.Core.Bool.{Bool, true, not, cond}
+use mathlib.Core.Bool.{Bool, true, false, not, cond}
 use lib.Dec.{eqb}
 use Rattle.model.specs.declared.Entry.{Entry}
 use Rattle.model.specs.declared.Entry.the-variants.{Absent, Present}
@@ -78,3 +78,15 @@ unfoldable pub ordinary : Bool → Fields → ℕ
 ordinary user x =
     2 ^ 0 + flag (x .writable) 1 + flag (x .user) 2 + flag (x .«write_through») 3 + flag (x .«cache_disable») 4 + flag (x .«no_execute») 9
     + x .frame * 2 ^ 12 + flag (ordinaryNoExecute user (x .«no_execute») (x .user)) 63
+
+-- K6: "while pending, synchronising an ordinary entry for it clears writable and sets bit 9": the fields of such an entry.
+unfoldable pub inspected : Fields → Fields
+inspected x =
+    record {
+      writable = false;
+      user = x .user;
+      «write_through» = x .«write_through»;
+      «cache_disable» = x .«cache_disable»;
+      «no_execute» = true;
+      frame = x .frame;
+    }

@@ -2,10 +2,11 @@
 use Prim.Native.Nat.{ℕ, _≤_, _<_}
 use mathlib.Core.Bool.{Bool, true, not}
 use mathlib.Core.Path.{_≡_}
+use lib.Dec.{eqb}
 use Rattle.model.specs.declared.Entry.the-variants.{Present}
 use Rattle.model.specs.declared.Fields.{Fields}
 use Rattle.model.specs.Basics.{bit, both}
-use Rattle.model.specs.Bits.{present, approvedMark, fieldsOf, valid, takenApart, ordinary}
+use Rattle.model.specs.Bits.{present, frameOf, approvedMark, fieldsOf, valid, takenApart, ordinary}
 use Rattle.model.specs.Sync.{Rules, step}
 use Rattle.model.specs.Switch.{switched}
 
@@ -21,11 +22,19 @@ OrdinaryCarries = (user : Bool) (entry k : ℕ) → valid entry ≡ true → k <
 abbrev pub isOrdinary : ℕ → Bool
 isOrdinary entry = both (present entry) (not (approvedMark entry))
 
--- Of steps 1 to 5: an ordinary entry has bits 1 to 4 as the kernel entry has them, and an approved entry and entry 0 have none of them.
+-- Of steps 1 to 5: an ordinary entry has bits 2 to 4 as the kernel entry has them, while its frame is pending too (K6), and an approved entry and entry 0
+-- have none of them.
 abbrev pub StepCarries : Type 0
 StepCarries =
-    (rules : Rules) (entry approval k : ℕ) → 1 ≤ k → k < 5
+    (rules : Rules) (entry approval k : ℕ) → 2 ≤ k → k < 5
     → bit k (step rules entry approval .entry) ≡ both (isOrdinary (step rules entry approval .entry)) (bit k entry)
+
+-- The same of bit 1, which a pending frame clears.
+abbrev pub StepWrites : Type 0
+StepWrites =
+    (rules : Rules) (entry approval : ℕ)
+    → bit 1 (step rules entry approval .entry)
+    ≡ both (isOrdinary (step rules entry approval .entry)) (both (not (eqb (frameOf entry) (rules .pending))) (bit 1 entry))
 
 -- "other bits kept": a mode switch keeps them, as it keeps every bit but 63.
 abbrev pub SwitchKeeps : Type 0

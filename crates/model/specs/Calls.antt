@@ -3,6 +3,8 @@ use Prim.Native.Nat.{ℕ, zero, suc, _/_}
 use mathlib.Core.Bool.{Bool, true, false}
 use mathlib.Core.List.{List}
 use lib.ListN.{length, getD, set}
+use Rattle.model.specs.declared.Pending.{Pending}
+use Rattle.model.specs.declared.Pending.the-variants.{Nothing, Pair}
 use Rattle.model.specs.declared.State.{State}
 use Rattle.model.specs.declared.Device.{Device}
 use Rattle.model.specs.declared.Mode.{Mode}
@@ -12,14 +14,15 @@ use Rattle.model.specs.declared.Answer.the-variants.{Done, Refused}
 use Rattle.model.specs.declared.Called.{Called}
 use Rattle.model.specs.Basics.{differs}
 use Rattle.model.specs.Edges.{pageBytes, lastPage}
-use Rattle.model.specs.Keeps.{none, Tables, withShadow, withMap, Guard, guardOf, excludedIn, inUser, modeOf, inMode}
+use Rattle.model.specs.Keeps.{none, Tables, withShadow, withMap, withExclusion, Guard, guardOf, excludedIn, withBit, inUser, modeOf, pendingFrame, isAsked, inMode, withPending}
 use Rattle.model.specs.Policy.{Givens, Policy, policyOf, startGuard, zeroState}
 use Rattle.model.specs.Bits.{frameOf}
 use Rattle.model.specs.Tree.{Tree, flatAt}
 use Rattle.model.specs.Devices.{deviceAt}
+use Rattle.model.specs.Approvals.{committedSlot}
 use Rattle.model.specs.Sync.{Rules, rules, Slot, Sweep, sweepFrom, entryIn, stepFrom}
 use Rattle.model.specs.Switch.{switchedAll, changes}
-use Rattle.model.specs.Questions.{Question, firstNo, View, seen, lengthsOf, startQuestions, syncPageQuestions, syncAllQuestions, syncPageTreeQuestions, syncAllTreeQuestions, fetchQuestions, writeQuestions, enterQuestions, leaveQuestions, deviceWriteQuestions}
+use Rattle.model.specs.Questions.{Question, firstNo, View, seen, lengthsOf, startQuestions, syncPageQuestions, syncAllQuestions, syncPageTreeQuestions, syncAllTreeQuestions, fetchQuestions, writeQuestions, enterQuestions, leaveQuestions, deviceWriteQuestions, askQuestions, commitQuestions, dropQuestions}
 
 -- Whether a call was accepted; the number of the question that refused it, or 0; and the call's two numbers.
 pub record Reply : Type 0 where
@@ -82,7 +85,7 @@ startOf given bytes t =
 
 -- The other calls. "A list has synchronise one, synchronise all, fetch, write, enter, leave and device write calls [..] with any arguments".
 -- "Each synchronising call brings a kernel table of any contents and length." K4 adds both synchronising calls from a tree, of any run, root and depth.
--- A device write brings a list of devices of any contents and length (K5).
+-- A device write brings a list of devices of any contents and length (K5). K6: "Ask names a page and a frame", "then commit or drop".
 pub data Call : Type 0 where
   syncPage : (kernel : List ℕ) (page : ℕ) → Call
   syncAll : (kernel : List ℕ) → Call
@@ -93,6 +96,9 @@ pub data Call : Type 0 where
   enter : (index : ℕ) → Call
   leave : (page : ℕ) → Call
   deviceWrite : (devices : List Device) (device address size : ℕ) → Call
+  ask : (page frame : ℕ) → Call
+  commit : Call
+  drop : Call
 
 -- What a call brings and may change.
 unfoldable pub broughtBy : Call → Brought
@@ -109,10 +115,13 @@ questionsOf v (write address length) = writeQuestions v address length
 questionsOf v (enter index) = enterQuestions v index
 questionsOf v (leave page) = leaveQuestions v page
 questionsOf v (deviceWrite devices device address size) = deviceWriteQuestions v (length devices) (deviceAt devices device) device address size
+questionsOf v (ask page frame) = askQuestions v page frame
+questionsOf v commit = commitQuestions v
+questionsOf v drop = dropQuestions v
 
 -- What the step of a page reads of the state and of the exclusion vector.
 abbrev pub rulesOf : State → List ℕ → Rules
-rulesOf s exclusion = rules (inUser (s .mode)) (s .frames) (excludedIn exclusion)
+rulesOf s exclusion = rules (inUser (s .mode)) (s .frames) (pendingFrame (s .pending)) (excludedIn exclusion)
 
 -- "Synchronise: shadow entries whose value changed; pages that joined the map." One page:
 unfoldable pub pageSynced : Guard → ℕ → Slot → Outcome
@@ -142,6 +151,22 @@ switchTo g mode =
     let after : List ℕ = switchedAll (inUser mode) (g .tables .shadow) in
     outcome (accepted (changes (g .tables .shadow) after) 0) (guardOf (inMode (g .state) mode) (withShadow after (g .tables)))
 
+-- K6: "Ask sets the frame's exclusion bit", "Drop clears the exclusion bit": the vector with this bit of a frame, and another pair or none. They give 0
+-- and 0: no shadow entry changes, and no page joins.
+unfoldable pub bitPut : Guard → Bool → ℕ → Pending → Outcome
+bitPut g b frame pending =
+    outcome (accepted 0 0) (guardOf (withPending (g .state) pending) (withExclusion (withBit b (g .tables .exclusion) frame) (g .tables)))
+
+-- "Commit approves the asked page with its frame, in map and shadow, and so every unapproved page whose present shadow entry has that frame"; "both clear
+-- the pending pair". "Their numbers are the changed shadow entries and the joined pages, the asked one included."
+unfoldable pub pairCommitted : Guard → Outcome
+pairCommitted g =
+    let s : State = g .state in
+    let r : Sweep =
+    sweepFrom (λ p entry approval. committedSlot (inUser (s .mode)) (pendingFrame (s .pending)) (isAsked (s .pending) p) entry approval) 0
+    (g .tables .shadow) (g .tables .map) in
+    outcome (accepted (r .changed) (r .joined)) (guardOf (withPending s Nothing) (withShadow (r .shadow) (withMap (r .map) (g .tables))))
+
 -- What each call gives where no question refuses it. A tree gives each page the flat entry of its walk.
 -- "Fetch a page: its frame, twice; that page is now running." The mode stays.
 -- "Write at an address, 1 to 16 bytes: first and last frame." "Device write at an address, 1 to 1,048,576 bytes: first and last frame."
@@ -158,6 +183,9 @@ effectOf g (write address length) =
 effectOf g (enter index) = switchTo g (Kernel (getD (g .state .«entry_pages») index 0))
 effectOf g (leave page) = switchTo g (User page)
 effectOf g (deviceWrite devices device address size) = outcome (accepted (address / pageBytes) (lastPage address size)) g
+effectOf g (ask page frame) = bitPut g true frame (Pair page frame)
+effectOf g commit = pairCommitted g
+effectOf g drop = bitPut g false (pendingFrame (g .state .pending)) Nothing
 
 -- What the guard answers to a call, and leaves. "Each call gets these as the last one returned or left them": what a call does not change
 -- stays as it is, and a refused call changes nothing.

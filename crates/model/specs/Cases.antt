@@ -4,6 +4,7 @@ use Prim.Native.Nat.{ℕ}
 use mathlib.Core.List.{List, [], _∷_}
 use mathlib.Core.Path.{_≡_}
 use lib.ListN.{replicate, set}
+use Rattle.model.specs.declared.Pending.the-variants.{Nothing}
 use Rattle.model.specs.declared.State.{State}
 use Rattle.model.specs.declared.Mode.{Mode}
 use Rattle.model.specs.declared.Mode.the-variants.{Kernel, User}
@@ -42,7 +43,7 @@ startedWritable = (answer started (syncPage (only 0 0x3003) 0)) .guard
 
 -- The state after the start, with its mode.
 unfoldable pub fourPages : Mode → State
-fourPages mode = stateOf 4 4 1 (1 ∷ replicate 15 0) mode 2
+fourPages mode = stateOf 4 4 1 (1 ∷ replicate 15 0) mode 2 Nothing
 
 -- A guard of that policy with these contents. No call changes the exclusion vector, whose one byte is 0x04.
 unfoldable pub holding : Mode → List ℕ → List ℕ → Guard

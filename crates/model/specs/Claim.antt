@@ -8,11 +8,12 @@ use lib.Dec.{eqb}
 use Rattle.model.specs.declared.Device.{Device}
 use Rattle.model.specs.Edges.{pageBytes}
 use Rattle.model.specs.Keeps.{none, Tables, Guard, vectorBytes, inUser}
-use Rattle.model.specs.Policy.{Givens, Policy, policyOf, named}
+use Rattle.model.specs.Policy.{Givens, Policy, policyOf}
 use Rattle.model.specs.Bits.{frameOf}
 use Rattle.model.specs.Devices.{deviceAt, inWindow}
-use Rattle.model.specs.Calls.{Reply, Outcome, startOf, Call, syncPage, syncAll, syncPageTree, syncAllTree, fetch, write, enter, leave, deviceWrite, answer}
+use Rattle.model.specs.Calls.{Reply, Outcome, startOf, Call, syncPage, syncAll, syncPageTree, syncAllTree, fetch, write, enter, leave, deviceWrite, ask, commit, drop, answer}
 use Rattle.model.specs.OnePage.{Page, firstPage, settled, pagesAfter}
+use Rattle.model.specs.Terms.{Terms, firstTerms, termsAfter, protected, code}
 
 -- After the start and after every call: the tables have their lengths, "the state agrees on kernel or user", and each page's shadow entry
 -- and approval equal those of its one-page guard. Every page below V has its own place, so that no default of getD is compared.
@@ -24,24 +25,11 @@ pub record Agree (policy : Policy) (g : Guard) (ps : ℕ → Page) : Type 0 wher
   pub entry : (p : ℕ) → p < policy .pages → getD (g .tables .shadow) p 0 ≡ (ps p) .entry
   pub approval : (p : ℕ) → p < policy .pages → getD (g .tables .map) p none ≡ (ps p) .approval
 
--- The frames that a list carries through its calls: those of which no allowed write or transfer covers a byte, and those that kernel code may be
--- fetched from. In the base both are the frames named in the policy.
-pub record Carried : Type 0 where
-  pub protected : ℕ → Bool
-  pub code : ℕ → Bool
-
-unfoldable pub carriedFirst : Policy → Carried
-carriedFirst policy = record { protected = named policy; code = named policy }
-
--- Both after a call that was settled with this number, with the one-page guards as they were at the call. In the base no call changes them.
-unfoldable pub carriedAfter : ℕ → Call → (ℕ → Page) → Carried → Carried
-carriedAfter number call ps carried = carried
-
--- "Frame f is the 4,096 bytes from f × 4,096; memory beyond the last frame begins at F × 4,096." Byte x of memory lies in no protected frame
--- and not beyond the last frame.
-pub record Clear (policy : Policy) (carried : Carried) (x : ℕ) : Type 0 where
+-- "Frame f is the 4,096 bytes from f × 4,096; memory beyond the last frame begins at F × 4,096." Byte x of memory lies in no frame that is protected as
+-- the terms stand, and not beyond the last frame.
+pub record Clear (policy : Policy) (terms : Terms) (x : ℕ) : Type 0 where
   pub below : x < policy .frames * pageBytes
-  pub unprotected : carried .protected (x / pageBytes) ≡ false
+  pub unprotected : protected policy terms (x / pageBytes) ≡ false
 
 -- "Each byte of an allowed write, at address a, covers byte a mod 4,096 of the frame in the entry of the one-page guard of page a / 4,096,
 -- rounded down."
@@ -50,50 +38,53 @@ coveredBy ps a = frameOf ((ps (a / pageBytes)) .entry) * pageBytes + a % pageByt
 
 -- "An allowed fetch of p reads the frame in the entry of p's one-page guard"; it answers this frame twice, and in kernel mode it is one that kernel
 -- code may be fetched from.
-pub record FetchSafe (carried : Carried) (ps : ℕ → Page) (page : ℕ) (reply : Reply) : Type 0 where
+pub record FetchSafe (policy : Policy) (terms : Terms) (ps : ℕ → Page) (page : ℕ) (reply : Reply) : Type 0 where
   pub first : reply .first ≡ frameOf ((ps page) .entry)
   pub second : reply .second ≡ frameOf ((ps page) .entry)
-  pub code : (ps page) .user ≡ false → carried .code (frameOf ((ps page) .entry)) ≡ true
+  pub approved : (ps page) .user ≡ false → code policy terms (frameOf ((ps page) .entry)) ≡ true
 
 -- An allowed write answers the frames of its first and last byte, and every byte of it covers a clear byte.
-pub record WriteSafe (policy : Policy) (carried : Carried) (ps : ℕ → Page) (address size : ℕ) (reply : Reply) : Type 0 where
+pub record WriteSafe (policy : Policy) (terms : Terms) (ps : ℕ → Page) (address size : ℕ) (reply : Reply) : Type 0 where
   pub first : reply .first ≡ frameOf ((ps (address / pageBytes)) .entry)
   pub second : reply .second ≡ frameOf ((ps ((address + size - 1) / pageBytes)) .entry)
-  pub bytes : (a : ℕ) → address ≤ a → a < address + size → Clear policy carried (coveredBy ps a)
+  pub bytes : (a : ℕ) → address ≤ a → a < address + size → Clear policy terms (coveredBy ps a)
 
 -- "An allowed device write covers its bytes at their own addresses." Each lies in its device's window too, by the list that reaches the call (K5).
-pub record DeviceWriteSafe (policy : Policy) (carried : Carried) (window : Device) (address size : ℕ) : Type 0 where
-  pub bytes : (a : ℕ) → address ≤ a → a < address + size → Clear policy carried a
+pub record DeviceWriteSafe (policy : Policy) (terms : Terms) (window : Device) (address size : ℕ) : Type 0 where
+  pub bytes : (a : ℕ) → address ≤ a → a < address + size → Clear policy terms a
   pub windowed : (a : ℕ) → address ≤ a → a < address + size → inWindow window (a / pageBytes) ≡ true
 
 -- What an allowed call reads and covers, by the one-page guards as they are at the call.
-abbrev pub Safe : Policy → Carried → (ℕ → Page) → Call → Reply → Type 0
-Safe policy carried ps (syncPage kernel page) reply = Unit {0}
-Safe policy carried ps (syncAll kernel) reply = Unit {0}
-Safe policy carried ps (syncPageTree tree page) reply = Unit {0}
-Safe policy carried ps (syncAllTree tree) reply = Unit {0}
-Safe policy carried ps (fetch page) reply = FetchSafe carried ps page reply
-Safe policy carried ps (write address size) reply = WriteSafe policy carried ps address size reply
-Safe policy carried ps (enter index) reply = Unit {0}
-Safe policy carried ps (leave page) reply = Unit {0}
-Safe policy carried ps (deviceWrite devices device address size) reply = DeviceWriteSafe policy carried (deviceAt devices device) address size
+abbrev pub Safe : Policy → Terms → (ℕ → Page) → Call → Reply → Type 0
+Safe policy terms ps (syncPage kernel page) reply = Unit {0}
+Safe policy terms ps (syncAll kernel) reply = Unit {0}
+Safe policy terms ps (syncPageTree tree page) reply = Unit {0}
+Safe policy terms ps (syncAllTree tree) reply = Unit {0}
+Safe policy terms ps (fetch page) reply = FetchSafe policy terms ps page reply
+Safe policy terms ps (write address size) reply = WriteSafe policy terms ps address size reply
+Safe policy terms ps (enter index) reply = Unit {0}
+Safe policy terms ps (leave page) reply = Unit {0}
+Safe policy terms ps (deviceWrite devices device address size) reply = DeviceWriteSafe policy terms (deviceAt devices device) address size
+Safe policy terms ps (ask page frame) reply = Unit {0}
+Safe policy terms ps commit reply = Unit {0}
+Safe policy terms ps drop reply = Unit {0}
 
 -- The guard and the one-page guards agree now; "the guard answers the same number, or none" as they settle, and says that the call is
 -- allowed just where there is none; an allowed call is safe; and all of this again after the call, for the rest of the list.
-abbrev pub Always : Policy → Carried → Guard → (ℕ → Page) → List Call → Type 0
-Always policy carried g ps [] = Agree policy g ps
-Always policy carried g ps (call ∷ calls) =
+abbrev pub Always : Policy → Terms → Guard → (ℕ → Page) → List Call → Type 0
+Always policy terms g ps [] = Agree policy g ps
+Always policy terms g ps (call ∷ calls) =
     let number : ℕ = settled policy ps g call in
     let outcome : Outcome = answer g call in
     Agree policy g ps
     × (outcome .reply .number ≡ number)
     × (outcome .reply .allowed ≡ eqb number 0)
-    × (number ≡ 0 → Safe policy carried ps call (outcome .reply))
-    × Always policy (carriedAfter number call ps carried) (outcome .guard) (pagesAfter policy number call ps) calls
+    × (number ≡ 0 → Safe policy terms ps call (outcome .reply))
+    × Always policy (termsAfter number call terms) (outcome .guard) (pagesAfter policy number call ps) calls
 
 -- For every policy record, what else the start is given, and lent tables, whose start is accepted, and every list of calls: no other premise.
 abbrev pub Claim : Type 0
 Claim =
     (given : Givens) (bytes : List ℕ) (t : Tables) (calls : List Call) →
     (startOf given bytes t) .reply .number ≡ 0 →
-    Always (policyOf bytes) (carriedFirst (policyOf bytes)) ((startOf given bytes t) .guard) (firstPage (policyOf bytes)) calls
+    Always (policyOf bytes) firstTerms ((startOf given bytes t) .guard) (firstPage (policyOf bytes)) calls

@@ -3,6 +3,7 @@
 use Prim.Native.Nat.{ℕ}
 use mathlib.Core.List.{List, [], _∷_, _++_}
 use lib.ListN.{replicate, set, take}
+use Rattle.model.specs.declared.Pending.the-variants.{Nothing}
 use Rattle.model.specs.declared.Device.{Device}
 use Rattle.model.specs.declared.Mode.the-variants.{Kernel, User}
 use Rattle.model.specs.Keeps.{Guard, guardOf, stateOf}
@@ -21,12 +22,12 @@ startWith devices bytes =
 
 -- The started guard with so many devices.
 unfoldable pub ofDevices : ℕ → Guard
-ofDevices devices = guardOf (stateOf 6 8 2 (1 ∷ 2 ∷ replicate 14 0) (Kernel 1) devices) (started6 .tables)
+ofDevices devices = guardOf (stateOf 6 8 2 (1 ∷ 2 ∷ replicate 14 0) (Kernel 1) devices Nothing) (started6 .tables)
 
 -- F 4,096, three devices, and the last frame alone excluded.
 unfoldable pub manyFrames : Guard
 manyFrames =
-    guardOf (stateOf 6 4096 2 (1 ∷ 2 ∷ replicate 14 0) (Kernel 1) 3)
+    guardOf (stateOf 6 4096 2 (1 ∷ 2 ∷ replicate 14 0) (Kernel 1) 3 Nothing)
     (record { shadow = shadow6; map = started6 .tables .map; exclusion = set (replicate 512 0) 511 0x80 })
 
 -- Sixty-three devices with empty windows, and one with all frames.
@@ -129,7 +130,7 @@ deviceCases =
     ∷ stays (with6 (User 1) left6) (deviceWrite threeDevices 3 0 1) (refused 18)
     ∷ stays (with6 (User 1) left6) (deviceWrite threeDevices 0 32767 2) (refused 9)
     ∷ stays (with6 (User 1) left6) (deviceWrite (windowed 6 6) 1 28672 1) (refused 19)
-    ∷ stays (guardOf (stateOf 6 8 2 (1 ∷ 2 ∷ replicate 14 0) (User 1) 0) (started6 .tables)) (enter 0) (refused 7)
+    ∷ stays (guardOf (stateOf 6 8 2 (1 ∷ 2 ∷ replicate 14 0) (User 1) 0 Nothing) (started6 .tables)) (enter 0) (refused 7)
     -- The order of two questions: 7 and 8 by the list's length, 7 and 18, 8 and 18, 18 and 9, 18 and 13, 9 and 19, 19 and 13
     ∷ stays started6 (deviceWrite (replicate 4 (deviceOf 0 7)) 0 0 0) (refused 7)
     ∷ stays started6 (deviceWrite (deviceOf 0 7 ∷ deviceOf 0 7 ∷ []) 2 0 1) (refused 7)

@@ -4,6 +4,7 @@ use Prim.Native.Nat.{ℕ}
 use mathlib.Core.Bool.{true, false}
 use mathlib.Core.List.{List, [], _∷_}
 use lib.ListN.{replicate, set}
+use Rattle.model.specs.declared.Pending.the-variants.{Nothing}
 use Rattle.model.specs.declared.Entry.{Entry}
 use Rattle.model.specs.declared.Entry.the-variants.{Absent, Present}
 use Rattle.model.specs.declared.State.{State}
@@ -41,6 +42,7 @@ zeros =
       «entry_pages» = 0 ∷ 0 ∷ 0 ∷ 0 ∷ 0 ∷ 0 ∷ 0 ∷ 0 ∷ 0 ∷ 0 ∷ 0 ∷ 0 ∷ 0 ∷ 0 ∷ 0 ∷ 0 ∷ [];
       mode = User 0;
       devices = 0;
+      pending = Nothing;
     }
 
 -- A refused start leaves those tables, and answers the state of zeros.
@@ -53,7 +55,7 @@ unfoldable pub threeDevices : List Device
 threeDevices = replicate 3 (deviceOf 0 7)
 
 unfoldable pub sixPages : Mode → State
-sixPages mode = stateOf 6 8 2 (1 ∷ 2 ∷ replicate 14 0) mode 3
+sixPages mode = stateOf 6 8 2 (1 ∷ 2 ∷ replicate 14 0) mode 3 Nothing
 
 -- A guard of that policy in a mode, with these shadow entries; map and vector as the start leaves them.
 unfoldable pub with6 : Mode → List ℕ → Guard
@@ -79,12 +81,12 @@ stays g call reply = row (answer g call) (outcome reply g)
 
 -- The started guard with a state of these V, F and e, these entry pages and this mode.
 unfoldable pub inState : ℕ → ℕ → ℕ → List ℕ → Mode → Guard
-inState pages frames entryCount entryPages mode = guardOf (stateOf pages frames entryCount entryPages mode 3) (started6 .tables)
+inState pages frames entryCount entryPages mode = guardOf (stateOf pages frames entryCount entryPages mode 3 Nothing) (started6 .tables)
 
 -- A guard of so many pages, none present.
 unfoldable pub manyPages : ℕ → Guard
 manyPages pages =
-    guardOf (stateOf pages 8 1 (replicate 16 0) (Kernel 0) 1)
+    guardOf (stateOf pages 8 1 (replicate 16 0) (Kernel 0) 1 Nothing)
     (record { shadow = replicate pages 0; map = []; exclusion = [] })
 
 -- A guard of that policy in a mode, whose tables hold zeros and have these lengths.
@@ -135,7 +137,7 @@ startCases =
     -- Page 0 first, every page listed up to V - 1, frame F - 1, and a vector of two bytes.
     ∷ row (startOn everyPage 3 3 2)
     (outcome (accepted 3 1)
-    (guardOf (stateOf 3 9 1 (replicate 16 0) (Kernel 0) 3)
+    (guardOf (stateOf 3 9 1 (replicate 16 0) (Kernel 0) 3 Nothing)
     (record { shadow = 0x8401 ∷ 0x401 ∷ 0x8401 ∷ []; map = 8 ∷ 0 ∷ 8 ∷ []; exclusion = 1 ∷ 1 ∷ [] })))
     -- 1 to 7, each with all before it yes
     ∷ row (startOn (6 ∷ 0 ∷ 8 ∷ 0 ∷ 3 ∷ 0 ∷ 2 ∷ []) 6 6 1) (startRefused 1 6 6 1)

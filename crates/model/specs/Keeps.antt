@@ -6,6 +6,8 @@ use lib.ListN.{getD, set}
 use lib.Dec.{eqb}
 use Rattle.model.specs.declared.Mode.{Mode}
 use Rattle.model.specs.declared.Mode.the-variants.{Kernel, User}
+use Rattle.model.specs.declared.Pending.{Pending}
+use Rattle.model.specs.declared.Pending.the-variants.{Nothing, Pair}
 use Rattle.model.specs.declared.State.{State}
 use Rattle.model.specs.Basics.{bit, flag, table}
 
@@ -79,11 +81,28 @@ unfoldable pub modeOf : Bool → ℕ → Mode
 modeOf false page = Kernel page
 modeOf true page = User page
 
--- A state by V, F, e, its sixteen entry pages, its mode and its number of devices (K5).
-abbrev pub stateOf : ℕ → ℕ → ℕ → List ℕ → Mode → ℕ → State
-stateOf pages frames entryCount entryPages mode devices =
-    record { pages = pages; frames = frames; «entry_count» = entryCount; «entry_pages» = entryPages; mode = mode; devices = devices }
+-- K6: "the state holds at most one pending pair". Whether it holds one; the frame of it, "or 65535 for none", as in the map; and whether a page is the
+-- one that was asked for.
+unfoldable pub isPending : Pending → Bool
+isPending Nothing = false
+isPending (Pair page frame) = true
 
--- The state with another mode.
+unfoldable pub pendingFrame : Pending → ℕ
+pendingFrame Nothing = none
+pendingFrame (Pair page frame) = frame
+
+unfoldable pub isAsked : Pending → ℕ → Bool
+isAsked Nothing p = false
+isAsked (Pair page frame) p = eqb p page
+
+-- A state by V, F, e, its sixteen entry pages, its mode, its number of devices (K5) and what is pending (K6).
+abbrev pub stateOf : ℕ → ℕ → ℕ → List ℕ → Mode → ℕ → Pending → State
+stateOf pages frames entryCount entryPages mode devices pending =
+    record { pages = pages; frames = frames; «entry_count» = entryCount; «entry_pages» = entryPages; mode = mode; devices = devices; pending = pending }
+
+-- The state with another mode, and with another pair or none.
 unfoldable pub inMode : State → Mode → State
-inMode s m = stateOf (s .pages) (s .frames) (s .«entry_count») (s .«entry_pages») m (s .devices)
+inMode s m = stateOf (s .pages) (s .frames) (s .«entry_count») (s .«entry_pages») m (s .devices) (s .pending)
+
+unfoldable pub withPending : State → Pending → State
+withPending s pending = stateOf (s .pages) (s .frames) (s .«entry_count») (s .«entry_pages») (s .mode) (s .devices) pending

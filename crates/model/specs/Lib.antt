@@ -9,6 +9,7 @@ pub mod Tree
 pub mod Devices
 pub mod Sync
 pub mod Switch
+pub mod Approvals
 pub mod Calls
 pub mod Questions
 pub mod Record
@@ -16,7 +17,9 @@ pub mod Walks
 pub mod Cache
 pub mod Windows
 pub mod OnePage
+pub mod Terms
 pub mod Claim
+pub mod Committing
 pub mod Drill
 pub mod Cases
 pub mod Further

@@ -12,23 +12,29 @@ use Rattle.model.specs.Bits.{approved}
 use Rattle.model.specs.Tree.{flatAt}
 use Rattle.model.specs.Sync.{rules, Slot, step, entryIn}
 use Rattle.model.specs.Switch.{switched}
+use Rattle.model.specs.Approvals.{committedSlot}
 use Rattle.model.specs.Questions.{View, firstNo}
-use Rattle.model.specs.Calls.{settle, Call, syncPage, syncAll, syncPageTree, syncAllTree, fetch, write, enter, leave, deviceWrite, questionsOf}
+use Rattle.model.specs.Calls.{settle, Call, syncPage, syncAll, syncPageTree, syncAllTree, fetch, write, enter, leave, deviceWrite, ask, commit, drop, questionsOf}
 
 -- "The one-page guard of a page p holds a mode (kernel or user alone, with no running page), an entry and an approval." It keeps its own
--- set of excluded frames, which are the policy's in the base.
+-- set of excluded frames, which are the policy's at first, its own pending frame, or 65535 for none, and whether that was asked for p (K6).
 pub record Page : Type 0 where
   pub user : Bool
   pub entry : ℕ
   pub approval : ℕ
   pub excluded : ℕ → Bool
+  pub pending : ℕ
+  pub own : Bool
 
 -- "It is told the policy record, each accepted synchronisation of p, alone or with others, with the kernel table's entry for p at that
--- call, and each accepted enter and leave."
+-- call, and each accepted enter and leave." K6: it "is told of accepted asks, commits and drops": of an ask, whether p is its page, and its frame.
 pub data News : Type 0 where
   synchronised : (entry : ℕ) → News
   entered : News
   exited : News
+  asked : (own : Bool) (frame : ℕ) → News
+  committed : News
+  dropped : News
   nothing : News
 
 -- The index of p in the record's first array: how many numbers stand before it.
@@ -46,27 +52,60 @@ firstPage policy p =
       entry = cond listed (approved false frame) 0;
       approval = cond listed frame none;
       excluded = named policy;
+      pending = none;
+      own = false;
     }
 
 -- A one-page guard with another entry and approval.
 abbrev pub withSlot : Page → Slot → Page
-withSlot page p = record { user = page .user; entry = p .entry; approval = p .approval; excluded = page .excluded }
+withSlot page p =
+    record { user = page .user; entry = p .entry; approval = p .approval; excluded = page .excluded; pending = page .pending; own = page .own }
+
+-- One with other excluded frames and another pending frame, or none.
+abbrev pub withPair : Page → (ℕ → Bool) → ℕ → Bool → Page
+withPair page excluded pending own =
+    record { user = page .user; entry = page .entry; approval = page .approval; excluded = excluded; pending = pending; own = own }
 
 -- "Enter: kernel mode. Leave: user mode. After either, a present entry has bit 63 by the rules above, its other bits kept."
 unfoldable pub switchedPage : Bool → Page → Page
 switchedPage user page =
-    record { user = user; entry = switched user (page .entry); approval = page .approval; excluded = page .excluded }
+    record {
+      user = user;
+      entry = switched user (page .entry);
+      approval = page .approval;
+      excluded = page .excluded;
+      pending = page .pending;
+      own = page .own;
+    }
 
 -- "Synchronising p: steps 1 to 5 on the entry told, with its own mode, its approval as the map's place for p, and as the excluded ones the
--- policy's frames".
+-- policy's frames"; since K6 its own excluded frames and its pending one.
 unfoldable pub stepped : Policy → Page → ℕ → Page
 stepped policy page k =
-    withSlot page (step (rules (page .user) (policy .frames) (page .excluded)) k (page .approval))
+    withSlot page (step (rules (page .user) (policy .frames) (page .pending) (page .excluded)) k (page .approval))
+
+-- K6: the excluded frames with one more, or without one.
+unfoldable pub excludedWith : Bool → ℕ → (ℕ → Bool) → ℕ → Bool
+excludedWith b frame excluded f = cond (eqb f frame) b (excluded f)
+
+-- An ask excludes its frame, and a drop lets it go again. A commit reaches p by its own entry and approval and by whether it was asked for p.
+unfoldable pub askedPage : Page → Bool → ℕ → Page
+askedPage page own frame = withPair page (excludedWith true frame (page .excluded)) frame own
+
+unfoldable pub committedPage : Page → Page
+committedPage page =
+    withPair (withSlot page (committedSlot (page .user) (page .pending) (page .own) (page .entry) (page .approval))) (page .excluded) none false
+
+unfoldable pub droppedPage : Page → Page
+droppedPage page = withPair page (excludedWith false (page .pending) (page .excluded)) none false
 
 unfoldable pub told : Policy → Page → News → Page
 told policy page (synchronised k) = stepped policy page k
 told policy page entered = switchedPage false page
 told policy page exited = switchedPage true page
+told policy page (asked own frame) = askedPage page own frame
+told policy page committed = committedPage page
+told policy page dropped = droppedPage page
 told policy page nothing = page
 
 -- What a synchronisation of one page and one of all tell it, of what gives each page its kernel entry. All pages are those below V.
@@ -88,10 +127,13 @@ news policy p (write address length) = nothing
 news policy p (enter index) = entered
 news policy p (leave page) = exited
 news policy p (deviceWrite devices device address size) = nothing
+news policy p (ask page frame) = asked (eqb p page) frame
+news policy p commit = committed
+news policy p drop = dropped
 
 -- What the questions look at, made of the policy and the one-page guards. They were all told the same switches, so that the mode, and the
 -- excluded frames, are read off page 0's. "the state and guard tables pass question 7". "Only what else a later request asks about is read from
--- the state and tables that reach the call": the number of devices (K5).
+-- the state and tables that reach the call": the number of devices (K5), and whether and what is pending (K6).
 abbrev pub seenBy : Policy → (ℕ → Page) → Guard → View
 seenBy policy ps reaching =
     record {
@@ -100,6 +142,7 @@ seenBy policy ps reaching =
       entryCount = policy .entryCount;
       entryPage = λ i. getD (entryPages policy) i 0;
       devices = reaching .state .devices;
+      pending = reaching .state .pending;
       user = (ps 0) .user;
       shadow = λ p. (ps p) .entry;
       approval = λ p. (ps p) .approval;

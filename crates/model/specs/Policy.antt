@@ -5,6 +5,7 @@ use mathlib.Core.List.{List, [], _∷_}
 use lib.ListN.{getD}
 use lib.Dec.{ltb, eqb}
 use Rattle.model.specs.declared.Mode.the-variants.{Kernel, User}
+use Rattle.model.specs.declared.Pending.the-variants.{Nothing}
 use Rattle.model.specs.declared.State.{State}
 use Rattle.model.specs.Basics.{table, member}
 use Rattle.model.specs.Keeps.{none, Tables, Guard, guardOf, vectorOf, stateOf}
@@ -74,10 +75,11 @@ firstEntry approval = cond (eqb approval none) 0 (approved false approval)
 unfoldable pub entryPages : Policy → List ℕ
 entryPages policy = table 16 (λ i. cond (ltb i (policy .entryCount)) (getD (policy .listedPages) i 0) 0)
 
--- "stands in kernel mode on the first entry page"
+-- "stands in kernel mode on the first entry page"; nothing is pending (K6).
 unfoldable pub startState : Givens → Policy → State
 startState given policy =
     stateOf (policy .pages) (policy .frames) (policy .entryCount) (entryPages policy) (Kernel (getD (policy .listedPages) 0 0)) (given .devices)
+    Nothing
 
 -- "An accepted start sets the map and exclusion bits from the arrays, every other map place to 65535 and every other exclusion bit to 0,
 -- makes the shadow entry of each listed page an approved one, zeroes the others, and stands in kernel mode on the first entry page."
@@ -94,4 +96,4 @@ startGuard given policy = guardOf (startState given policy) (startTables policy)
 
 -- "A refused start, which has no state to keep, answers a state of zeros in user mode on page 0."
 unfoldable pub zeroState : State
-zeroState = stateOf 0 0 0 (table 16 (λ i. 0)) (User 0) 0
+zeroState = stateOf 0 0 0 (table 16 (λ i. 0)) (User 0) 0 Nothing

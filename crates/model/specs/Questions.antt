@@ -4,14 +4,17 @@ use mathlib.Core.Bool.{Bool, true, not, cond}
 use mathlib.Core.List.{List, [], _∷_, _++_}
 use lib.ListN.{length, getD}
 use lib.Dec.{leb, ltb, eqb}
+use Rattle.model.specs.declared.Pending.{Pending}
+use Rattle.model.specs.declared.Pending.the-variants.{Nothing, Pair}
 use Rattle.model.specs.declared.State.{State}
 use Rattle.model.specs.declared.Device.{Device}
 use Rattle.model.specs.Basics.{both, either, within, everyFrom}
 use Rattle.model.specs.Edges.{pageBytes, pagesInRange, framesInRange, devicesInRange, lastByte, lastPage, touched}
-use Rattle.model.specs.Keeps.{none, Tables, Guard, vectorBytes, excludedIn, inUser, running}
+use Rattle.model.specs.Keeps.{none, Tables, Guard, vectorBytes, excludedIn, inUser, running, isPending}
 use Rattle.model.specs.Policy.{Policy, Givens}
 use Rattle.model.specs.Tree.{Tree, treeInOrder}
 use Rattle.model.specs.Devices.{inWindow}
+use Rattle.model.specs.Approvals.{mapsWritable}
 use Rattle.model.specs.Bits.{present, writable, userBit, noExecute, kernelNoExecute, approvedMark, frameOf}
 
 -- A question with its number, and whether its answer is yes.
@@ -36,6 +39,8 @@ pub record View : Type 0 where
   pub entryPage : ℕ → ℕ
   -- how many devices there are (K5)
   pub devices : ℕ
+  -- what is pending (K6)
+  pub pending : Pending
   -- user mode
   pub user : Bool
   -- the shadow entry and the approval of a page, and whether a frame is excluded
@@ -48,11 +53,18 @@ pub record View : Type 0 where
   pub mapFits : Bool
   pub exclusionFits : Bool
 
--- "7. Are the state's V, F within range, e from 1 to 16, the running page below V"; K5: a number of devices outside its range gives "7 later".
+-- K6: "Question 7 wants a pending pair below V and F".
+unfoldable pub pendingInRange : ℕ → ℕ → Pending → Bool
+pendingInRange pages frames Nothing = true
+pendingInRange pages frames (Pair page frame) = both (ltb page pages) (ltb frame frames)
+
+-- "7. Are the state's V, F within range, e from 1 to 16, the running page below V"; K5: a number of devices outside its range gives "7 later"; K6: the
+-- pending pair.
 unfoldable pub stateInOrder : State → Bool
 stateInOrder s =
     both (pagesInRange (s .pages)) (both (framesInRange (s .frames))
-    (both (within 1 16 (s .«entry_count»)) (both (ltb (running (s .mode)) (s .pages)) (devicesInRange (s .devices)))))
+    (both (within 1 16 (s .«entry_count»)) (both (ltb (running (s .mode)) (s .pages))
+    (both (devicesInRange (s .devices)) (pendingInRange (s .pages) (s .frames) (s .pending))))))
 
 -- The guard's view. The questions of a call look only at the tables that it is lent.
 abbrev pub seen : Guard → View
@@ -63,6 +75,7 @@ seen g =
       entryCount = g .state .«entry_count»;
       entryPage = λ i. getD (g .state .«entry_pages») i 0;
       devices = g .state .devices;
+      pending = g .state .pending;
       user = inUser (g .state .mode);
       shadow = λ p. getD (g .tables .shadow) p 0;
       approval = λ p. getD (g .tables .map) p none;
@@ -234,4 +247,32 @@ deviceWriteQuestions v listed d device address size =
     ∷ question 9 (ltb (lastByte address size) (v .frames * pageBytes))
     ∷ question 19 (both (inWindow d (address / pageBytes)) (inWindow d (lastPage address size)))
     ∷ question 13 (everyTouched (free v) address size)
+    ∷ []
+
+-- K6, ask: "question 9 the named frame below F", and its page below V. "It refuses, after 9, with 20 an ask while one is pending, an ask [..] whose page has
+-- an approval, or an ask for an excluded frame, with 21 an ask for a frame that a present shadow entry maps writable".
+unfoldable pub askQuestions : View → ℕ → ℕ → List Question
+askQuestions v page frame =
+    question 7 (inOrder (v .stateFits) (v .shadowFits ∷ v .mapFits ∷ v .exclusionFits ∷ []))
+    ∷ question 9 (both (ltb page (v .pages)) (ltb frame (v .frames)))
+    ∷ question 20 (both (not (isPending (v .pending))) (both (eqb (v .approval page) none) (not (v .excluded frame))))
+    ∷ question 21 (everyFrom (λ p. not (mapsWritable frame (v .shadow p))) 0 (v .pages))
+    ∷ []
+
+-- Commit: "with 20 [..] [a] commit whose page has an approval", the pending one; "and with 22 a commit or drop with nothing pending".
+unfoldable pub pageUnapproved : View → Pending → Bool
+pageUnapproved v Nothing = true
+pageUnapproved v (Pair page frame) = eqb (v .approval page) none
+
+unfoldable pub commitQuestions : View → List Question
+commitQuestions v =
+    question 7 (inOrder (v .stateFits) (v .shadowFits ∷ v .mapFits ∷ []))
+    ∷ question 20 (pageUnapproved v (v .pending))
+    ∷ question 22 (isPending (v .pending))
+    ∷ []
+
+unfoldable pub dropQuestions : View → List Question
+dropQuestions v =
+    question 7 (inOrder (v .stateFits) (v .exclusionFits ∷ []))
+    ∷ question 22 (isPending (v .pending))
     ∷ []

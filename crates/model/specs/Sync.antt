@@ -8,16 +8,18 @@ use Rattle.model.specs.declared.Entry.{Entry}
 use Rattle.model.specs.declared.Entry.the-variants.{Absent, Present}
 use Rattle.model.specs.Basics.{differs}
 use Rattle.model.specs.Keeps.{none}
-use Rattle.model.specs.Bits.{takenApart, approved, ordinary}
+use Rattle.model.specs.Bits.{takenApart, approved, ordinary, inspected}
 
 -- What a step reads beside the kernel entry and the page's approval.
 pub record Rules : Type 0 where
   pub user : Bool
   pub frames : ℕ
+  -- the pending frame, or 65535, which is no frame below F (K6)
+  pub pending : ℕ
   pub excluded : ℕ → Bool
 
-abbrev pub rules : Bool → ℕ → (ℕ → Bool) → Rules
-rules user frames excluded = record { user = user; frames = frames; excluded = excluded }
+abbrev pub rules : Bool → ℕ → ℕ → (ℕ → Bool) → Rules
+rules user frames pending excluded = record { user = user; frames = frames; pending = pending; excluded = excluded }
 
 -- A page's slot in the tables: its shadow entry and its number in the map.
 pub record Slot : Type 0 where
@@ -31,6 +33,7 @@ slot entry approval = record { entry = entry; approval = approval }
 -- "2. Else the map has a frame for this page: an approved entry with the map's frame, not the kernel's." Source 000, section 5.1: a kernel
 -- entry that maps an approved virtual page must contain the address of an approved physical page.
 -- "3. Else frame at or above F: shadow 0." Source 004, section 4.2: no address at or above the memory limit is copied.
+-- K6: "while pending, synchronising an ordinary entry for it clears writable and sets bit 9; this comes before step 4." The page does not join.
 -- "4. Else the frame is excluded: the page joins the map with it; approved entry." Source 000, section 5.1: every virtual alias of an
 -- approved physical page must disallow writes to it.
 -- "5. Else ordinary: present, writable, user, frame and bit 9 from the kernel entry." K3: and bits 3 and 4.
@@ -39,8 +42,9 @@ stepOf rules Absent approval = slot 0 approval
 stepOf rules (Present x) approval =
     cond (not (eqb approval none)) (slot (approved (rules .user) approval) approval)
     (cond (leb (rules .frames) (x .frame)) (slot 0 approval)
+    (cond (eqb (x .frame) (rules .pending)) (slot (ordinary (rules .user) (inspected x)) approval)
     (cond (rules .excluded (x .frame)) (slot (approved (rules .user) (x .frame)) (x .frame))
-    (slot (ordinary (rules .user) x) approval)))
+    (slot (ordinary (rules .user) x) approval))))
 
 -- Steps 1 to 5 on a kernel entry and the page's number in the map. The shadow entry that stood there is not read.
 unfoldable pub step : Rules → ℕ → ℕ → Slot

@@ -5,6 +5,7 @@ use Prim.Native.Nat.{ℕ, suc, _+_, _-_, _*_}
 use mathlib.Core.Bool.{true, false}
 use mathlib.Core.List.{List, [], _∷_, _++_}
 use lib.ListN.{length, replicate, set}
+use Rattle.model.specs.declared.Pending.the-variants.{Nothing}
 use Rattle.model.specs.declared.Mode.the-variants.{Kernel, User}
 use Rattle.model.specs.Keeps.{tables, Guard, guardOf, stateOf}
 use Rattle.model.specs.Tree.{Tree, treeOf, Walk, walkOf}
@@ -268,7 +269,7 @@ oneTable count entry = treeOf (replicate count entry) 0 1
 -- A guard of so many pages with these shadow entries, none approved, no frame excluded; and with entry 1 at each.
 unfoldable pub shadowed : ℕ → List ℕ → Guard
 shadowed pages shadow =
-    guardOf (stateOf pages 8 1 (replicate 16 0) (Kernel 0) 1) (tables shadow (replicate pages 65535) (0 ∷ []))
+    guardOf (stateOf pages 8 1 (replicate 16 0) (Kernel 0) 1 Nothing) (tables shadow (replicate pages 65535) (0 ∷ []))
 
 unfoldable pub ones : ℕ → Guard
 ones pages = shadowed pages (replicate pages 1)

@@ -3,9 +3,10 @@
 
 ghost use mathlib.Core.Path.{_≡_};
 ghost use mathlib.Core.List.{_++_};
-ghost use Rattle.model.specs.Cache.{ApartYields, OrdinaryCarries, StepCarries, SwitchKeeps};
+ghost use Rattle.model.specs.Cache.{ApartYields, OrdinaryCarries, StepCarries, StepWrites, SwitchKeeps};
 ghost use Rattle.model.specs.Cases.{cases, Hold};
 ghost use Rattle.model.specs.Claim.{Claim};
+ghost use Rattle.model.specs.Committing.{CommittedKept};
 ghost use Rattle.model.specs.DeviceCases.{deviceCases, windowCases};
 ghost use Rattle.model.specs.Drill.{drillOutput};
 ghost use Rattle.model.specs.DrillCases.{drillCases, Limit};
@@ -47,6 +48,12 @@ pub enum Mode {
     User(u16),
 }
 
+// Document 02, K6: "the state holds at most one pending pair": the page and the frame of an ask, until it is committed or dropped.
+pub enum Pending {
+    Nothing,
+    Pair(u16, u16),
+}
+
 // Document 01, "What the guard keeps": the state.
 pub struct State {
     // V, the number of virtual pages.
@@ -60,6 +67,7 @@ pub struct State {
     pub mode: Mode,
     // K5: the number of devices, which the start is given.
     pub devices: u16,
+    pub pending: Pending,
 }
 
 // Document 02, K5: "a list of devices, one record each, with first and last permitted frame". C lays it out as it stands.
@@ -132,7 +140,7 @@ pub fn written_again()
 // Document 02, K3: an entry taken apart yields the cache bits, "an ordinary shadow entry carries them", an approved entry does not, and a mode
 // switch keeps them.
 pub fn cache_bits()
-    ensures { λ _. ⌜ ApartYields × OrdinaryCarries × StepCarries × SwitchKeeps ⌝ }
+    ensures { λ _. ⌜ ApartYields × OrdinaryCarries × StepCarries × StepWrites × SwitchKeeps ⌝ }
 {}
 
 // Document 02, K4: what walks give, and what synchronising from a tree gives.
@@ -178,4 +186,9 @@ pub fn limit_of_calls()
 // Demand 3: one claim about every list of calls after an accepted start.
 pub fn every_list()
     ensures { λ _. ⌜ Claim ⌝ }
+{}
+
+// Document 02, K6: "No write or transfer allowed from its ask onward covers a byte of a committed frame."
+pub fn committed_kept()
+    ensures { λ _. ⌜ CommittedKept ⌝ }
 {}

@@ -1,4 +1,4 @@
-// The tests behind questions 7, 8 and 9, each a function that a call or a crate above can ask; the mode of a state, and a refused answer with it.
+// The tests behind questions 7, 8 and 9, each a function that a call or a crate above can ask; the mode of a state and its pending pair, and a refused answer with it.
 // Sums of address and length are exact: no test computes one.
 
 ghost use mathlib.Core.Path.{_≡_};
@@ -12,8 +12,8 @@ ghost use Rattle.model.specs.Basics;
 ghost use Rattle.model.specs.Basics.{within};
 ghost use Rattle.model.specs.Edges.{pageBytes, pagesInRange, framesInRange, devicesInRange, lastByte, lastPage};
 ghost use Rattle.model.specs.Keeps;
-ghost use Rattle.model.specs.Keeps.{vectorBytes, inUser, modeOf, inMode};
-ghost use Rattle.model.specs.Questions.{stateInOrder, inOrder};
+ghost use Rattle.model.specs.Keeps.{vectorBytes, inUser, modeOf, isPending, pendingFrame, inMode, withPending};
+ghost use Rattle.model.specs.Questions.{pendingInRange, stateInOrder, inOrder};
 use model::Answer;
 use model::Called;
 use model::ENTRY_PAGES;
@@ -23,7 +23,9 @@ use model::MOST_PAGES;
 use model::MOST_TRANSFERRED;
 use model::MOST_WRITTEN;
 use model::Mode;
+use model::NONE;
 use model::PAGE_BYTES;
+use model::Pending;
 use model::State;
 
 // The mode.
@@ -57,11 +59,33 @@ pub fn on_page(m: Mode, page: u16) -> Mode
     }
 }
 
-// The state with another mode: the one place where a state is made anew.
+// What is pending (K6): whether a pair is, and its frame.
+
+pub fn is_pending(pending: Pending) -> bool
+    ensures { λ r. ⌜ r ≡ isPending pending ⌝ }
+{
+    match pending {
+        Pending::Nothing => false,
+        Pending::Pair(_, _) => true,
+    }
+}
+
+pub fn pending_frame(pending: Pending) -> u16
+    ensures { λ r. ⌜ r ≡ pendingFrame pending ⌝ }
+{
+    match pending {
+        Pending::Nothing => NONE,
+        Pending::Pair(_, frame) => frame,
+    }
+}
+
+// The state with another mode, and with another pair or none: a state is made anew here alone.
+
 pub fn in_mode(s: State, m: Mode) -> State
     ensures { λ r. ⌜ r ≡ inMode s m ⌝ }
 {
     let entry_pages = s.entry_pages;
+    let pending = s.pending;
     State {
         pages: s.pages,
         frames: s.frames,
@@ -69,6 +93,23 @@ pub fn in_mode(s: State, m: Mode) -> State
         entry_pages,
         mode: m,
         devices: s.devices,
+        pending,
+    }
+}
+
+pub fn with_pending(s: State, pending: Pending) -> State
+    ensures { λ r. ⌜ r ≡ withPending s pending ⌝ }
+{
+    let entry_pages = s.entry_pages;
+    let mode = s.mode;
+    State {
+        pages: s.pages,
+        frames: s.frames,
+        entry_count: s.entry_count,
+        entry_pages,
+        mode,
+        devices: s.devices,
+        pending,
     }
 }
 
@@ -124,18 +165,30 @@ pub fn devices_in_range(count: u64) -> bool
     in_range(1, MOST_DEVICES as u64, count)
 }
 
+// The page of a pending pair is below V, and its frame below F (K6).
+pub fn pending_in_range(pages: u16, frames: u16, pending: Pending) -> bool
+    ensures { λ r. ⌜ r ≡ pendingInRange pages frames pending ⌝ }
+{
+    match pending {
+        Pending::Nothing => true,
+        Pending::Pair(page, frame) => both(page < pages, frame < frames),
+    }
+}
+
 pub fn state_in_order(s: State) -> bool
     ensures { λ r. ⌜ r ≡ stateInOrder s ⌝ }
 {
     let mode = s.mode;
+    let pending = s.pending;
     let entries = entry_count_in_range(s.entry_count as u64);
     let exists = running(mode) < s.pages;
     let devices = devices_in_range(s.devices as u64);
+    let pair = pending_in_range(s.pages, s.frames, pending);
     both(
         pages_in_range(s.pages as u64),
         both(
             frames_in_range(s.frames as u64),
-            both(entries, both(exists, devices)),
+            both(entries, both(exists, both(devices, pair))),
         ),
     )
 }
@@ -174,7 +227,7 @@ pub fn start_in_order(pages: u16, frames: u16, shadow: usize, map: usize, exclus
     )
 }
 
-// Question 7 of a synchronisation from a tree, which is lent no kernel table.
+// Question 7 of a synchronisation from a tree, and of an ask (K6): no kernel table is lent.
 pub fn tree_sync_in_order(s: State, shadow: usize, map: usize, exclusion: usize) -> bool
     ensures { λ r. ⌜ r ≡ inOrder (stateInOrder s) (eqb shadow (s .pages) ∷ eqb map (s .pages) ∷ eqb exclusion (vectorBytes (s .frames)) ∷ []) ⌝ }
 {
@@ -222,6 +275,23 @@ pub fn device_write_in_order(s: State, exclusion: usize, listed: usize) -> bool
     )
 }
 
+// Question 7 of a commit and of a drop (K6).
+
+pub fn commit_in_order(s: State, shadow: usize, map: usize) -> bool
+    ensures { λ r. ⌜ r ≡ inOrder (stateInOrder s) (eqb shadow (s .pages) ∷ eqb map (s .pages) ∷ []) ⌝ }
+{
+    both(
+        entries_fit(shadow, s.pages),
+        both(entries_fit(map, s.pages), state_in_order(s)),
+    )
+}
+
+pub fn drop_in_order(s: State, exclusion: usize) -> bool
+    ensures { λ r. ⌜ r ≡ inOrder (stateInOrder s) (eqb exclusion (vectorBytes (s .frames)) ∷ []) ⌝ }
+{
+    both(vector_fits(exclusion, s.frames), state_in_order(s))
+}
+
 // Question 8.
 
 pub fn write_length(length: u64) -> bool
@@ -242,6 +312,13 @@ pub fn page_exists(page: u64, pages: u16) -> bool
     ensures { λ r. ⌜ r ≡ ltb page pages ⌝ }
 {
     page < pages as u64
+}
+
+// The page that an ask names is below V, and its frame below F (K6).
+pub fn pair_exists(page: u64, frame: u64, pages: u16, frames: u16) -> bool
+    ensures { λ r. ⌜ r ≡ Basics.both (ltb page pages) (ltb frame frames) ⌝ }
+{
+    both(page < pages as u64, frame < frames as u64)
 }
 
 // The last byte of a run of bytes is below a limit. A run of no bytes ends one below its address, or at 0.

@@ -10,6 +10,7 @@ use borrow.Author.Tests.{not-true, not-false}
 use Rattle.model.specs.declared.Called.{Called}
 use Rattle.model.specs.declared.Answer.the-variants.{Done}
 use Rattle.model.specs.declared.Mode.the-variants.{Kernel}
+use Rattle.model.specs.declared.Pending.the-variants.{Nothing}
 use Rattle.model.specs.Edges.{devicesInRange}
 use Rattle.model.specs.Keeps.{Tables, tables, vectorBytes}
 use Rattle.model.specs.Policy.{Givens, numberAt, policyOf, startState, startTables, startGuard}
@@ -27,7 +28,7 @@ pub accepted-is : (given : Givens) (bytes : List ℕ) (count entries pages frame
     → entry ≡ entryTable bytes entries → pages ≡ numberAt bytes 0 → frames ≡ numberAt bytes 2 → first ≡ numberAt bytes 8
     → policyOf bytes .entryCount ≤ policyOf bytes .count → 1 ≤ policyOf bytes .count → devices ≡ given .devices
     → _≡_ {A = Called}
-    (record { answer = Done count entries; state = record { pages = pages; frames = frames; «entry_count» = entries; «entry_pages» = entry; mode = Kernel first; devices = devices } })
+    (record { answer = Done count entries; state = record { pages = pages; frames = frames; «entry_count» = entries; «entry_pages» = entry; mode = Kernel first; devices = devices; pending = Nothing } })
     (acceptedStart given bytes)
 unfolding acceptedStart startState policyOf
 accepted-is given bytes count entries pages frames first devices entry n e t v f p listed some d =

@@ -15,6 +15,7 @@ use model::Called;
 use model::ENTRY_PAGES;
 use model::Mode;
 use model::NONE;
+use model::Pending;
 use model::State;
 use model::VECTOR_BYTES;
 
@@ -145,6 +146,7 @@ fn refused_start(number: u64) -> Called
             entry_pages: [0u16; ENTRY_PAGES],
             mode: Mode::User(0),
             devices: 0,
+            pending: Pending::Nothing,
         },
     }
 }
@@ -167,6 +169,7 @@ fn accepted_start(bytes: &[u8], devices: u64) -> Called
             entry_pages: pages,
             mode: Mode::Kernel(policy::number_from(bytes, PAGES)),
             devices: devices as u16,
+            pending: Pending::Nothing,
         },
     }
 }

@@ -1,21 +1,29 @@
 -- A law for each answer of this crate's functions: the five steps, the counts, and a page stored.
 use Prim.Native.Nat.{ℕ, _+_, _/_, _≤_, _<_}
-use mathlib.Core.Bool.{Bool, true, false}
+use mathlib.Core.Bool.{Bool, true, false, not}
 use mathlib.Core.List.{List}
-use mathlib.Core.Path.{_≡_, sym, _∙_}
+use mathlib.Core.Path.{_≡_, refl, sym, _∙_}
 use native.Mathlib.Omega.{arith}
 use lib.ListN.{getD, set}
 use lib.Seq.{set-getD}
-use borrow.Author.Tests.{eq-eqb, ne-eqb, le-leb, lt-leb}
+use lib.Dec.{eqb}
+use borrow.Author.Tests.{eq-eqb, ne-eqb, le-leb, lt-leb, not-true, not-false}
 use Rattle.model.specs.declared.Entry.{Entry}
 use Rattle.model.specs.declared.Entry.the-variants.{Absent, Present}
 use Rattle.model.specs.declared.Fields.{Fields}
-use Rattle.model.specs.Basics.{differs}
+use Rattle.model.specs.Basics.{both, either, differs}
 use Rattle.model.specs.Keeps.{none, vectorBytes}
-use Rattle.model.specs.Bits.{fieldsOf, valid, takenApart, approved, ordinary}
+use Rattle.model.specs.Bits.{fieldsOf, valid, takenApart, approved, ordinaryNoExecute, ordinary, inspected}
+use Rattle.model.specs.Approvals.{maps, committedSlot}
 use Rattle.model.specs.Sync.{Rules, Slot, slot, stepOf, step, sweep}
 use Rattle.model.proofs.BitLaws.{fields-apart, present-valid}
 use Rattle.step.specs.Steps.{stored}
+
+-- An entry whose frame is pending is the same in both modes: with bit 9 set the ordinary rule sets bit 63.
+inspected-mode : (user : Bool) (x : Fields) → ordinary user (inspected x) ≡ ordinary true (inspected x)
+unfolding ordinary inspected ordinaryNoExecute either
+inspected-mode true x = refl
+inspected-mode false x = refl
 
 -- Steps 1 to 5.
 module _ (r : Rules) (k a : ℕ) (e : Entry) (apart : e ≡ takenApart k) where
@@ -34,16 +42,23 @@ module _ (r : Rules) (k a : ℕ) (e : Entry) (apart : e ≡ takenApart k) where
   unfolding step stepOf
   step-above x p q l = rw (← apart, p, eq-eqb a none q, le-leb (r .frames) (x .frame) l)
 
-  pub step-excluded : (x : Fields) (n : ℕ) (b : Bool) → e ≡ Present x → a ≡ 65535 → x .frame < r .frames → b ≡ r .excluded (x .frame) → b ≡ true
-      → n ≡ approved (r .user) (x .frame) → slot n (x .frame) ≡ step r k a
+  pub step-pending : (x : Fields) (n : ℕ) → e ≡ Present x → a ≡ 65535 → x .frame < r .frames → x .frame ≡ r .pending
+      → n ≡ ordinary true (inspected (fieldsOf k)) → slot n a ≡ step r k a
   unfolding step stepOf
-  step-excluded x n b p q l s t u = rw (← apart, p, eq-eqb a none q, lt-leb (r .frames) (x .frame) l, ← s, t, u)
+  step-pending x n p q l o u =
+      rw (← apart, p, eq-eqb a none q, lt-leb (r .frames) (x .frame) l, eq-eqb (x .frame) (r .pending) o, u, fields-apart k x (sym apart ∙ p), inspected-mode (r .user) x)
 
-  pub step-ordinary : (x : Fields) (n : ℕ) (b : Bool) → e ≡ Present x → a ≡ 65535 → x .frame < r .frames → b ≡ r .excluded (x .frame) → b ≡ false
-      → n ≡ ordinary (r .user) (fieldsOf k) → slot n a ≡ step r k a
+  pub step-excluded : (x : Fields) (n : ℕ) (b : Bool) → e ≡ Present x → a ≡ 65535 → x .frame < r .frames → (x .frame ≡ r .pending → ⊥)
+      → b ≡ r .excluded (x .frame) → b ≡ true → n ≡ approved (r .user) (x .frame) → slot n (x .frame) ≡ step r k a
   unfolding step stepOf
-  step-ordinary x n b p q l s t u =
-      rw (← apart, p, eq-eqb a none q, lt-leb (r .frames) (x .frame) l, ← s, t, u, fields-apart k x (sym apart ∙ p))
+  step-excluded x n b p q l o s t u =
+      rw (← apart, p, eq-eqb a none q, lt-leb (r .frames) (x .frame) l, ne-eqb (x .frame) (r .pending) o, ← s, t, u)
+
+  pub step-ordinary : (x : Fields) (n : ℕ) (b : Bool) → e ≡ Present x → a ≡ 65535 → x .frame < r .frames → (x .frame ≡ r .pending → ⊥)
+      → b ≡ r .excluded (x .frame) → b ≡ false → n ≡ ordinary (r .user) (fieldsOf k) → slot n a ≡ step r k a
+  unfolding step stepOf
+  step-ordinary x n b p q l o s t u =
+      rw (← apart, p, eq-eqb a none q, lt-leb (r .frames) (x .frame) l, ne-eqb (x .frame) (r .pending) o, ← s, t, u, fields-apart k x (sym apart ∙ p))
 
 -- The frame of a present entry below F has a bit in the vector.
 pub frame-in : (frames frame long : ℕ) → long ≡ vectorBytes frames → frame < frames → frame / 8 < long
@@ -68,3 +83,35 @@ pub stored-step : (p : Slot) (i e a changed joined x y : ℕ) (shadow map shadow
     → sweep shadow′ map′ x y ≡ stored i (sweep shadow map changed joined) p
 unfolding stored
 stored-step p i e a changed joined x y shadow map shadow′ map′ q ps pm px py = rw (← q, ps, pm, px, py)
+
+-- What a commit makes of a page (K6): each way in which it joins or does not, and its slot stored.
+module _ (asked : Bool) (frame entry approval : ℕ) where
+  pub joins-asked : asked ≡ true → true ≡ either asked (both (eqb approval none) (maps frame entry))
+  unfolding either
+  joins-asked p = rw p refl
+
+  pub joins-not : asked ≡ false → (approval ≡ 65535 → ⊥) → false ≡ either asked (both (eqb approval none) (maps frame entry))
+  unfolding either both
+  joins-not p q = rw (p, ne-eqb approval none q) refl
+
+  pub joins-maps : (b : Bool) → asked ≡ false → approval ≡ 65535 → b ≡ maps frame entry → b ≡ either asked (both (eqb approval none) (maps frame entry))
+  unfolding either both
+  joins-maps b p q e = rw (p, eq-eqb approval none q) e
+
+pub commit-left : (user asked b : Bool) (i frame changed joined : ℕ) (shadow map : List ℕ)
+    → b ≡ either asked (both (eqb (getD map i 0) none) (maps frame (getD shadow i 0))) → not b ≡ true
+    → sweep shadow map changed joined ≡ stored i (sweep shadow map changed joined) (committedSlot user frame asked (getD shadow i 0) (getD map i 0))
+unfolding stored committedSlot
+commit-left user asked b i frame changed joined shadow map e p =
+    rw (sym e ∙ not-true b p)
+    (stored-step (slot (getD shadow i 0) (getD map i 0)) i (getD shadow i 0) (getD map i 0) changed joined changed joined shadow map shadow map refl
+    (kept shadow i (getD shadow i 0) refl) (kept map i (getD map i 0) refl) (same-counts changed _ _ refl) (same-counts joined _ _ refl))
+
+pub commit-joins : (user asked b : Bool) (i frame e changed joined x y : ℕ) (shadow map shadow′ map′ : List ℕ)
+    → b ≡ either asked (both (eqb (getD map i 0) none) (maps frame (getD shadow i 0))) → not b ≡ false → e ≡ approved user frame
+    → shadow′ ≡ set shadow i e → map′ ≡ set map i frame → x ≡ changed + differs (getD shadow i 0) e → y ≡ joined + differs (getD map i 0) frame
+    → sweep shadow′ map′ x y ≡ stored i (sweep shadow map changed joined) (committedSlot user frame asked (getD shadow i 0) (getD map i 0))
+unfolding committedSlot
+commit-joins user asked b i frame e changed joined x y shadow map shadow′ map′ q p r ps pm px py =
+    rw (sym q ∙ not-false b p)
+    (stored-step (slot (approved user frame) frame) i e frame changed joined x y shadow map shadow′ map′ (rw r refl) ps pm px py)

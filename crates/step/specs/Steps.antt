@@ -8,8 +8,8 @@ use Rattle.model.specs.Basics.{differs}
 use Rattle.model.specs.Keeps.{excludedIn}
 use Rattle.model.specs.Sync.{Rules, rules, Slot, Sweep, sweep}
 
-abbrev pub rulesBy : Bool → ℕ → List ℕ → Rules
-rulesBy user frames exclusion = rules user frames (excludedIn exclusion)
+abbrev pub rulesBy : Bool → ℕ → ℕ → List ℕ → Rules
+rulesBy user frames pending exclusion = rules user frames pending (excludedIn exclusion)
 
 -- The slot p stored at page i of both tables, and counted where that changed them.
 unfoldable pub stored : ℕ → Sweep → Slot → Sweep

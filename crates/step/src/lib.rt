@@ -1,13 +1,15 @@
 // Document 01, "Synchronising one page": steps 1 to 5 on a page's kernel entry, stored in both tables and counted. They read an entry and no kernel table,
-// so that every synchronisation has them in common.
+// so that every synchronisation has them in common. Document 02, K6: what a commit makes of a page, stored and counted in the same way.
 
 use model::Entry;
 use model::NONE;
 ghost use mathlib.Core.Path.{_≡_};
 ghost use Prim.Native.Nat.{_+_, _<_, _≤_};
 ghost use lib.ListN.{length, getD, set};
-ghost use Rattle.model.specs.Basics.{differs};
-ghost use Rattle.model.specs.Keeps.{vectorBytes};
+ghost use lib.Dec.{eqb};
+ghost use Rattle.model.specs.Basics.{both, either, differs};
+ghost use Rattle.model.specs.Keeps.{none, vectorBytes};
+ghost use Rattle.model.specs.Approvals.{maps, committedSlot};
 ghost use Rattle.model.specs.Sync;
 ghost use Rattle.model.specs.Sync.{slot, sweep};
 ghost use Rattle.step.specs.Steps.{rulesBy, stored};
@@ -18,10 +20,11 @@ struct Slot {
     approval: u16,
 }
 
-// Steps 1 to 5 on a kernel entry and the page's number in the map. The vector has a bit for each frame below F, as question 7 has settled.
-fn step(user: bool, frames: u16, exclusion: &[u8], entry: u64, approval: u16) -> Slot
+// Steps 1 to 5 on a kernel entry and the page's number in the map, with the pending frame, or 65535, which no frame below F is (K6). The vector has a bit for
+// each frame below F, as question 7 has settled.
+fn step(user: bool, frames: u16, pending: u16, exclusion: &[u8], entry: u64, approval: u16) -> Slot
     requires { ⌜ length (now exclusion) ≡ vectorBytes frames ⌝ }
-    ensures { λ r. ⌜ slot (r .entry) (r .approval) ≡ Sync.step (rulesBy user frames (now (exclusion .entry))) entry approval ⌝ }
+    ensures { λ r. ⌜ slot (r .entry) (r .approval) ≡ Sync.step (rulesBy user frames pending (now (exclusion .entry))) entry approval ⌝ }
 {
     let empty = Slot { entry: 0, approval };
     let Entry::Present(x) = entry::take_apart(entry) else {
@@ -35,6 +38,12 @@ fn step(user: bool, frames: u16, exclusion: &[u8], entry: u64, approval: u16) ->
     }
     if frames as u64 <= x.frame {
         return empty;
+    }
+    if x.frame == pending as u64 {
+        return Slot {
+            entry: entry::inspected_of(entry),
+            approval,
+        };
     }
     if bitmap::excluded_within(exclusion, x.frame) {
         let frame = x.frame as u16;
@@ -87,6 +96,7 @@ fn put_approval(map: &mut [u16], i: usize, approval: u16, joined: u64) -> u64
 pub fn sync_at(
     user: bool,
     frames: u16,
+    pending: u16,
     exclusion: &[u8],
     entry: u64,
     shadow: &mut [u64],
@@ -98,11 +108,49 @@ pub fn sync_at(
         × (length (now exclusion) ≡ vectorBytes frames) ⌝ }
     ensures { λ r. ⌜ (sweep (now (shadow .exit)) (now (map .exit)) (r .changed) (r .joined)
         ≡ stored i (sweep (now (shadow .entry)) (now (map .entry)) (counts .changed) (counts .joined))
-        (Sync.step (rulesBy user frames (now (exclusion .entry))) entry (getD (now (map .entry)) i 0)))
+        (Sync.step (rulesBy user frames pending (now (exclusion .entry))) entry (getD (now (map .entry)) i 0)))
         × (r .changed ≤ counts .changed + 1) × (r .joined ≤ counts .joined + 1) ⌝ }
 {
-    let slot = step(user, frames, exclusion, entry, map[i]);
+    let slot = step(user, frames, pending, exclusion, entry, map[i]);
     let joined = put_approval(map, i, slot.approval, counts.joined);
     let changed = put_entry(shadow, i, slot.entry, counts.changed);
+    Counts { changed, joined }
+}
+
+// A page that a commit approves (K6): the asked one, and every page without a number in the map whose present shadow entry has the frame.
+fn joins(asked: bool, frame: u16, entry: u64, approval: u16) -> bool
+    ensures { λ r. ⌜ r ≡ either asked (both (eqb approval none) (maps frame entry)) ⌝ }
+{
+    if asked {
+        return true;
+    }
+    if approval != NONE {
+        return false;
+    }
+    entry::maps(entry, frame)
+}
+
+// What a commit makes of page i, stored in both tables and counted. It asks that both tables have the page, which question 7 and the limit at V have settled
+// in its caller, and that no more pages were counted than lie before it.
+pub fn commit_at(
+    user: bool,
+    frame: u16,
+    asked: bool,
+    shadow: &mut [u64],
+    map: &mut [u16],
+    i: usize,
+    counts: Counts,
+) -> Counts
+    requires { ⌜ (i < length (now shadow)) × (i < length (now map)) × (counts .changed ≤ i) × (counts .joined ≤ i) ⌝ }
+    ensures { λ r. ⌜ (sweep (now (shadow .exit)) (now (map .exit)) (r .changed) (r .joined)
+        ≡ stored i (sweep (now (shadow .entry)) (now (map .entry)) (counts .changed) (counts .joined))
+        (committedSlot user frame asked (getD (now (shadow .entry)) i 0) (getD (now (map .entry)) i 0)))
+        × (r .changed ≤ counts .changed + 1) × (r .joined ≤ counts .joined + 1) ⌝ }
+{
+    if !joins(asked, frame, shadow[i], map[i]) {
+        return counts;
+    }
+    let joined = put_approval(map, i, frame, counts.joined);
+    let changed = put_entry(shadow, i, entry::approved(user, frame), counts.changed);
     Counts { changed, joined }
 }

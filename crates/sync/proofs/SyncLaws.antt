@@ -11,7 +11,7 @@ use borrow.Author.Tests.{eqb-true, ltb-true, not-false}
 use Rattle.model.specs.declared.State.{State}
 use Rattle.model.specs.declared.Answer.the-variants.{Done, Refused}
 use Rattle.model.specs.Basics.{differs}
-use Rattle.model.specs.Keeps.{none, Tables, withThree, Guard, guardOf, vectorBytes, inUser}
+use Rattle.model.specs.Keeps.{none, Tables, withThree, Guard, guardOf, vectorBytes, inUser, pendingFrame}
 use Rattle.model.specs.Bits.{takenApart}
 use Rattle.model.specs.Sync.{Rules, Slot, step, Sweep, sweep, sweepFrom, entryIn, stepFrom}
 use Rattle.model.specs.Tree.{Tree, treeOf, treeInOrder, flatAt}
@@ -113,21 +113,21 @@ module _ (s : State) (shadow map exclusion : List ℕ) (kernel : ℕ → ℕ) wh
   abbrev guard : Tables → Guard
   guard t = guardOf s (withThree shadow map exclusion t)
 
-  all-given : (u : Bool) (shadow′ map′ : List ℕ) (x y : ℕ) → u ≡ inUser (s .mode)
-      → sweep shadow′ map′ x y ≡ sweepFrom (stepFrom (rulesBy u (s .frames) exclusion) kernel) 0 shadow map → (t : Tables)
+  all-given : (u : Bool) (f : ℕ) (shadow′ map′ : List ℕ) (x y : ℕ) → u ≡ inUser (s .mode) → f ≡ pendingFrame (s .pending)
+      → sweep shadow′ map′ x y ≡ sweepFrom (stepFrom (rulesBy u (s .frames) f exclusion) kernel) 0 shadow map → (t : Tables)
       → keptBy (Done x y) s (withThree shadow′ map′ exclusion t) ≡ allFrom (guard t) kernel
   unfolding allFrom allSynced outcomeBy replyOf
-  all-given u shadow′ map′ x y q p t = ap (allSynced (guard t)) (rw q at p)
+  all-given u f shadow′ map′ x y q w p t = ap (allSynced (guard t)) (rw (q, w) at p)
 
-  one-given : (u : Bool) (page : ℕ) (shadow′ map′ : List ℕ) (x y : ℕ) → page < length map → u ≡ inUser (s .mode)
-      → sweep shadow′ map′ x y ≡ stored page (sweep shadow map 0 0) (step (rulesBy u (s .frames) exclusion) (kernel page) (getD map page 0)) → (t : Tables)
+  one-given : (u : Bool) (f page : ℕ) (shadow′ map′ : List ℕ) (x y : ℕ) → page < length map → u ≡ inUser (s .mode) → f ≡ pendingFrame (s .pending)
+      → sweep shadow′ map′ x y ≡ stored page (sweep shadow map 0 0) (step (rulesBy u (s .frames) f exclusion) (kernel page) (getD map page 0)) → (t : Tables)
       → keptBy (Done x y) s (withThree shadow′ map′ exclusion t) ≡ pageFrom (guard t) kernel page
   unfolding pageFrom stepFrom pageSynced allSynced stored outcomeBy replyOf
-  one-given u page shadow′ map′ x y inside q p t =
+  one-given u f page shadow′ map′ x y inside q w p t =
       let z : Slot = step (rulesOf s exclusion) (kernel page) (getD map page none) in
       let e
       : sweep shadow′ map′ x y ≡ sweep (set shadow page (z .entry)) (set map page (z .approval)) (differs (getD shadow page 0) (z .entry)) (differs (getD map page none) (z .approval))
-      = simp zero-add at (rw (q, getD-inside map page 0 none inside) at p) in
+      = simp zero-add at (rw (q, w, getD-inside map page 0 none inside) at p) in
       ap (allSynced (guard t)) e
 
 -- The calls from a flat table, refused and accepted.
@@ -147,13 +147,13 @@ module _ (s : State) (kernel shadow map exclusion : List ℕ) (r : Bool)
   page-refused page p t = refused-by (before t) (syncPage kernel page) _ 7 (sym (stopped 7 r _ _ asked p)) (λ z. omega arith) refl refl
 
   module _ (yes7 : not r ≡ false) where
-    pub all-accepted : (u v : Bool) (shadow′ map′ : List ℕ) (x y : ℕ) → u ≡ inUser (s .mode) → u ≡ v
-        → sweep shadow′ map′ x y ≡ sweepFrom (stepFrom (rulesBy v (s .frames) exclusion) (entryIn kernel)) 0 shadow map → (t : Tables)
+    pub all-accepted : (u v : Bool) (f : ℕ) (shadow′ map′ : List ℕ) (x y : ℕ) → u ≡ inUser (s .mode) → u ≡ v → f ≡ pendingFrame (s .pending)
+        → sweep shadow′ map′ x y ≡ sweepFrom (stepFrom (rulesBy v (s .frames) f exclusion) (entryIn kernel)) 0 shadow map → (t : Tables)
         → keptBy (Done x y) s (withThree shadow′ map′ exclusion t) ≡ answer (before t) (syncAll kernel)
     unfolding questionsOf syncAllQuestions effectOf
-    all-accepted u v shadow′ map′ x y q i p t =
+    all-accepted u v f shadow′ map′ x y q i w p t =
         accepted-by (before t) (syncAll kernel) _ (sym (passed 7 0 r _ _ asked yes7 none-left))
-        (all-given s shadow map exclusion (entryIn kernel) v shadow′ map′ x y (sym i ∙ q) p t)
+        (all-given s shadow map exclusion (entryIn kernel) v f shadow′ map′ x y (sym i ∙ q) w p t)
 
     module _ (page : ℕ) (b : Bool) (exists : b ≡ ltb page (s .pages)) where
       pub page-absent : not b ≡ true → (t : Tables)
@@ -162,14 +162,14 @@ module _ (s : State) (kernel shadow map exclusion : List ℕ) (r : Bool)
       page-absent p t =
           refused-by (before t) (syncPage kernel page) _ 9 (sym (passed 7 9 r _ _ asked yes7 (stopped 9 b _ _ exists p))) (λ z. omega arith) refl refl
 
-      pub page-accepted : (u : Bool) (shadow′ map′ : List ℕ) (x y : ℕ) → not b ≡ false → u ≡ inUser (s .mode)
-          → sweep shadow′ map′ x y ≡ stored page (sweep shadow map 0 0) (step (rulesBy u (s .frames) exclusion) (getD kernel page 0) (getD map page 0)) → (t : Tables)
+      pub page-accepted : (u : Bool) (f : ℕ) (shadow′ map′ : List ℕ) (x y : ℕ) → not b ≡ false → u ≡ inUser (s .mode) → f ≡ pendingFrame (s .pending)
+          → sweep shadow′ map′ x y ≡ stored page (sweep shadow map 0 0) (step (rulesBy u (s .frames) f exclusion) (getD kernel page 0) (getD map page 0)) → (t : Tables)
           → keptBy (Done x y) s (withThree shadow′ map′ exclusion t) ≡ answer (before t) (syncPage kernel page)
       unfolding questionsOf syncPageQuestions effectOf
-      page-accepted u shadow′ map′ x y there q p t =
+      page-accepted u f shadow′ map′ x y there q w p t =
           let inside : page < length map = flat-page-map s (length kernel) (length shadow) (length map) (length exclusion) r asked yes7 page b exists there in
           accepted-by (before t) (syncPage kernel page) _ (sym (passed 7 0 r _ _ asked yes7 (passed 9 0 b _ _ exists there none-left)))
-          (one-given s shadow map exclusion (entryIn kernel) u page shadow′ map′ x y inside q p t)
+          (one-given s shadow map exclusion (entryIn kernel) u f page shadow′ map′ x y inside q w p t)
 
 -- Question 17 answered yes.
 pub tree-yes : (words : List ℕ) (root depth : ℕ) (w : Bool) → w ≡ treeInOrder (treeOf words root depth) → not w ≡ false
@@ -209,13 +209,13 @@ module _ (s : State) (words : List ℕ) (root depth : ℕ) (shadow map exclusion
         refused-by (before-tree t) (syncPageTree tree page) _ 17 (sym (passed 7 17 r _ _ asked yes7 (stopped 17 w _ _ walks p))) (λ z. omega arith) refl refl
 
     module _ (yes17 : not w ≡ false) where
-      pub all-tree-accepted : (u : Bool) (shadow′ map′ : List ℕ) (x y : ℕ) → u ≡ inUser (s .mode)
-          → sweep shadow′ map′ x y ≡ sweepFrom (stepFrom (rulesBy u (s .frames) exclusion) (flatAt tree)) 0 shadow map → (t : Tables)
+      pub all-tree-accepted : (u : Bool) (f : ℕ) (shadow′ map′ : List ℕ) (x y : ℕ) → u ≡ inUser (s .mode) → f ≡ pendingFrame (s .pending)
+          → sweep shadow′ map′ x y ≡ sweepFrom (stepFrom (rulesBy u (s .frames) f exclusion) (flatAt tree)) 0 shadow map → (t : Tables)
           → keptBy (Done x y) s (withThree shadow′ map′ exclusion t) ≡ answer (before-tree t) (syncAllTree tree)
       unfolding questionsOf syncAllTreeQuestions effectOf
-      all-tree-accepted u shadow′ map′ x y q p t =
+      all-tree-accepted u f shadow′ map′ x y q z p t =
           accepted-by (before-tree t) (syncAllTree tree) _ (sym (passed 7 0 r _ _ asked yes7 (passed 17 0 w _ _ walks yes17 none-left)))
-          (all-given s shadow map exclusion (flatAt tree) u shadow′ map′ x y q p t)
+          (all-given s shadow map exclusion (flatAt tree) u f shadow′ map′ x y q z p t)
 
       module _ (page : ℕ) (b : Bool) (exists : b ≡ ltb page (s .pages)) where
         pub page-tree-9 : not b ≡ true → (t : Tables)
@@ -224,14 +224,14 @@ module _ (s : State) (words : List ℕ) (root depth : ℕ) (shadow map exclusion
         page-tree-9 p t =
             refused-by (before-tree t) (syncPageTree tree page) _ 9 (sym (passed 7 9 r _ _ asked yes7 (passed 17 9 w _ _ walks yes17 (stopped 9 b _ _ exists p)))) (λ z. omega arith) refl refl
 
-        pub page-tree-accepted : (u : Bool) (k : ℕ) (shadow′ map′ : List ℕ) (x y : ℕ) → not b ≡ false → u ≡ inUser (s .mode)
+        pub page-tree-accepted : (u : Bool) (f k : ℕ) (shadow′ map′ : List ℕ) (x y : ℕ) → not b ≡ false → u ≡ inUser (s .mode) → f ≡ pendingFrame (s .pending)
             → takenApart k ≡ takenApart (flatAt tree page)
-            → sweep shadow′ map′ x y ≡ stored page (sweep shadow map 0 0) (step (rulesBy u (s .frames) exclusion) k (getD map page 0)) → (t : Tables)
+            → sweep shadow′ map′ x y ≡ stored page (sweep shadow map 0 0) (step (rulesBy u (s .frames) f exclusion) k (getD map page 0)) → (t : Tables)
             → keptBy (Done x y) s (withThree shadow′ map′ exclusion t) ≡ answer (before-tree t) (syncPageTree tree page)
         unfolding questionsOf syncPageTreeQuestions effectOf
-        page-tree-accepted u k shadow′ map′ x y there q apart p t =
+        page-tree-accepted u f k shadow′ map′ x y there q z apart p t =
             let inside : page < length map = tree-page-map s (length shadow) (length map) (length exclusion) r asked yes7 page b exists there in
             accepted-by (before-tree t) (syncPageTree tree page) _
             (sym (passed 7 0 r _ _ asked yes7 (passed 17 0 w _ _ walks yes17 (passed 9 0 b _ _ exists there none-left))))
-            (one-given s shadow map exclusion (flatAt tree) u page shadow′ map′ x y inside q
+            (one-given s shadow map exclusion (flatAt tree) u f page shadow′ map′ x y inside q z
             (p ∙ ap (stored page (sweep shadow map 0 0)) (step-same _ k (flatAt tree page) (getD map page 0) apart)) t)

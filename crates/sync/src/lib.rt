@@ -28,6 +28,7 @@ const FRAME: u64 = 0x1000;
 fn sync_pages(
     user: bool,
     frames: u16,
+    pending: u16,
     exclusion: &[u8],
     kernel: &[u64],
     shadow: &mut [u64],
@@ -36,7 +37,7 @@ fn sync_pages(
     requires { ⌜ (length (now shadow) ≡ length (now kernel)) × (length (now map) ≡ length (now kernel))
         × (length (now exclusion) ≡ vectorBytes frames) ⌝ }
     ensures { λ r. ⌜ sweep (now (shadow .exit)) (now (map .exit)) (r .changed) (r .joined)
-        ≡ sweepFrom (stepFrom (rulesBy user frames (now (exclusion .entry))) (entryIn (now (kernel .entry)))) 0 (now (shadow .entry)) (now (map .entry)) ⌝ }
+        ≡ sweepFrom (stepFrom (rulesBy user frames pending (now (exclusion .entry))) (entryIn (now (kernel .entry)))) 0 (now (shadow .entry)) (now (map .entry)) ⌝ }
 {
     let mut counts = Counts {
         changed: 0,
@@ -44,7 +45,17 @@ fn sync_pages(
     };
     let mut i = 0;
     while i < kernel.len() {
-        counts = step::sync_at(user, frames, exclusion, kernel[i], shadow, map, i, counts);
+        counts = step::sync_at(
+            user,
+            frames,
+            pending,
+            exclusion,
+            kernel[i],
+            shadow,
+            map,
+            i,
+            counts,
+        );
         i += 1;
     }
     counts
@@ -95,6 +106,7 @@ fn sync_run(
     user: bool,
     large: bool,
     frames: u16,
+    pending: u16,
     exclusion: &[u8],
     words: &[u64],
     source: Source,
@@ -106,7 +118,7 @@ fn sync_run(
     requires { ⌜ (pages .first ≤ pages .end) × (pages .end ≤ length (now shadow)) × (length (now map) ≡ length (now shadow)) × (counts .changed ≤ pages .first)
         × (counts .joined ≤ pages .first) × (length (now exclusion) ≡ vectorBytes frames) × Holds large (now words) source (pages .end - pages .first) ⌝ }
     ensures { λ r. ⌜ (sweep (now (shadow .exit)) (now (map .exit)) (r .changed) (r .joined)
-        ≡ sweptFrom (stepFrom (rulesBy user frames (now (exclusion .entry))) (entryBy large (now (words .entry)) source (pages .first))) (pages .first)
+        ≡ sweptFrom (stepFrom (rulesBy user frames pending (now (exclusion .entry))) (entryBy large (now (words .entry)) source (pages .first))) (pages .first)
         (pages .end - pages .first) (sweep (now (shadow .entry)) (now (map .entry)) (counts .changed) (counts .joined)))
         × (r .changed ≤ pages .end) × (r .joined ≤ pages .end) ⌝ }
 {
@@ -116,7 +128,17 @@ fn sync_run(
     let mut i = first;
     while i < end {
         let entry = kernel_entry(large, words, source, i - first);
-        counts = step::sync_at(user, frames, exclusion, entry, shadow, map, i, counts);
+        counts = step::sync_at(
+            user,
+            frames,
+            pending,
+            exclusion,
+            entry,
+            shadow,
+            map,
+            i,
+            counts,
+        );
         i += 1;
     }
     counts
@@ -126,6 +148,7 @@ fn sync_run(
 fn sync_part(
     user: bool,
     frames: u16,
+    pending: u16,
     exclusion: &[u8],
     words: &[u64],
     part: Part,
@@ -138,7 +161,7 @@ fn sync_part(
         × (counts .joined ≤ pages .first) × (length (now exclusion) ≡ vectorBytes frames) × (pages .first % 512 ≡ 0) × (pages .end - pages .first ≤ 512)
         × Sound (now words) part ⌝ }
     ensures { λ r. ⌜ (sweep (now (shadow .exit)) (now (map .exit)) (r .changed) (r .joined)
-        ≡ sweptFrom (stepFrom (rulesBy user frames (now (exclusion .entry))) (flatIn (now (words .entry)) part)) (pages .first) (pages .end - pages .first)
+        ≡ sweptFrom (stepFrom (rulesBy user frames pending (now (exclusion .entry))) (flatIn (now (words .entry)) part)) (pages .first) (pages .end - pages .first)
         (sweep (now (shadow .entry)) (now (map .entry)) (counts .changed) (counts .joined)))
         × (r .changed ≤ pages .end) × (r .joined ≤ pages .end) ⌝ }
 {
@@ -155,6 +178,7 @@ fn sync_part(
                 user,
                 false,
                 frames,
+                pending,
                 exclusion,
                 words,
                 table,
@@ -175,6 +199,7 @@ fn sync_part(
                 user,
                 true,
                 frames,
+                pending,
                 exclusion,
                 words,
                 large,
@@ -195,6 +220,7 @@ fn sync_part(
                 user,
                 true,
                 frames,
+                pending,
                 exclusion,
                 words,
                 absent,
@@ -223,6 +249,7 @@ fn part_end(first: usize, pages: usize) -> usize
 fn sync_parts(
     user: bool,
     frames: u16,
+    pending: u16,
     exclusion: &[u8],
     words: &[u64],
     root: u64,
@@ -232,7 +259,7 @@ fn sync_parts(
 ) -> Counts
     requires { ⌜ (treeInOrder (treeOf (now words) root depth) ≡ true) × (length (now map) ≡ length (now shadow)) × (length (now exclusion) ≡ vectorBytes frames) ⌝ }
     ensures { λ r. ⌜ sweep (now (shadow .exit)) (now (map .exit)) (r .changed) (r .joined)
-        ≡ sweepFrom (stepFrom (rulesBy user frames (now (exclusion .entry))) (flatAt (treeOf (now (words .entry)) root depth))) 0 (now (shadow .entry)) (now (map .entry)) ⌝ }
+        ≡ sweepFrom (stepFrom (rulesBy user frames pending (now (exclusion .entry))) (flatAt (treeOf (now (words .entry)) root depth))) 0 (now (shadow .entry)) (now (map .entry)) ⌝ }
 {
     let mut counts = Counts {
         changed: 0,
@@ -245,6 +272,7 @@ fn sync_parts(
         counts = sync_part(
             user,
             frames,
+            pending,
             exclusion,
             words,
             part,
@@ -279,6 +307,7 @@ pub fn sync_page(
     }
     let i = page as usize;
     let mode = s.mode;
+    let pending = s.pending;
     let none = Counts {
         changed: 0,
         joined: 0,
@@ -286,6 +315,7 @@ pub fn sync_page(
     let one = step::sync_at(
         questions::in_user(mode),
         s.frames,
+        questions::pending_frame(pending),
         exclusion,
         kernel[i],
         shadow,
@@ -312,12 +342,14 @@ pub fn sync_all(
         return Answer::Refused(7);
     }
     let mode = s.mode;
+    let pending = s.pending;
+    let frame = questions::pending_frame(pending);
     // Each mode has its own loop, which then asks nothing of the mode.
     if questions::in_user(mode) {
-        let all = sync_pages(true, s.frames, exclusion, kernel, shadow, map);
+        let all = sync_pages(true, s.frames, frame, exclusion, kernel, shadow, map);
         return Answer::Done(all.changed, all.joined);
     }
-    let all = sync_pages(false, s.frames, exclusion, kernel, shadow, map);
+    let all = sync_pages(false, s.frames, frame, exclusion, kernel, shadow, map);
     Answer::Done(all.changed, all.joined)
 }
 
@@ -349,6 +381,7 @@ pub fn sync_page_tree(
     let last = tree::last_in(words, part, page);
     let i = page as usize;
     let mode = s.mode;
+    let pending = s.pending;
     let none = Counts {
         changed: 0,
         joined: 0,
@@ -356,6 +389,7 @@ pub fn sync_page_tree(
     let one = step::sync_at(
         questions::in_user(mode),
         s.frames,
+        questions::pending_frame(pending),
         exclusion,
         tree::narrow(part.all, part.any, last),
         shadow,
@@ -387,9 +421,11 @@ pub fn sync_all_tree(
         return Answer::Refused(17);
     }
     let mode = s.mode;
+    let pending = s.pending;
     let all = sync_parts(
         questions::in_user(mode),
         s.frames,
+        questions::pending_frame(pending),
         exclusion,
         words,
         root,

@@ -1,6 +1,6 @@
 -- Laws of the runs that cross the boundary: a word as a 16-bit field, a table filled from the front, a run written word by word.
 use Prim.Native.Nat.{ℕ, suc, _+_, _≤_, _<_}
-use mathlib.Core.Bool.{Bool, true, false, not}
+use mathlib.Core.Bool.{Bool, true, false, not, cond}
 use mathlib.Core.List.{List, [], _∷_, _++_, append-assoc, append-nil}
 use mathlib.Core.Path.{_≡_, refl, sym, ap, _∙_}
 use lib.ListN.{length, getD, set, take, length-set}
@@ -13,13 +13,14 @@ use native.Mathlib.Omega.{arith}
 use Rattle.model.specs.declared.Answer.{Answer}
 use Rattle.model.specs.declared.Answer.the-variants.{Done, Refused}
 use Rattle.model.specs.declared.Mode.{Mode}
+use Rattle.model.specs.declared.Pending.the-variants.{Nothing, Pair}
 use Rattle.model.specs.Basics.{both, within}
 use Rattle.model.specs.Keeps.{inUser}
 use Rattle.model.specs.Calls.{replyOf}
 use Rattle.model.proofs.QuestionLaws.{both-no, both-first, within-above}
 use Rattle.model.proofs.TableLaws.{is-table}
-use Rattle.words.specs.Words.{stateWords, entryPagesAt, entryWords, modeAt, firstAt, secondAt, answerNumbers, widest}
-use Rattle.words.specs.Words.{narrow, field, entryPagesIn, modeWord, overwritten, withNumbers, runsFit, lendable}
+use Rattle.words.specs.Words.{stateWords, entryPagesAt, entryWords, modeAt, pendingAt, pendingPageAt, pendingFrameAt, firstAt, secondAt, answerNumbers, widest}
+use Rattle.words.specs.Words.{narrow, field, entryPagesIn, pendingIn, modeWord, overwritten, withNumbers, runsFit, lendable}
 
 -- A word that fits 16 bits, and a wider one.
 pub narrow-fits : (word : ℕ) → word ≤ widest → word ≡ narrow word
@@ -38,6 +39,23 @@ mode-word-user mode b p q = rw (sym p ∙ q) refl
 pub mode-word-kernel : (mode : Mode) (b : Bool) → b ≡ inUser mode → b ≡ false → 0 ≡ modeWord mode
 unfolding modeWord
 mode-word-kernel mode b p q = rw (sym p ∙ q) refl
+
+-- What is pending, by a test of its word.
+pub pair-read : (run : List ℕ) (page frame : ℕ) → getD run pendingAt 0 ≡ 1 → page ≡ field run pendingPageAt → frame ≡ field run pendingFrameAt
+    → Pair page frame ≡ pendingIn run
+unfolding pendingIn
+pair-read run page frame w p f = rw (eq-eqb (getD run pendingAt 0) 1 w, p, f) refl
+
+pub nothing-read : (run : List ℕ) → (getD run pendingAt 0 ≡ 1 → ⊥) → Nothing ≡ pendingIn run
+unfolding pendingIn
+nothing-read run w = rw (ne-eqb (getD run pendingAt 0) 1 w) refl
+
+-- A pair is asked where one is pending.
+pub pair-asked : (word : ℕ) (r asked : Bool) → word ≡ 1 → r ≡ asked → r ≡ cond (eqb word 1) asked true
+pair-asked word r asked w e = rw (eq-eqb word 1 w) e
+
+pub nothing-asked : (word : ℕ) (asked : Bool) → (word ≡ 1 → ⊥) → true ≡ cond (eqb word 1) asked true
+nothing-asked word asked w = rw (ne-eqb word 1 w) refl
 
 -- The entry pages, read place by place: those below i have been read.
 pub entries-more : (run t : List ℕ) (i v : ℕ) → length t ≡ entryWords → i < entryWords → ((k : ℕ) → k < i → getD t k 0 ≡ field run (entryPagesAt + k))
@@ -85,9 +103,18 @@ front-table size at n t words run k h (e, f) = (
   λ rest. rw (take-paste run at t n (omega arith) (omega arith), take-all n t (omega arith)) (append-assoc (take at run) t rest ∙ f (t ++ rest)),
 )
 
+-- The words before a place, where nothing is behind them yet, and a run whose words before a place are known.
+pub front-so-far : (size at : ℕ) (words : List ℕ → List ℕ) (run : List ℕ) → Front size at words run → take at run ≡ words []
+unfolding Front
+front-so-far size at words run (e, f) = sym (append-nil (take at run)) ∙ f []
+
+pub front-known : (size at : ℕ) (front run : List ℕ) → length run ≡ size → take at run ≡ front → Front size at (λ rest. front ++ rest) run
+unfolding Front
+front-known size at front run e p = (e, λ rest. ap (λ (l : List ℕ). l ++ rest) p)
+
 pub front-full : (size : ℕ) (words : List ℕ → List ℕ) (run : List ℕ) → Front size size words run → run ≡ words []
 unfolding Front
-front-full size words run (e, f) = sym (append-nil run) ∙ (ap (λ (l : List ℕ). l ++ []) (sym (take-all size run (omega arith))) ∙ f [])
+front-full size words run (e, f) = sym (take-all size run (omega arith)) ∙ front-so-far size size words run (e, f)
 
 -- A numbers run of its length is written, and one of another is not.
 pub numbers-written : (numbers : List ℕ) (a b : ℕ) → length numbers ≡ answerNumbers → set (set numbers firstAt a) secondAt b ≡ overwritten numbers (a ∷ b ∷ [])
@@ -111,15 +138,19 @@ pub says-refused : (answer : Answer) (numbers after : List ℕ) (n : ℕ) → an
 unfolding withNumbers replyOf
 says-refused answer numbers after n p q = rw p q
 
+-- The mode word and the pending word are each 0 or 1.
+abbrev flagWords : List ℕ → Bool
+flagWords run = both (leb (getD run modeAt 0) 1) (leb (getD run pendingAt 0) 1)
+
 -- The boundary's part of question 7, by the test of the lengths.
 module _ (count : ℕ) (run numbers : List ℕ) (b : Bool) where
   pub lengths-wrong : b ≡ runsFit count run numbers → not b ≡ true → false ≡ lendable count run numbers
   unfolding lendable
-  lengths-wrong p q = sym (both-no (leb (getD run modeAt 0) 1) (sym p ∙ not-true b q))
+  lengths-wrong p q = sym (both-no (flagWords run) (sym p ∙ not-true b q))
 
-  pub lengths-right : b ≡ runsFit count run numbers → not b ≡ false → leb (getD run modeAt 0) 1 ≡ lendable count run numbers
+  pub lengths-right : (r : Bool) → b ≡ runsFit count run numbers → not b ≡ false → r ≡ flagWords run → r ≡ lendable count run numbers
   unfolding lendable both
-  lengths-right p q = rw (sym p ∙ not-false b q) refl
+  lengths-right r p q e = rw (sym p ∙ not-false b q) e
 
   pub run-fits : b ≡ runsFit count run numbers → not b ≡ false → length run ≡ stateWords
   unfolding runsFit
@@ -127,6 +158,9 @@ module _ (count : ℕ) (run numbers : List ℕ) (b : Bool) where
 
   pub mode-inside : b ≡ runsFit count run numbers → not b ≡ false → modeAt < length run
   mode-inside p q = let n : length run ≡ stateWords = run-fits p q in omega arith
+
+  pub pending-inside : b ≡ runsFit count run numbers → not b ≡ false → pendingAt < length run
+  pending-inside p q = let n : length run ≡ stateWords = run-fits p q in omega arith
 
   -- The state's part asked after it, of runs that can be lent.
   pub lent-wrong : (fit : Bool) → b ≡ lendable count run numbers → not b ≡ true → false ≡ both (lendable count run numbers) fit
@@ -139,7 +173,7 @@ module _ (count : ℕ) (run numbers : List ℕ) (b : Bool) where
 pub run-lent : (count : ℕ) (run numbers : List ℕ) (b : Bool) → b ≡ lendable count run numbers → not b ≡ false → length run ≡ stateWords
 unfolding lendable
 run-lent count run numbers b p q =
-    run-fits count run numbers true (sym (both-first (runsFit count run numbers) (leb (getD run modeAt 0) 1) (sym p ∙ not-false b q))) refl
+    run-fits count run numbers true (sym (both-first (runsFit count run numbers) (flagWords run) (sym p ∙ not-false b q))) refl
 
 pub narrow-below : (word : ℕ) → narrow word ≤ widest
 narrow-below word = by (leb word widest) refl

@@ -2,25 +2,27 @@
 // A function that takes a state run has a `requires`: its callers have asked for the length.
 
 ghost use mathlib.Core.Path.{_≡_};
-ghost use mathlib.Core.List.{[], _∷_};
+ghost use mathlib.Core.List.{[], _∷_, _++_};
+ghost use mathlib.Core.Bool.{true, cond};
 ghost use Prim.Native.Nat.{_<_};
-ghost use lib.ListN.{length};
+ghost use lib.ListN.{length, getD, take};
 ghost use lib.Seq.{paste};
-ghost use lib.Dec.{eqb};
+ghost use lib.Dec.{ltb, eqb};
 ghost use Rattle.model.specs.Basics;
 ghost use Rattle.model.specs.Keeps.{modeOf, running};
-ghost use Rattle.model.specs.Questions.{stateInOrder};
+ghost use Rattle.model.specs.Questions.{pendingInRange, stateInOrder};
 ghost use Rattle.model.specs.Calls.{replyOf};
 ghost use Rattle.words.specs.Words;
-ghost use Rattle.words.specs.Words.{stateWords, entryPagesAt, entryWords, answerNumbers, entryPagesIn, stateIn, modeWord, wordsOf, withWords, pagePlaces, modePlaces, overwritten, withNumbers, runsFit, runAfter, runStarted, WideRefused};
+ghost use Rattle.words.specs.Words.{stateWords, entryPagesAt, modeAt, pendingAt, pendingPageAt, pendingFrameAt, entryWords, answerNumbers, entryPagesIn, pendingIn, stateIn, modeWord, lastWords, wordsOf, withWords, pagePlaces, modePlaces, pendingPlaces, overwritten, withNumbers, runsFit, runAfter, runStarted, WideRefused, WidePairRefused};
 use model::Answer;
 use model::Called;
 use model::ENTRY_PAGES;
 use model::Mode;
+use model::Pending;
 use model::State;
 
 // The layout of a state run. include/guard.h has the same constants, which tests/header compares.
-pub const STATE_WORDS: usize = 22;
+pub const STATE_WORDS: usize = 25;
 
 pub const STATE_PAGES: usize = 0;
 
@@ -36,12 +38,23 @@ pub const STATE_RUNNING: usize = 20;
 
 pub const STATE_DEVICES: usize = 21;
 
+pub const STATE_PENDING: usize = 22;
+
+pub const STATE_PENDING_PAGE: usize = 23;
+
+pub const STATE_PENDING_FRAME: usize = 24;
+
 pub const MODE_KERNEL: u64 = 0;
 
 pub const MODE_USER: u64 = 1;
 
 // The length of a numbers run.
 pub const NUMBERS: usize = 2;
+
+// The pending word, where no pair is pending and where one is.
+const NOT_PENDING: u64 = 0;
+
+const PENDING: u64 = 1;
 
 // The widest 16-bit field.
 const WIDEST: u16 = 65535;
@@ -100,6 +113,21 @@ fn entry_pages(run: &[u64]) -> [u16; ENTRY_PAGES]
     entry
 }
 
+// What is pending. Where no pair is, its words are not read.
+fn pending_in(run: &[u64]) -> Pending
+    requires { ⌜ length (now run) ≡ stateWords ⌝ }
+    ensures { λ r. ⌜ r ≡ pendingIn (now (run .entry)) ⌝ }
+{
+    if run[STATE_PENDING] == PENDING {
+        Pending::Pair(
+            field(run, STATE_PENDING_PAGE),
+            field(run, STATE_PENDING_FRAME),
+        )
+    } else {
+        Pending::Nothing
+    }
+}
+
 // The state that a run holds. The run has its length, which `usable` has asked for.
 pub fn state_in(run: &[u64]) -> State
     requires { ⌜ length (now run) ≡ stateWords ⌝ }
@@ -110,6 +138,7 @@ pub fn state_in(run: &[u64]) -> State
     let entry_count = field(run, STATE_ENTRIES);
     let pages_in = entry_pages(run);
     let mode = mode_of(run[STATE_MODE], field(run, STATE_RUNNING));
+    let pending = pending_in(run);
     State {
         pages,
         frames,
@@ -117,6 +146,7 @@ pub fn state_in(run: &[u64]) -> State
         entry_pages: pages_in,
         mode,
         devices: field(run, STATE_DEVICES),
+        pending,
     }
 }
 
@@ -140,6 +170,27 @@ fn put_mode(run: &mut [u64], s: State)
     run[STATE_RUNNING] = questions::running(mode) as u64;
 }
 
+// Writes the three words of what is pending into a run, and no other. The numbers of a pair have 16 bits, on which decoding rests.
+fn put_pending(run: &mut [u64], s: State)
+    requires { ⌜ length (now run) ≡ stateWords ⌝ }
+    ensures words { λ _. ⌜ now (run .exit) ≡ withWords (now (run .entry)) s pendingPlaces ⌝ }
+    ensures fits { λ _. ⌜ pendingInRange 65536 65536 (s .pending) ≡ true ⌝ }
+{
+    let pending = s.pending;
+    match pending {
+        Pending::Nothing => {
+            run[STATE_PENDING] = NOT_PENDING;
+            run[STATE_PENDING_PAGE] = 0;
+            run[STATE_PENDING_FRAME] = 0;
+        }
+        Pending::Pair(page, frame) => {
+            run[STATE_PENDING] = PENDING;
+            run[STATE_PENDING_PAGE] = page as u64;
+            run[STATE_PENDING_FRAME] = frame as u64;
+        }
+    }
+}
+
 fn put_entry_pages(run: &mut [u64], entry: [u16; ENTRY_PAGES])
     requires { ⌜ length (now run) ≡ stateWords ⌝ }
     ensures { λ _. ⌜ now (run .exit) ≡ paste (now (run .entry)) entryPagesAt entry entryWords ⌝ }
@@ -151,19 +202,37 @@ fn put_entry_pages(run: &mut [u64], entry: [u16; ENTRY_PAGES])
     }
 }
 
-// Writes all words of a state into a run, front to back. What was encoded decodes to the same state.
-fn put_state(run: &mut [u64], s: State)
+// Writes the words before the mode: V, F, e and the entry pages.
+fn put_front(run: &mut [u64], s: State)
     requires { ⌜ length (now run) ≡ stateWords ⌝ }
-    ensures encoded { λ _. ⌜ now (run .exit) ≡ wordsOf s ⌝ }
-    ensures decoded { λ _. ⌜ stateIn (now (run .exit)) ≡ s ⌝ }
+    ensures { λ _. ⌜ take modeAt (now (run .exit)) ≡ s .pages ∷ s .frames ∷ s .«entry_count» ∷ s .«entry_pages» ⌝ }
 {
     let entry = s.entry_pages;
     run[STATE_PAGES] = s.pages as u64;
     run[STATE_FRAMES] = s.frames as u64;
     run[STATE_ENTRIES] = s.entry_count as u64;
     put_entry_pages(run, entry);
+}
+
+// Writes the words behind the entry pages, and no other. The numbers of the mode and of a pair have 16 bits, on which decoding rests.
+fn put_last(run: &mut [u64], s: State)
+    requires { ⌜ length (now run) ≡ stateWords ⌝ }
+    ensures words { λ _. ⌜ now (run .exit) ≡ take modeAt (now (run .entry)) ++ lastWords s ⌝ }
+    ensures fits { λ _. ⌜ (running (s .mode) < 65536) × (pendingInRange 65536 65536 (s .pending) ≡ true) ⌝ }
+{
     put_mode(run, s);
     run[STATE_DEVICES] = s.devices as u64;
+    put_pending(run, s);
+}
+
+// Writes all words of a state into a run, front to back. What was encoded decodes to the same state.
+fn put_state(run: &mut [u64], s: State)
+    requires { ⌜ length (now run) ≡ stateWords ⌝ }
+    ensures encoded { λ _. ⌜ now (run .exit) ≡ wordsOf s ⌝ }
+    ensures decoded { λ _. ⌜ stateIn (now (run .exit)) ≡ s ⌝ }
+{
+    put_front(run, s);
+    put_last(run, s);
 }
 
 // The boundary's part of question 7: the lengths of both runs, which the start asks for. A call's numbers run has a word for each of its numbers.
@@ -173,14 +242,28 @@ pub fn runs_fit(run: &[u64], numbers: &[u64], count: usize) -> bool
     questions::both(run.len() == STATE_WORDS, numbers.len() == count)
 }
 
-// What every other call asks for: a mode word of 0 or 1 too.
+// What every other call asks for: a mode word and a pending word of 0 or 1 too.
 fn lendable(run: &[u64], numbers: &[u64], count: usize) -> bool
     ensures { λ r. ⌜ r ≡ Words.lendable count (now (run .entry)) (now (numbers .entry)) ⌝ }
 {
     if !runs_fit(run, numbers, count) {
         return false;
     }
-    run[STATE_MODE] <= MODE_USER
+    questions::both(run[STATE_MODE] <= MODE_USER, run[STATE_PENDING] <= PENDING)
+}
+
+// The words of a pair, where one is pending: the page is below V and the frame below F.
+fn pair_in_order(run: &[u64], pages: u64, frames: u64) -> bool
+    requires { ⌜ length (now run) ≡ stateWords ⌝ }
+    ensures { λ r. ⌜ r ≡ cond (eqb (getD (now (run .entry)) pendingAt 0) 1) (Basics.both (ltb (getD (now (run .entry)) pendingPageAt 0) pages) (ltb (getD (now (run .entry)) pendingFrameAt 0) frames)) true ⌝ }
+{
+    if run[STATE_PENDING] != PENDING {
+        return true;
+    }
+    questions::both(
+        run[STATE_PENDING_PAGE] < pages,
+        run[STATE_PENDING_FRAME] < frames,
+    )
 }
 
 // The state's part of question 7, on the words of a run. The compiler then drops what the calls below ask of the fields. V is asked first: the
@@ -193,11 +276,15 @@ fn words_in_order(run: &[u64]) -> bool
     if !questions::pages_in_range(pages) {
         return false;
     }
-    let frames = questions::frames_in_range(run[STATE_FRAMES]);
+    let frames = run[STATE_FRAMES];
+    let pair = pair_in_order(run, pages, frames);
     let entries = questions::entry_count_in_range(run[STATE_ENTRIES]);
     let devices = questions::devices_in_range(run[STATE_DEVICES]);
-    let running = questions::both(run[STATE_RUNNING] < pages, devices);
-    questions::both(frames, questions::both(entries, running))
+    let running = questions::both(run[STATE_RUNNING] < pages, questions::both(devices, pair));
+    questions::both(
+        questions::frames_in_range(frames),
+        questions::both(entries, running),
+    )
 }
 
 // Both runs can be lent, and the state is in order.
@@ -271,6 +358,23 @@ pub fn put_switched(run: &mut [u64], numbers: &mut [u64], called: Called) -> u64
     number
 }
 
+// What ask, commit or drop gave: its answer to the numbers run, and what is pending after an accepted one to the state run.
+// The state run has its length, which `usable` has asked for.
+pub fn put_paired(run: &mut [u64], numbers: &mut [u64], called: Called) -> u64
+    requires { ⌜ length (now run) ≡ stateWords ⌝ }
+    ensures number { λ r. ⌜ r ≡ replyOf (called .answer) .number ⌝ }
+    ensures words { λ _. ⌜ now (run .exit) ≡ runAfter (now (run .entry)) pendingPlaces (replyOf (called .answer)) (called .state) ⌝ }
+    ensures both { λ _. ⌜ now (numbers .exit) ≡ withNumbers answerNumbers (now (numbers .entry)) (replyOf (called .answer)) ⌝ }
+{
+    let answer = called.answer;
+    let after = called.state;
+    let number = reply(numbers, answer);
+    if number == 0 {
+        put_pending(run, after);
+    }
+    number
+}
+
 // What a start gave: its answer to the numbers run, and the state of an accepted one to the state run.
 // The state run has its length, which `runs_fit` has asked for.
 pub fn put_started(run: &mut [u64], numbers: &mut [u64], called: Called) -> u64
@@ -288,7 +392,7 @@ pub fn put_started(run: &mut [u64], numbers: &mut [u64], called: Called) -> u64
     refusal
 }
 
-// A word of the state run that is wider than its field is refused by question 7.
+// A word of the state run that is wider than its field is refused by question 7, and so is one of a pair that is pending.
 pub fn wide_words()
-    ensures { λ _. ⌜ WideRefused ⌝ }
+    ensures { λ _. ⌜ WideRefused × WidePairRefused ⌝ }
 {}

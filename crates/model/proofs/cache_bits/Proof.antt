@@ -1,11 +1,11 @@
--- K3: four laws of the bits of entries.
+-- K3: five laws of the bits of entries.
 use Rattle.model.proofs.BitLaws.{ordinary-carries, switch-keeps}
-use Rattle.model.proofs.CacheLaws.{apart-yields, step-carries}
+use Rattle.model.proofs.CacheLaws.{apart-yields, step-carries, step-writes}
 use Rattle.model.proofs.cache_bits.Statement.{statement}
 use Rattle.model.proofs.cache_bits.Tie as tie
 
 returns : tie.Need-returns
-returns c = (apart-yields, ordinary-carries, step-carries, switch-keeps)
+returns c = (apart-yields, ordinary-carries, step-carries, step-writes, switch-keeps)
 
 pub cache-bits-spec : {M : Type 1} → statement M
 cache-bits-spec = tie.close (tie.spec returns)

@@ -22,5 +22,6 @@ returns-3 c = search (needs, all-accepted)
 pub sync-all-spec : {M : Type 1} → statement M
 sync-all-spec =
     tie.close
-    (tie.spec (λ c κs. search needs) returns (λ c κs. search needs) sync-pages-requires (λ c. search needs)
-    (λ c. search needs) returns-2 sync-pages-requires-2 (λ c. search needs) (λ c. search needs) returns-3)
+    (tie.spec (λ c κs. search needs) returns (λ c κs. search needs) (λ c κs. search needs) sync-pages-requires
+    (λ c. search needs) (λ c. search needs) returns-2 sync-pages-requires-2 (λ c. search needs) (λ c. search needs)
+    returns-3)

@@ -4,33 +4,18 @@ use borrow.Author.Needs.{needs}
 use Rattle.sync.proofs.sync_all_tree.Statement.{statement}
 use Rattle.sync.proofs.sync_all_tree.Tie as tie
 
-tree-sync-in-order-requires : tie.Need-tree-sync-in-order-requires
-tree-sync-in-order-requires c κs = search needs
-
 returns : tie.Need-returns
 returns c = search (needs, all-tree-7)
-
-in-order-requires : tie.Need-in-order-requires
-in-order-requires c κs = search needs
 
 returns-2 : tie.Need-returns-2
 returns-2 c = search (needs, all-tree-17)
 
-in-user-requires : tie.Need-in-user-requires
-in-user-requires c κs = search needs
-
 sync-parts-requires : tie.Need-sync-parts-requires
 sync-parts-requires c κs = (
-  tree-yes _ _ _ _ (c .before .before .before .before .in-order .ensures) (c .before .before .before .if2 .left),
-  tree-map _ _ _ _ _ (c .before .before .before .before .before .before .tree-sync-in-order .ensures) (c .before .before .before .before .before .if1 .left),
-  tree-vector _ _ _ _ _ (c .before .before .before .before .before .before .tree-sync-in-order .ensures) (c .before .before .before .before .before .if1 .left),
+  tree-yes _ _ _ _ (c .before .before .before .before .before .in-order .ensures) (c .before .before .before .before .if2 .left),
+  tree-map _ _ _ _ _ (c .before .before .before .before .before .before .before .tree-sync-in-order .ensures) (c .before .before .before .before .before .before .if1 .left),
+  tree-vector _ _ _ _ _ (c .before .before .before .before .before .before .before .tree-sync-in-order .ensures) (c .before .before .before .before .before .before .if1 .left),
 )
-
-same-length : tie.Need-same-length
-same-length c = search needs
-
-same-length-2 : tie.Need-same-length-2
-same-length-2 c = search needs
 
 returns-3 : tie.Need-returns-3
 returns-3 c = search (needs, all-tree-accepted)
@@ -38,5 +23,5 @@ returns-3 c = search (needs, all-tree-accepted)
 pub sync-all-tree-spec : {M : Type 1} → statement M
 sync-all-tree-spec =
     tie.close
-    (tie.spec tree-sync-in-order-requires returns in-order-requires returns-2 in-user-requires sync-parts-requires
-    same-length same-length-2 returns-3)
+    (tie.spec (λ c κs. search needs) returns (λ c κs. search needs) returns-2 (λ c κs. search needs)
+    (λ c κs. search needs) sync-parts-requires (λ c. search needs) (λ c. search needs) returns-3)

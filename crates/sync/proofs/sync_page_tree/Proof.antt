@@ -21,25 +21,25 @@ part-of-requires c κs = tree-yes _ _ _ _ (c .before .before .before .in-order .
 
 sync-at-requires : tie.Need-sync-at-requires
 sync-at-requires c κs =
-    let seven = c .before .before .before .before .before .before .before .before .before .before .before .tree-sync-in-order .ensures in
-    let nine = c .before .before .before .before .before .before .before .page-exists .ensures in (
-      tree-page-shadow _ _ _ _ _ seven (c .before .before .before .before .before .before .before .before .before .before .if1 .left) _ _ nine (c .before .before .before .before .before .before .if3 .left),
-      tree-page-map _ _ _ _ _ seven (c .before .before .before .before .before .before .before .before .before .before .if1 .left) _ _ nine (c .before .before .before .before .before .before .if3 .left),
+    let seven = c .before .before .before .before .before .before .before .before .before .before .before .before .tree-sync-in-order .ensures in
+    let nine = c .before .before .before .before .before .before .before .before .page-exists .ensures in (
+      tree-page-shadow _ _ _ _ _ seven (c .before .before .before .before .before .before .before .before .before .before .before .if1 .left) _ _ nine (c .before .before .before .before .before .before .before .if3 .left),
+      tree-page-map _ _ _ _ _ seven (c .before .before .before .before .before .before .before .before .before .before .before .if1 .left) _ _ nine (c .before .before .before .before .before .before .before .if3 .left),
       omega arith,
       omega arith,
-      tree-vector _ _ _ _ _ seven (c .before .before .before .before .before .before .before .before .before .before .if1 .left),
+      tree-vector _ _ _ _ _ seven (c .before .before .before .before .before .before .before .before .before .before .before .if1 .left),
     )
 
 returns-4 : tie.Need-returns-4
 returns-4 c =
-    let part = c .before .before .before .before .before .before .before .before .before .before .part-of .ensures .1 _ refl in
-    let apart = c .before .before .before .before .before .before .before .narrow .ensures ∙ ap takenApart (c .before .before .before .before .before .before .before .before .before .last-in .ensures ∙ sym (part .0)) in
-    page-tree-accepted _ _ _ _ _ _ _ _ (c .before .before .before .before .before .before .before .before .before .before .before .before .before .before .before .before .tree-sync-in-order .ensures) (c .before .before .before .before .before .before .before .before .before .before .before .before .before .before .before .if1 .left) _ (c .before .before .before .before .before .before .before .before .before .before .before .before .before .before .in-order .ensures) (c .before .before .before .before .before .before .before .before .before .before .before .before .before .if2 .left) _ _
-    (c .before .before .before .before .before .before .before .before .before .before .before .before .page-exists .ensures) _ _ _ _ _ _ (c .before .before .before .before .before .before .before .before .before .before .before .if3 .left) (c .before .before .before .before .before .before .before .before .in-user .ensures) apart (c .before .before .before .before .sync-at .ensures .0)
+    let part = c .before .before .before .before .before .before .before .before .before .before .before .part-of .ensures .1 _ refl in
+    let apart = c .before .before .before .before .before .before .before .narrow .ensures ∙ ap takenApart (c .before .before .before .before .before .before .before .before .before .before .last-in .ensures ∙ sym (part .0)) in
+    page-tree-accepted _ _ _ _ _ _ _ _ (c .before .before .before .before .before .before .before .before .before .before .before .before .before .before .before .before .before .tree-sync-in-order .ensures) (c .before .before .before .before .before .before .before .before .before .before .before .before .before .before .before .before .if1 .left) _ (c .before .before .before .before .before .before .before .before .before .before .before .before .before .before .before .in-order .ensures) (c .before .before .before .before .before .before .before .before .before .before .before .before .before .before .if2 .left) _ _
+    (c .before .before .before .before .before .before .before .before .before .before .before .before .before .page-exists .ensures) _ _ _ _ _ _ _ (c .before .before .before .before .before .before .before .before .before .before .before .before .if3 .left) (c .before .before .before .before .before .before .before .before .before .in-user .ensures) (c .before .before .before .before .before .before .before .before .pending-frame .ensures) apart (c .before .before .before .before .sync-at .ensures .0)
 
 pub sync-page-tree-spec : {M : Type 1} → statement M
 sync-page-tree-spec =
     tie.close
     (tie.spec (λ c κs. search needs) returns (λ c κs. search needs) returns-2 (λ c κs. search needs) returns-3
-    part-of-requires (λ c κs. search needs) (λ c κs. search needs) (λ c κs. search needs) sync-at-requires
-    (λ c. search needs) (λ c. search needs) returns-4)
+    part-of-requires (λ c κs. search needs) (λ c κs. search needs) (λ c κs. search needs) (λ c κs. search needs)
+    sync-at-requires (λ c. search needs) (λ c. search needs) returns-4)

@@ -9,8 +9,8 @@ use Rattle.sync.proofs.sync_part.Tie as tie
 enum-known-below : tie.Need-enum-known-below
 enum-known-below c = search needs
 
-mul-t18 : tie.Need-mul-t18
-mul-t18 c =
+mul-t19 : tie.Need-mul-t19
+mul-t19 c =
     let inside = table-holds (c .before .before .before .before .before .before .before .args .words .now) (c .before .before .before .before .before .before .before .args .part) _ (c .before .before .before .before .before .before .before .pre .8) (c .before .before .before .before .before .before .before .pre .7) (c .before .below .given .0 .0) (search needs) in
     omega (arith, inside)
 
@@ -65,6 +65,6 @@ returns-3 c =
 pub sync-part-spec : {M : Type 1} → statement M
 sync-part-spec =
     tie.close
-    (tie.spec enum-known-below mul-t18 sync-run-requires enum-known-below-2 sync-run-requires-2 enum-told
+    (tie.spec enum-known-below mul-t19 sync-run-requires enum-known-below-2 sync-run-requires-2 enum-told
     sync-run-requires-3 same-length same-length-2 returns same-length-3 same-length-4 returns-2 same-length-5
     same-length-6 returns-3)

@@ -13,13 +13,13 @@ use Rattle.sync.proofs.sync_run.Statement.{statement}
 use Rattle.sync.proofs.sync_run.Tie as tie
 
 abbrev Inv-loop : tie.InvT-loop
-Inv-loop user large frames exclusion words source shadow₀ map₀ first end counts₀ i₀ shadow map counts i =
+Inv-loop user large frames pending exclusion words source shadow₀ map₀ first end counts₀ i₀ shadow map counts i =
     (first ≤ i) × (i ≤ end) × (length shadow ≡ length shadow₀) × (length map ≡ length shadow₀) × (counts .changed ≤ i) × (counts .joined ≤ i)
-    × (sweptFrom (stepFrom (rulesBy user frames exclusion) (entryBy large words source first)) i (end - i) (sweep shadow map (counts .changed) (counts .joined))
-    ≡ sweptFrom (stepFrom (rulesBy user frames exclusion) (entryBy large words source first)) first (end - first) (sweep shadow₀ map₀ (counts₀ .changed) (counts₀ .joined)))
+    × (sweptFrom (stepFrom (rulesBy user frames pending exclusion) (entryBy large words source first)) i (end - i) (sweep shadow map (counts .changed) (counts .joined))
+    ≡ sweptFrom (stepFrom (rulesBy user frames pending exclusion) (entryBy large words source first)) first (end - first) (sweep shadow₀ map₀ (counts₀ .changed) (counts₀ .joined)))
 
 abbrev μ-loop : tie.MeasureT-loop
-μ-loop user large frames exclusion words source shadow₀ map₀ first end counts₀ i₀ shadow map counts i = end - i
+μ-loop user large frames pending exclusion words source shadow₀ map₀ first end counts₀ i₀ shadow map counts i = end - i
 
 loop-holds : tie.Need-loop-holds Inv-loop μ-loop
 loop-holds c = (omega arith, omega arith, refl, omega arith, omega arith, omega arith, refl)

@@ -1,18 +1,19 @@
--- `words::wide_words` meets its contract: 65535 is above every V, F, e and number of devices, and no running page below V.
-use Prim.Native.Nat.{ℕ, _<_}
+-- `words::wide_words` meets its contract: 65535 is above every V, F, e and number of devices, and no running page or pair below V and F.
+use Prim.Native.Nat.{ℕ, _≤_, _<_}
 use mathlib.Core.Bool.{Bool, true, false, false≢true}
 use mathlib.Core.List.{List, [], _∷_}
 use mathlib.Core.Path.{_≡_, refl, sym}
 use lib.ListN.{getD}
-use lib.Dec.{eqb}
+use lib.Dec.{ltb, eqb}
 use native.Mathlib.Omega.{arith}
-use borrow.Author.Tests.{eqb-true}
-use Rattle.model.specs.Basics.{either, within, member}
+use borrow.Author.Tests.{ltb-true, eqb-true, eq-eqb}
+use Rattle.model.specs.Basics.{both, either, within, member}
 use Rattle.model.specs.Edges.{pagesInRange, framesInRange, devicesInRange}
-use Rattle.model.specs.Questions.{stateInOrder}
-use Rattle.model.proofs.QuestionLaws.{within-high}
+use Rattle.model.specs.Questions.{pendingInRange, stateInOrder}
+use Rattle.model.proofs.QuestionLaws.{both-first, both-second, within-high}
 use Rattle.model.proofs.StateLaws.{running-modeOf, Fits, state-parts}
-use Rattle.words.specs.Words.{pagesAt, framesAt, entryCountAt, runningAt, devicesAt, widest, field, stateIn, fieldPlaces, WideRefused}
+use Rattle.words.specs.Words.{pagesAt, framesAt, entryCountAt, runningAt, devicesAt, pendingAt, pendingPageAt, pendingFrameAt, widest}
+use Rattle.words.specs.Words.{field, pendingIn, stateIn, fieldPlaces, WideRefused, pairPlaces, WidePairRefused}
 use Rattle.words.proofs.WordLaws.{narrow-wide, narrow-below}
 use Rattle.words.proofs.wide_words.Statement.{statement}
 use Rattle.words.proofs.wide_words.Tie as tie
@@ -57,6 +58,26 @@ module _ (run : List ℕ) where
   unfolding stateIn devicesInRange
   wide-devices p = unfit (λ f. too-wide 1 64 devicesAt (omega arith) p (f .devices))
 
+  -- Of a pair that is pending, the page is below V and the frame below F.
+  wide-pair : (at limit : ℕ) → limit ≤ widest → widest < getD run at 0 → ltb (field run at) limit ≡ true → ⊥
+  wide-pair at limit few p q = omega (arith, ltb-true (field run at) limit q, wide-field run at p)
+
+  module _ (there : getD run pendingAt 0 ≡ 1) where
+    pair-below : Fits (stateIn run) → (ltb (field run pendingPageAt) (field run pagesAt) ≡ true) × (ltb (field run pendingFrameAt) (field run framesAt) ≡ true)
+    unfolding stateIn pendingIn pendingInRange
+    pair-below f =
+        let below : both (ltb (field run pendingPageAt) (field run pagesAt)) (ltb (field run pendingFrameAt) (field run framesAt)) ≡ true =
+        rw (eq-eqb (getD run pendingAt 0) 1 there) at (f .pending) in
+        (both-first _ _ below, both-second _ _ below)
+
+    wide-page : widest < getD run pendingPageAt 0 → Refused
+    unfolding field
+    wide-page p = unfit (λ f. wide-pair pendingPageAt (field run pagesAt) (narrow-below (getD run pagesAt 0)) p (pair-below f .0))
+
+    wide-frame : widest < getD run pendingFrameAt 0 → Refused
+    unfolding field
+    wide-frame p = unfit (λ f. wide-pair pendingFrameAt (field run framesAt) (narrow-below (getD run framesAt 0)) p (pair-below f .1))
+
   -- Each place of the list, and no other.
   at-place : (at place : ℕ) (places : List ℕ) → (widest < getD run place 0 → Refused) → (member at places ≡ true → Refused) → widest < getD run at 0
       → member at (place ∷ places) ≡ true → Refused
@@ -79,9 +100,12 @@ module _ (run : List ℕ) where
       (at-place at runningAt _ wide-running
       (at-place at devicesAt _ wide-devices (nowhere at) p) p) p) p) p
 
+  wide-pair-at : (at : ℕ) → widest < getD run at 0 → member at pairPlaces ≡ true → getD run pendingAt 0 ≡ 1 → Refused
+  wide-pair-at at p m there = at-place at pendingPageAt _ (wide-page there) (at-place at pendingFrameAt _ (wide-frame there) (nowhere at) p) p m
+
 returns : tie.Need-returns
-unfolding WideRefused
-returns c = wide-at
+unfolding WideRefused WidePairRefused
+returns c = (wide-at, wide-pair-at)
 
 pub wide-words-spec : {M : Type 1} → statement M
 wide-words-spec =

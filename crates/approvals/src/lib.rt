@@ -1,0 +1,152 @@
+// Document 02, K6: approval of a driver's frame while the guard runs, as ask, then commit or drop.
+
+use model::Answer;
+use model::Called;
+use model::NONE;
+use model::Pending;
+use model::State;
+use step::Counts;
+ghost use mathlib.Core.Path.{_≡_};
+ghost use mathlib.Core.Bool.{not};
+ghost use lib.Dec.{eqb};
+ghost use lib.ListN.{length, getD};
+ghost use Rattle.model.specs.Basics.{both, everyFrom};
+ghost use Rattle.model.specs.Keeps.{none, Tables, withShadow, withMap, withExclusion, withThree, guardOf, isPending};
+ghost use Rattle.model.specs.Approvals.{mapsWritable, committedSlot};
+ghost use Rattle.model.specs.Sync.{sweep, sweepFrom};
+ghost use Rattle.model.specs.Calls;
+ghost use Rattle.model.specs.Calls.{outcomeBy, answer};
+
+// A page's number in the map. A page past its end has none.
+fn approval_of(map: &[u16], page: u64) -> u16
+    ensures { λ r. ⌜ r ≡ getD (now (map .entry)) page none ⌝ }
+{
+    if page < map.len() as u64 {
+        map[page as usize]
+    } else {
+        NONE
+    }
+}
+
+// Question 20 of an ask: nothing is pending, its page has no approval, and its frame is not excluded.
+fn may_ask(pending: Pending, approval: u16, excluded: bool) -> bool
+    ensures { λ r. ⌜ r ≡ both (not (isPending pending)) (both (eqb approval none) (not excluded)) ⌝ }
+{
+    questions::both(
+        !questions::is_pending(pending),
+        questions::both(approval == NONE, !excluded),
+    )
+}
+
+// Question 21: no present shadow entry with the frame is writable.
+fn none_writable(shadow: &[u64], frame: u16) -> bool
+    ensures { λ r. ⌜ r ≡ everyFrom (λ p. not (mapsWritable frame (getD (now (shadow .entry)) p 0))) 0 (length (now (shadow .entry))) ⌝ }
+{
+    let mut i: usize = 0;
+    while i < shadow.len() {
+        if entry::maps_writable(shadow[i], frame) {
+            return false;
+        }
+        i += 1;
+    }
+    true
+}
+
+// Asks for the approval of a frame for a page: the frame is excluded from now on, and both are pending. An accepted ask has a page below V and a frame below F,
+// so that the remainders are those numbers.
+pub fn ask(
+    s: State,
+    shadow: &[u64],
+    map: &[u16],
+    exclusion: &mut [u8],
+    page: u64,
+    frame: u64,
+) -> Called
+    ensures { λ r. ⌜ ((t : Tables) → outcomeBy r (withThree (now (shadow .entry)) (now (map .entry)) (now (exclusion .exit)) t)
+        ≡ answer (guardOf s (withThree (now (shadow .entry)) (now (map .entry)) (now (exclusion .entry)) t)) (Calls.ask page frame)) ⌝ }
+{
+    if !questions::tree_sync_in_order(s, shadow.len(), map.len(), exclusion.len()) {
+        return questions::refused_call(s, 7);
+    }
+    if !questions::pair_exists(page, frame, s.pages, s.frames) {
+        return questions::refused_call(s, 9);
+    }
+    let pending = s.pending;
+    if !may_ask(
+        pending,
+        approval_of(map, page),
+        bitmap::excluded(exclusion, frame),
+    ) {
+        return questions::refused_call(s, 20);
+    }
+    let asked = (frame % 65536) as u16;
+    if !none_writable(shadow, asked) {
+        return questions::refused_call(s, 21);
+    }
+    bitmap::exclude(exclusion, frame);
+    Called {
+        answer: Answer::Done(0, 0),
+        state: questions::with_pending(s, Pending::Pair((page % 65536) as u16, asked)),
+    }
+}
+
+// What a commit makes of every page, in rising order. The tables have one length, which question 7 has settled.
+fn commit_pages(user: bool, page: u16, frame: u16, shadow: &mut [u64], map: &mut [u16]) -> Counts
+    requires { ⌜ length (now map) ≡ length (now shadow) ⌝ }
+    ensures { λ r. ⌜ sweep (now (shadow .exit)) (now (map .exit)) (r .changed) (r .joined)
+        ≡ sweepFrom (λ p entry approval. committedSlot user frame (eqb p page) entry approval) 0 (now (shadow .entry)) (now (map .entry)) ⌝ }
+{
+    let mut counts = Counts {
+        changed: 0,
+        joined: 0,
+    };
+    let mut i: usize = 0;
+    while i < shadow.len() {
+        counts = step::commit_at(user, frame, i == page as usize, shadow, map, i, counts);
+        i += 1;
+    }
+    counts
+}
+
+// Commits what is pending: the asked page and every other that has the frame are approved with it. Where nothing is pending 20 is answered yes, so that 22 may be
+// asked first.
+pub fn commit(s: State, shadow: &mut [u64], map: &mut [u16]) -> Called
+    ensures { λ r. ⌜ ((t : Tables) → outcomeBy r (withShadow (now (shadow .exit)) (withMap (now (map .exit)) t))
+        ≡ answer (guardOf s (withShadow (now (shadow .entry)) (withMap (now (map .entry)) t))) Calls.commit) ⌝ }
+{
+    if !questions::commit_in_order(s, shadow.len(), map.len()) {
+        return questions::refused_call(s, 7);
+    }
+    let pending = s.pending;
+    let Pending::Pair(page, frame) = pending else {
+        return questions::refused_call(s, 22);
+    };
+    if approval_of(map, page as u64) != NONE {
+        return questions::refused_call(s, 20);
+    }
+    let mode = s.mode;
+    let all = commit_pages(questions::in_user(mode), page, frame, shadow, map);
+    Called {
+        answer: Answer::Done(all.changed, all.joined),
+        state: questions::with_pending(s, Pending::Nothing),
+    }
+}
+
+// Drops what is pending: the frame is no longer excluded.
+pub fn drop_pending(s: State, exclusion: &mut [u8]) -> Called
+    ensures { λ r. ⌜ ((t : Tables) → outcomeBy r (withExclusion (now (exclusion .exit)) t)
+        ≡ answer (guardOf s (withExclusion (now (exclusion .entry)) t)) Calls.drop) ⌝ }
+{
+    if !questions::drop_in_order(s, exclusion.len()) {
+        return questions::refused_call(s, 7);
+    }
+    let pending = s.pending;
+    let Pending::Pair(_, frame) = pending else {
+        return questions::refused_call(s, 22);
+    };
+    bitmap::release(exclusion, frame as u64);
+    Called {
+        answer: Answer::Done(0, 0),
+        state: questions::with_pending(s, Pending::Nothing),
+    }
+}

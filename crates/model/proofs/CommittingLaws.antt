@@ -1,0 +1,209 @@
+-- K6: a frame that is committed was protected from its ask on, and stays so.
+use Prim.Native.Nat.{ℕ, zero, suc, _*_, _+_, _/_, _%_}
+use mathlib.Core.Bool.{Bool, true, false, cond, true≢false}
+use mathlib.Core.List.{List, [], _∷_, _++_}
+use mathlib.Core.Path.{_≡_, refl, sym, ap, _∙_}
+use lib.Dec.{eqb}
+use lib.ListN.{getD}
+use borrow.Author.Tests.{eqb-true, eq-eqb}
+use native.Mathlib.Omega.{arith}
+use Rattle.model.specs.Basics.{either}
+use Rattle.model.specs.Edges.{pageBytes}
+use Rattle.model.specs.Keeps.{Guard}
+use Rattle.model.specs.Policy.{Policy, policyOf, named, startGuard}
+use Rattle.model.specs.Bits.{frameOf}
+use Rattle.model.specs.Questions.{firstNo, lengthsOf, startQuestions}
+use Rattle.model.specs.Calls.{Outcome, settle, refusedOf, broughtBy, startOf, Call, syncPage, syncAll, syncPageTree, syncAllTree, fetch, write, enter, leave, deviceWrite, ask, commit, drop, questionsOf, effectOf, answer}
+use Rattle.model.specs.OnePage.{seenBy, settled}
+use Rattle.model.specs.Claim.{Safe, coveredBy}
+use Rattle.model.specs.Terms.{Term, pendingTerm, committedTerm, afterCommit, Terms, firstTerms, termAfter, termsAfter, inTerm, isCommitted, protected}
+use Rattle.model.specs.Committing.{Accepts, guardAfter, EachAccepted, Avoids, NoDrop, CommittedKept}
+use Rattle.model.proofs.QuestionLaws.{settle-accepted, settle-refused, settle-number, either-second}
+use Rattle.model.proofs.CallLaws.{effect-reply}
+use Rattle.model.proofs.AcceptedLaws.{ask-free}
+use Rattle.model.proofs.TermLaws.{commit-in, commit-code, drop-code, committed-in}
+use Rattle.model.proofs.ClaimKept.{Kept, pageOf, answered}
+use Rattle.model.proofs.ClaimCalls.{kept}
+use Rattle.model.proofs.ClaimSafe.{safe}
+use Rattle.model.proofs.ClaimStart.{start-kept}
+
+module _ (policy : Policy) (terms : Terms) (g : Guard) (h : Kept policy terms g) (call : Call) where
+  -- The guard's number is the settled one.
+  number-settled : (answer g call) .reply .number ≡ settled policy (pageOf g) g call
+  number-settled =
+      ap (λ (o : Outcome). o .reply .number) (answered policy terms g h call)
+      ∙ settle-number (λ (o : Outcome). o .reply .number) (settled policy (pageOf g) g call) (effectOf g call) (refusedOf g (broughtBy call)) (effect-reply g call .0) (λ k. refl)
+
+  accepted-settled : Accepts g call → settled policy (pageOf g) g call ≡ 0
+  accepted-settled e = sym number-settled ∙ e
+
+  accepted-guard : Accepts g call → (answer g call) .guard ≡ (effectOf g call) .guard
+  accepted-guard e = ap (λ (o : Outcome). o .guard) (answered policy terms g h call ∙ settle-accepted (effectOf g call) (refusedOf g (broughtBy call)) (accepted-settled e))
+
+  -- After a call, refused or accepted.
+  pub step-kept : Kept policy (termsAfter ((answer g call) .reply .number) call terms) ((answer g call) .guard)
+  unfolding termsAfter settle
+  step-kept = by ((answer g call) .reply .number) refl
+    where
+      by : (n : ℕ) → (answer g call) .reply .number ≡ n → Kept policy (termsAfter n call terms) ((answer g call) .guard)
+      by zero e = rw (accepted-guard e) (kept policy terms g h call (accepted-settled e))
+      by (suc n) e =
+          let guard : (answer g call) .guard ≡ g =
+          ap (λ (o : Outcome). o .guard) (answered policy terms g h call ∙ settle-refused n (effectOf g call) (refusedOf g (broughtBy call)) (sym number-settled ∙ e)) in
+          rw guard h
+
+  -- A protected frame: an allowed write or transfer covers no byte of it.
+  avoids : (f : ℕ) → protected policy terms f ≡ true → Accepts g call → Avoids f g call
+  unfolding coveredBy
+  avoids f is e = by call (safe policy terms g h call (accepted-settled e))
+    where
+      other : (x : ℕ) → protected policy terms (x / pageBytes) ≡ false → x / pageBytes ≡ f → ⊥
+      other x clear same = true≢false (sym is ∙ (rw same at clear))
+
+      by : (c : Call) → Safe policy terms (pageOf g) c ((effectOf g call) .reply) → Avoids f g c
+      by (syncPage kernel page) s = tt
+      by (syncAll kernel) s = tt
+      by (syncPageTree tree page) s = tt
+      by (syncAllTree tree) s = tt
+      by (fetch page) s = tt
+      by (write address size) s =
+          λ a l m same.
+          let frame : ℕ = frameOf (getD (g .tables .shadow) (a / pageBytes) 0) in
+          other (frame * pageBytes + a % pageBytes) (s .bytes a l m .unprotected) (let here : (frame * pageBytes + a % pageBytes) / pageBytes ≡ frame = omega arith in here ∙ same)
+      by (enter index) s = tt
+      by (leave page) s = tt
+      by (deviceWrite devices device address size) s = λ a l m same. other a (s .bytes a l m .unprotected) same
+      by (ask page frame) s = tt
+      by commit s = tt
+      by drop s = tt
+
+-- A term goes on at every accepted call that is no drop.
+asked-in : (b : Bool) (t : Term) → inTerm t ≡ true → inTerm (cond b pendingTerm t) ≡ true
+unfolding inTerm
+asked-in true t p = refl
+asked-in false t p = p
+
+goes-on : (g : Guard) (call : Call) (f : ℕ) (t : Term) → NoDrop g call → inTerm t ≡ true → inTerm (termAfter call f t) ≡ true
+unfolding termAfter
+goes-on g (syncPage kernel page) f t undropped p = p
+goes-on g (syncAll kernel) f t undropped p = p
+goes-on g (syncPageTree tree page) f t undropped p = p
+goes-on g (syncAllTree tree) f t undropped p = p
+goes-on g (fetch page) f t undropped p = p
+goes-on g (write address size) f t undropped p = p
+goes-on g (enter index) f t undropped p = p
+goes-on g (leave page) f t undropped p = p
+goes-on g (deviceWrite devices device address size) f t undropped p = p
+goes-on g (ask page frame) f t undropped p = asked-in (eqb f frame) t p
+goes-on g commit f t undropped p = commit-in t ∙ p
+goes-on g drop f t undropped p = absurd undropped
+
+-- A refused call changes no term, so it is enough to look at an accepted one.
+after-call : (P : Term → Type 0) (n : ℕ) (call : Call) (terms : Terms) (f : ℕ) → P (terms f) → (n ≡ 0 → P (termAfter call f (terms f)))
+    → P (termsAfter n call terms f)
+unfolding termsAfter settle
+after-call P zero call terms f before accepted = accepted refl
+after-call P (suc n) call terms f before accepted = before
+
+module _ (policy : Policy) (f : ℕ) where
+  abbrev Open : Term → Type 0
+  Open t = inTerm t ≡ true
+
+  abbrev Lasts : Term → Type 0
+  Lasts t = isCommitted t ≡ true
+
+  open-protected : (terms : Terms) → Open (terms f) → protected policy terms f ≡ true
+  unfolding protected
+  open-protected terms p = either-second (named policy f) p
+
+  -- A committed frame stays so: an ask for it is refused, since it is excluded.
+  lasts : (terms : Terms) (g : Guard) → Kept policy terms g → (call : Call) → Lasts (terms f) → settled policy (pageOf g) g call ≡ 0
+      → Lasts (termAfter call f (terms f))
+  unfolding termAfter settled questionsOf
+  lasts terms g h (syncPage kernel page) p passed = p
+  lasts terms g h (syncAll kernel) p passed = p
+  lasts terms g h (syncPageTree tree page) p passed = p
+  lasts terms g h (syncAllTree tree) p passed = p
+  lasts terms g h (fetch page) p passed = p
+  lasts terms g h (write address size) p passed = p
+  lasts terms g h (enter index) p passed = p
+  lasts terms g h (leave page) p passed = p
+  lasts terms g h (deviceWrite devices device address size) p passed = p
+  lasts terms g h (ask page frame) p passed = by (eqb f frame) refl
+    where
+      free : protected policy terms frame ≡ false
+      free = sym (h .excluded frame) ∙ ask-free (seenBy policy (pageOf g) g) page frame passed
+
+      by : (b : Bool) → eqb f frame ≡ b → Lasts (cond b pendingTerm (terms f))
+      by true e = absurd (true≢false (sym (open-protected terms (committed-in (terms f) p)) ∙ (rw (← (eqb-true f frame e)) at free)))
+      by false e = p
+  lasts terms g h commit p passed = commit-code (terms f) ∙ committed-in (terms f) p
+  lasts terms g h drop p passed = drop-code (terms f) ∙ p
+
+  -- From its commit on.
+  for-good : (calls : List Call) (terms : Terms) (g : Guard) → Kept policy terms g → Lasts (terms f) → EachAccepted (Avoids f) g calls
+  for-good [] terms g h p = tt
+  for-good (call ∷ calls) terms g h p = (
+    avoids policy terms g h call f (open-protected terms (committed-in (terms f) p)),
+    for-good calls _ ((answer g call) .guard) (step-kept policy terms g h call)
+        (after-call Lasts ((answer g call) .reply .number) call terms f p (λ e. lasts terms g h call p (accepted-settled policy terms g h call e))),
+  )
+
+  -- From its ask to its commit.
+  until : (calls rest : List Call) (terms : Terms) (g : Guard) → Kept policy terms g → Open (terms f) → EachAccepted NoDrop g calls
+      → ((terms′ : Terms) → Kept policy terms′ (guardAfter g calls) → Open (terms′ f) → EachAccepted (Avoids f) (guardAfter g calls) rest)
+      → EachAccepted (Avoids f) g (calls ++ rest)
+  unfolding guardAfter
+  until [] rest terms g h p undropped then = then terms h p
+  until (call ∷ calls) rest terms g h p undropped then = (
+    avoids policy terms g h call f (open-protected terms p),
+    until calls rest _ ((answer g call) .guard) (step-kept policy terms g h call)
+        (after-call Open ((answer g call) .reply .number) call terms f p (λ e. goes-on g call f (terms f) (undropped .0 e) p)) (undropped .1) then,
+  )
+
+-- The terms after a list of calls.
+along : (policy : Policy) (calls : List Call) (terms : Terms) (g : Guard) → Kept policy terms g → (P : Guard → Type 0)
+    → ((terms′ : Terms) → Kept policy terms′ (guardAfter g calls) → P (guardAfter g calls)) → P (guardAfter g calls)
+unfolding guardAfter
+along policy [] terms g h P then = then terms h
+along policy (call ∷ calls) terms g h P then = along policy calls _ ((answer g call) .guard) (step-kept policy terms g h call) P then
+
+-- The ask and the commit, each at its place.
+from-ask : (policy : Policy) (terms : Terms) (g : Guard) → Kept policy terms g → (page frame : ℕ) (between after : List Call) → Accepts g (ask page frame)
+    → let asked : Guard = (answer g (ask page frame)) .guard in
+    EachAccepted NoDrop asked between → Accepts (guardAfter asked between) commit → EachAccepted (Avoids frame) asked (between ++ (commit ∷ after))
+unfolding termsAfter settle termAfter inTerm
+from-ask policy terms g h page frame between after asks undropped commits =
+    until policy frame between (commit ∷ after) _ _ (step-kept policy terms g h (ask page frame)) begun undropped (λ terms′ h′ p. (
+      (λ _. tt),
+      for-good policy frame after _ _ (step-kept policy terms′ _ h′ commit) (lasting terms′ p),
+    ))
+  where
+    begun : inTerm (termsAfter ((answer g (ask page frame)) .reply .number) (ask page frame) terms frame) ≡ true
+    begun = rw (asks, eq-eqb frame frame refl) refl
+
+    lasting : (terms′ : Terms) → inTerm (terms′ frame) ≡ true
+        → isCommitted (termsAfter ((answer (guardAfter ((answer g (ask page frame)) .guard) between) commit) .reply .number) commit terms′ frame) ≡ true
+    lasting terms′ p = rw commits (commit-code (terms′ frame) ∙ p)
+
+pub committed-kept : CommittedKept
+unfolding startOf
+committed-kept given bytes t before between after page frame accepted =
+    by-number (firstNo (startQuestions given bytes (policyOf bytes) (lengthsOf t))) refl
+  where
+    by-number : (n : ℕ) → firstNo (startQuestions given bytes (policyOf bytes) (lengthsOf t)) ≡ n
+        → let reached : Guard = guardAfter ((startOf given bytes t) .guard) before in
+        let asked : Guard = (answer reached (ask page frame)) .guard in
+        Accepts reached (ask page frame) → EachAccepted NoDrop asked between → Accepts (guardAfter asked between) commit
+        → EachAccepted (Avoids frame) asked (between ++ (commit ∷ after))
+    by-number zero e =
+        let guard : (startOf given bytes t) .guard ≡ startGuard given (policyOf bytes) = ap (λ (o : Outcome). o .guard) (settle-accepted _ _ e) in
+        along (policyOf bytes) before firstTerms ((startOf given bytes t) .guard) (rw guard (start-kept given bytes (lengthsOf t) e))
+        (λ (g : Guard).
+        Accepts g (ask page frame) → EachAccepted NoDrop ((answer g (ask page frame)) .guard) between
+        → Accepts (guardAfter ((answer g (ask page frame)) .guard) between) commit
+        → EachAccepted (Avoids frame) ((answer g (ask page frame)) .guard) (between ++ (commit ∷ after)))
+        (λ terms h. from-ask (policyOf bytes) terms _ h page frame between after)
+    by-number (suc n) e =
+        let number : (startOf given bytes t) .reply .number ≡ suc n = ap (λ (o : Outcome). o .reply .number) (settle-refused n _ _ e) in
+        absurd (omega arith)
