@@ -15,8 +15,8 @@
  * These three are the caller's part, and the only part that the guard does not test. State, shadow, map and exclusion go from
  * one call to the next as the last one left them: that is what the guarantee about all calls rests on.
  *
- * Numbers. Sizes, counts, roots, depths, the pages and devices that a call names, entry indices, addresses and lengths are 64 bits
- * wide and are never cut: page 65537 is refused with 9, and is not taken for page 1. Sums of address and length are exact.
+ * Numbers. Sizes, counts, roots, depths, the pages, frames and devices that a call names, entry indices, addresses and lengths are
+ * 64 bits wide and are never cut: page 65537 is refused with 9, and is not taken for page 1. Sums of address and length are exact.
  *
  * Answers. A call returns 0 where it is accepted, and else the number of the first question that was answered no (enum
  * guard_refusal). Its two numbers go to the numbers run, a run of GUARD_NUMBERS words: 0 and 0 where it is refused.
@@ -24,8 +24,9 @@
  *
  * The state run and the numbers run are part of question 7. A state run that has not GUARD_STATE_WORDS words, a V, F, e, running
  * page or number of devices in it that is wider than 16 bits, a mode word that is neither GUARD_MODE_KERNEL nor GUARD_MODE_USER,
- * or a numbers run that has not GUARD_NUMBERS words gives 7. So does a state run of an older version, which has fewer words. A
- * numbers run of another length is not written.
+ * a pending word that is neither 0 nor 1, with 1 there a pending page that is not below V or a pending frame that is not below F, or
+ * a numbers run that has not GUARD_NUMBERS words gives 7. So does a state run of an older version, which has fewer words. A numbers
+ * run of another length is not written.
  */
 #ifndef GUARD_H
 #define GUARD_H
@@ -39,18 +40,22 @@ extern "C" {
 
 /*
  * The layout of a state run. V, F, e, the running page and the number of devices are 16-bit fields, each in a word of its own. An
- * entry page that is wider than 16 bits counts as one that is not below V. guard_start writes all words; guard_enter and
- * guard_leave write GUARD_STATE_MODE and GUARD_STATE_RUNNING alone; guard_fetch writes GUARD_STATE_RUNNING alone; the other calls
- * write none. A later version appends its fields.
+ * entry page that is wider than 16 bits counts as one that is not below V. The pending page and frame are compared with V and F at
+ * their full width, and are not read where none is pending. guard_start writes all words; guard_enter and guard_leave write
+ * GUARD_STATE_MODE and GUARD_STATE_RUNNING alone; guard_fetch writes GUARD_STATE_RUNNING alone; guard_ask, guard_commit and
+ * guard_drop write the three words of what is pending alone; the other calls write none. A later version appends its fields.
  */
-#define GUARD_STATE_WORDS 22
-#define GUARD_STATE_PAGES 0    /* V, the number of virtual pages, 1 to 2048 */
-#define GUARD_STATE_FRAMES 1   /* F, the number of physical frames, 1 to 4096 */
-#define GUARD_STATE_ENTRIES 2  /* e, the number of entry pages, 1 to 16 */
-#define GUARD_STATE_ENTRY 3    /* the sixteen entry pages, words 3 to 18; unused ones are 0 */
-#define GUARD_STATE_MODE 19    /* GUARD_MODE_KERNEL or GUARD_MODE_USER */
-#define GUARD_STATE_RUNNING 20 /* the page now running, below V */
-#define GUARD_STATE_DEVICES 21 /* the number of devices, 1 to 64 */
+#define GUARD_STATE_WORDS 25
+#define GUARD_STATE_PAGES 0          /* V, the number of virtual pages, 1 to 2048 */
+#define GUARD_STATE_FRAMES 1         /* F, the number of physical frames, 1 to 4096 */
+#define GUARD_STATE_ENTRIES 2        /* e, the number of entry pages, 1 to 16 */
+#define GUARD_STATE_ENTRY 3          /* the sixteen entry pages, words 3 to 18; unused ones are 0 */
+#define GUARD_STATE_MODE 19          /* GUARD_MODE_KERNEL or GUARD_MODE_USER */
+#define GUARD_STATE_RUNNING 20       /* the page now running, below V */
+#define GUARD_STATE_DEVICES 21       /* the number of devices, 1 to 64 */
+#define GUARD_STATE_PENDING 22       /* 1 while a pair of page and frame is pending, else 0 */
+#define GUARD_STATE_PENDING_PAGE 23  /* the pending page, below V; 0 where none is pending */
+#define GUARD_STATE_PENDING_FRAME 24 /* the pending frame, below F; 0 where none is pending */
 
 #define GUARD_MODE_KERNEL 0
 #define GUARD_MODE_USER 1
@@ -82,7 +87,10 @@ enum guard_refusal {
     GUARD_BUFFER_TOO_SHORT = 16,   /* the buffer is shorter than the record */
     GUARD_TREE = 17,               /* the tree's run, depth or root does not fit */
     GUARD_NO_DEVICE = 18,          /* the device is not in the list */
-    GUARD_OUTSIDE_WINDOW = 19      /* the transfer is outside the device's window */
+    GUARD_OUTSIDE_WINDOW = 19,     /* the transfer is outside the device's window */
+    GUARD_APPROVAL_CONFLICT = 20,  /* a pair is pending, the page is approved or the frame is excluded */
+    GUARD_MAPPED_WRITABLE = 21,    /* a present shadow entry maps the frame writable */
+    GUARD_NOTHING_PENDING = 22     /* no pair is pending */
 };
 
 /*
@@ -105,28 +113,29 @@ enum guard_refusal {
  *   bit 0 clear, or any of bits 52..62 set      shadow entry 0: the entry is absent. An approved page stays approved
  *   the map has a frame for the page            an approved entry with the map's frame, whatever the kernel's frame is
  *   frame at or above F                         shadow entry 0
+ *   frame pending                               a pending entry: an ordinary one that is read-only and no-execute
  *   frame excluded                              an approved entry with this frame, which the map has for the page from then on
  *   any other                                   an ordinary entry
  *
  * Every bit of a kernel entry, and of the shadow entry that is made of it. K: in kernel mode. U: in user mode.
  *
- *   bits    name               kernel entry    ordinary entry         approved entry
- *   0       present            read            1                      1
- *   1       writable           read            kernel bit 1           0
- *   2       user               read            kernel bit 2           0
- *   3       write-through      read            kernel bit 3           0
- *   4       cache disable      read            kernel bit 4           0
- *   5       accessed           ignored         0                      0
- *   6       dirty              ignored         0                      0
- *   7       PAT                ignored         0                      0
- *   8       global             ignored         0                      0
- *   9       kernel no-execute  ignored         kernel bit 63          0
- *   10      approved           ignored         0                      1
- *   11      available          ignored         0                      0
- *   12..51  frame              read            kernel bits 12..51     the map's frame
- *   52..62  reserved           read            0                      0
- *   63 K    no-execute         read            1                      0
- *   63 U    no-execute         read            bit 9, or bit 2 clear  1
+ *   bits    name               kernel entry  ordinary entry         pending entry       approved entry
+ *   0       present            read          1                      1                   1
+ *   1       writable           read          kernel bit 1           0                   0
+ *   2       user               read          kernel bit 2           kernel bit 2        0
+ *   3       write-through      read          kernel bit 3           kernel bit 3        0
+ *   4       cache disable      read          kernel bit 4           kernel bit 4        0
+ *   5       accessed           ignored       0                      0                   0
+ *   6       dirty              ignored       0                      0                   0
+ *   7       PAT                ignored       0                      0                   0
+ *   8       global             ignored       0                      0                   0
+ *   9       kernel no-execute  ignored       kernel bit 63          1                   0
+ *   10      approved           ignored       0                      0                   1
+ *   11      available          ignored       0                      0                   0
+ *   12..51  frame              read          kernel bits 12..51     kernel bits 12..51  the map's frame
+ *   52..62  reserved           read          0                      0                   0
+ *   63 K    no-execute         read          1                      1                   0
+ *   63 U    no-execute         read          bit 9, or bit 2 clear  1                   1
  *
  * In PAE paging the processor faults on an entry with any of bits 52 to 62 set. A kernel that uses such entries as markers, not as
  * mappings, gets shadow entry 0 for them. Only kernel entries are asked for these bits, never shadow entries: there guard_enter and
@@ -146,6 +155,8 @@ enum guard_refusal {
  *   guard_write   bits 0 and 1 set; in user mode bit 2 set
  *   guard_enter   bits 0 and 10 set
  *   guard_leave   bits 0 and 2 set, bit 9 clear
+ *
+ * guard_ask asks every page: an entry with bits 0 and 1 set and the asked frame gives 21.
  */
 #define GUARD_ENTRY_PRESENT (UINT64_C(1) << 0)
 #define GUARD_ENTRY_WRITABLE (UINT64_C(1) << 1)
@@ -153,7 +164,7 @@ enum guard_refusal {
 #define GUARD_ENTRY_WRITE_THROUGH (UINT64_C(1) << 3)     /* PWT in the manuals */
 #define GUARD_ENTRY_CACHE_DISABLE (UINT64_C(1) << 4)     /* PCD in the manuals */
 #define GUARD_ENTRY_LARGE (UINT64_C(1) << 7)             /* entries of a tree's level 2 only: a large page */
-#define GUARD_ENTRY_KERNEL_NO_EXECUTE (UINT64_C(1) << 9) /* shadow entries only: the kernel entry's bit 63 */
+#define GUARD_ENTRY_KERNEL_NO_EXECUTE (UINT64_C(1) << 9) /* shadow entries only: the kernel entry's bit 63, or a pending entry */
 #define GUARD_ENTRY_APPROVED (UINT64_C(1) << 10)         /* shadow entries only */
 #define GUARD_ENTRY_RESERVED (UINT64_C(0x7ff) << 52)     /* kernel entries only: with any of them set the entry is absent */
 #define GUARD_ENTRY_NO_EXECUTE (UINT64_C(1) << 63)
@@ -253,7 +264,8 @@ struct guard_device {
  *
  * Listed page i is the page of entry index i, for i below e. What an accepted start writes:
  *
- *   state      V, F, e; the e entry pages, then zeros; GUARD_MODE_KERNEL; listed page 0; the number of devices
+ *   state      V, F, e; the e entry pages, then zeros; GUARD_MODE_KERNEL; listed page 0; the number of devices; three zeros, since
+ *              nothing is pending
  *   shadow     for a listed page the approved entry of its frame in kernel mode, frame * 4096 + 0x401; for any other 0
  *   map        for a listed page its frame; for any other GUARD_MAP_NONE
  *   exclusion  the bits of the frames in the record; every other bit 0
@@ -378,6 +390,61 @@ uint64_t guard_leave(uint64_t *state, size_t state_length, uint64_t *shadow, siz
 uint64_t guard_device_write(const uint64_t *state, size_t state_length, const uint8_t *exclusion, size_t exclusion_length,
                             const struct guard_device *devices, size_t devices_length, uint64_t device, uint64_t address,
                             uint64_t length, uint64_t *numbers, size_t numbers_length);
+
+/*
+ * Approval while the kernel runs. A driver that arrives after the start is first asked for, by the page and the frame that it is
+ * to have, then inspected by the caller, and then committed or dropped. From the ask on the pair is pending, and the state has room
+ * for one pair. While it is pending
+ *   - its frame is excluded: no guard_write and no guard_device_write that reaches it is accepted (13), in any device's window;
+ *   - a page without an approval that is synchronised with its frame gets a pending entry (see "Entries"), which neither kernel
+ *     mode nor user mode runs or writes;
+ *   - a page that was synchronised with its frame before the ask keeps its shadow entry until the next synchronisation or the
+ *     commit. It is read-only (21), but user mode may run it. So synchronise all pages after the ask, flush the TLB, and inspect
+ *     the frame then.
+ * docs/INTEGRATION.md, "Drivers approved while running", has what to do around these calls, and about transfers under way.
+ */
+
+/*
+ * Ask for the approval of a page with a frame. Sets the frame's bit in the exclusion vector and the three words of the pending pair
+ * in the state. Shadow and map are read alone, and stay as they are. Numbers: 0 and 0.
+ *
+ * Refusals in this order:
+ *   7   the state, the length of shadow, map or exclusion vector, or the numbers run's
+ *   9   the page is not below V, or the frame not below F
+ *   20  a pair is pending, the map has a frame for the page, or the frame is excluded
+ *   21  a shadow entry with this frame has bits 0 and 1 set
+ * A later version has more arguments.
+ */
+uint64_t guard_ask(uint64_t *state, size_t state_length, const uint64_t *shadow, size_t shadow_length, const uint16_t *map,
+                   size_t map_length, uint8_t *exclusion, size_t exclusion_length, uint64_t page, uint64_t frame,
+                   uint64_t *numbers, size_t numbers_length);
+
+/*
+ * Commit the pending pair: the map gets its frame for its page, whatever that page's shadow entry was, and for every other page
+ * that has none and whose shadow entry has bit 0 set and this frame. Each of these pages gets the approved entry of the frame for
+ * the mode that stands. Nothing is pending after it. The frame stays excluded, so the exclusion vector is not lent. No kernel table
+ * is read. Numbers: shadow entries whose value changed; pages that joined the map, the asked one included. Where the first is not
+ * 0, flush the TLB before the kernel runs on.
+ *
+ * Refusals in this order:
+ *   7   the state, the length of shadow or map, or the numbers run's
+ *   20  the map has a frame for the pending page by now, from a synchronisation after the ask
+ *   22  nothing is pending
+ * A later version has more arguments.
+ */
+uint64_t guard_commit(uint64_t *state, size_t state_length, uint64_t *shadow, size_t shadow_length, uint16_t *map,
+                      size_t map_length, uint64_t *numbers, size_t numbers_length);
+
+/*
+ * Drop the pending pair: clears its frame's bit in the exclusion vector. Nothing is pending after it. Shadow and map are not lent:
+ * pending entries stay as they are until they are synchronised. Numbers: 0 and 0.
+ *
+ * Refusals in this order:
+ *   7   the state, the length of the exclusion vector, or the numbers run's
+ *   22  nothing is pending
+ */
+uint64_t guard_drop(uint64_t *state, size_t state_length, uint8_t *exclusion, size_t exclusion_length, uint64_t *numbers,
+                    size_t numbers_length);
 
 #ifdef __cplusplus
 }

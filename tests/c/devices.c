@@ -11,9 +11,9 @@
 /* A list crosses as it lies in memory. */
 _Static_assert(sizeof(struct guard_device) == 4 && _Alignof(struct guard_device) == 2, "a device has two numbers of 16 bits");
 _Static_assert(offsetof(struct guard_device, first) == 0 && offsetof(struct guard_device, last) == 2, "the first one comes first");
-_Static_assert(GUARD_STATE_WORDS == 22 && GUARD_STATE_DEVICES == 21 && GUARD_DEVICES_MAX == 64, "the word and its range");
+_Static_assert(GUARD_STATE_DEVICES == 21 && GUARD_DEVICES_MAX == 64, "the word and its range");
 
-enum { PAGES = 4, FRAMES = 16, VECTOR = 2, FRAME = 4096, TABLE = GUARD_TABLE_ENTRIES, MOST = 65 };
+enum { PAGES = 4, FRAMES = 16, VECTOR = 2, FRAME = 4096, TABLE = GUARD_TABLE_ENTRIES, MOST = 65, WORDS = GUARD_STATE_WORDS };
 
 /* The devices of the list, and how many they are. */
 enum { MUSIC, BILLING, CLOSED, OPEN, BEYOND, DEVICES };
@@ -131,16 +131,16 @@ static void refused_starts(void)
         size_t words;
         uint64_t number;
     } refusals[] = {
-        {"0 devices gives 3", 16, 0, 22, GUARD_COUNT_OUT_OF_RANGE},
-        {"65 devices gives 3", 16, 65, 22, GUARD_COUNT_OUT_OF_RANGE},
-        {"65536 devices gives 3", 16, 65536, 22, GUARD_COUNT_OUT_OF_RANGE},
-        {"65537 devices gives 3", 16, 65537, 22, GUARD_COUNT_OUT_OF_RANGE},
-        {"2^32 + 1 devices gives 3", 16, 4294967297, 22, GUARD_COUNT_OUT_OF_RANGE},
-        {"2^64 - 1 devices gives 3", 16, UINT64_MAX, 22, GUARD_COUNT_OUT_OF_RANGE},
-        {"0 devices and a record of 15 bytes gives 3", 15, 0, 22, GUARD_COUNT_OUT_OF_RANGE},
+        {"0 devices gives 3", 16, 0, WORDS, GUARD_COUNT_OUT_OF_RANGE},
+        {"65 devices gives 3", 16, 65, WORDS, GUARD_COUNT_OUT_OF_RANGE},
+        {"65536 devices gives 3", 16, 65536, WORDS, GUARD_COUNT_OUT_OF_RANGE},
+        {"65537 devices gives 3", 16, 65537, WORDS, GUARD_COUNT_OUT_OF_RANGE},
+        {"2^32 + 1 devices gives 3", 16, 4294967297, WORDS, GUARD_COUNT_OUT_OF_RANGE},
+        {"2^64 - 1 devices gives 3", 16, UINT64_MAX, WORDS, GUARD_COUNT_OUT_OF_RANGE},
+        {"0 devices and a record of 15 bytes gives 3", 15, 0, WORDS, GUARD_COUNT_OUT_OF_RANGE},
         {"65 devices and a state run of 21 words gives 3", 16, 65, 21, GUARD_COUNT_OUT_OF_RANGE},
-        {"0 devices and a record of 7 bytes gives 1", 7, 0, 22, GUARD_RECORD_TOO_SHORT},
-        {"5 devices and a record of 15 bytes gives 4", 15, 5, 22, GUARD_RECORD_LENGTH},
+        {"0 devices and a record of 7 bytes gives 1", 7, 0, WORDS, GUARD_RECORD_TOO_SHORT},
+        {"5 devices and a record of 15 bytes gives 4", 15, 5, WORDS, GUARD_RECORD_LENGTH},
         {"a state run of 21 words gives 7", 16, 5, 21, GUARD_STATE_OR_TABLE},
     };
     const struct guard before = started;
@@ -326,7 +326,7 @@ static int all_give_7(const struct guard *before, size_t words, size_t list)
 {
     static const uint64_t tables[TABLE] = {0x3007};
     int right = 1;
-    for (int call = 0; call < 9; call++) {
+    for (int call = 0; call < 12; call++) {
         struct guard g = ready(before);
         uint64_t number = 0;
         switch (call) {
@@ -358,9 +358,18 @@ static int all_give_7(const struct guard *before, size_t words, size_t list)
         case 7:
             number = guard_leave(g.state, words, g.shadow, PAGES, 1, g.numbers, GUARD_NUMBERS);
             break;
-        default:
+        case 8:
             number = guard_device_write(g.state, words, g.exclusion, VECTOR, g.devices, list, MUSIC, 4 * FRAME, 1, g.numbers,
                                         GUARD_NUMBERS);
+            break;
+        case 9:
+            number = guard_ask(g.state, words, g.shadow, PAGES, g.map, PAGES, g.exclusion, VECTOR, 0, 3, g.numbers, GUARD_NUMBERS);
+            break;
+        case 10:
+            number = guard_commit(g.state, words, g.shadow, PAGES, g.map, PAGES, g.numbers, GUARD_NUMBERS);
+            break;
+        default:
+            number = guard_drop(g.state, words, g.exclusion, VECTOR, g.numbers, GUARD_NUMBERS);
         }
         right = right && refused(number, GUARD_STATE_OR_TABLE, &g, before);
     }
@@ -379,11 +388,11 @@ static void refused_states(void)
     } states[] = {
         {"a state run of 21 words", DEVICES, 21, DEVICES},
         {"a state run of 20 words", DEVICES, 20, DEVICES},
-        {"0 devices, and an empty list", 0, 22, 0},
-        {"65 devices, and as many in the list", 65, 22, 65},
-        {"65541 devices, and 5 in the list", 65536 + DEVICES, 22, DEVICES},
-        {"2^32 + 5 devices, and 5 in the list", 4294967296 + DEVICES, 22, DEVICES},
-        {"2^64 - 1 devices, and 5 in the list", UINT64_MAX, 22, DEVICES},
+        {"0 devices, and an empty list", 0, WORDS, 0},
+        {"65 devices, and as many in the list", 65, WORDS, 65},
+        {"65541 devices, and 5 in the list", 65536 + DEVICES, WORDS, DEVICES},
+        {"2^32 + 5 devices, and 5 in the list", 4294967296 + DEVICES, WORDS, DEVICES},
+        {"2^64 - 1 devices, and 5 in the list", UINT64_MAX, WORDS, DEVICES},
     };
     for (size_t i = 0; i < sizeof states / sizeof states[0]; i++) {
         char full[80];

@@ -1,6 +1,6 @@
 /*
  * The words of include/guard.h about entries, against the archive. The rows of its bit table come on standard input, a row a line
- * with tabs between its five columns, so that the table itself is what is compared. Prints 'ok NAME' or 'WRONG NAME', and a last
+ * with tabs between its six columns, so that the table itself is what is compared. Prints 'ok NAME' or 'WRONG NAME', and a last
  * line 'N passed, M failed'.
  */
 #include <stdio.h>
@@ -20,15 +20,20 @@ _Static_assert(GUARD_ENTRY_OF_FRAME(0x2345678901) == 0x2345678901000 && GUARD_MA
 
 enum { PAGES = 64, FRAMES = 300, VECTOR = (FRAMES + 7) / 8, ROUNDS = 20000, MOST_ROWS = 64 };
 
-/* A row of the table: its bits, the mode that it is for (K, U, or 0 for both), and the words of its last three columns. */
+/* A shadow entry's kind: a column of the table. */
+enum { ORDINARY, PENDING, APPROVED, KINDS };
+
+/* The pair that is asked for where a test has one pending. */
+enum { PENDING_PAGE = 9, PENDING_FRAME = 5 };
+
+/* A row of the table: its bits, the mode that it is for (K, U, or 0 for both), its word for kernel entries, and one for each kind. */
 struct row {
     char bits[64];
     unsigned first;
     unsigned last;
     char mode;
     char kernel[64];
-    char ordinary[64];
-    char approved[64];
+    char words[KINDS][64];
 };
 
 static struct row rows[MOST_ROWS];
@@ -78,9 +83,9 @@ static void read_rows(void)
         struct row r = {0};
         char name[64];
         char rest;
-        if (sscanf(line, "%63[^\t]\t%63[^\t]\t%63[^\t]\t%63[^\t]\t%63[^\t\n]", r.bits, name, r.kernel, r.ordinary,
-                   r.approved) != 5)
-            stop("not a row of five columns", line);
+        if (sscanf(line, "%63[^\t]\t%63[^\t]\t%63[^\t]\t%63[^\t]\t%63[^\t]\t%63[^\t\n]", r.bits, name, r.kernel,
+                   r.words[ORDINARY], r.words[PENDING], r.words[APPROVED]) != 6)
+            stop("not a row of six columns", line);
         if (sscanf(r.bits, "%u..%u%c", &r.first, &r.last, &rest) != 2) {
             int single = sscanf(r.bits, "%u%c", &r.first, &rest) == 1;
             int of_mode = sscanf(r.bits, "%u %c%c", &r.first, &r.mode, &rest) == 2 && (r.mode == 'K' || r.mode == 'U');
@@ -137,13 +142,13 @@ static uint64_t bits_of(const struct row *r, const char *what, uint64_t kernel, 
     return value << r->first;
 }
 
-/* A shadow entry by the table: an approved one with a frame, or an ordinary one of a kernel entry. */
-static uint64_t by_table(int approved, int user, uint64_t kernel, uint64_t frame)
+/* A shadow entry by the table: an approved one with a frame, or an ordinary or pending one of a kernel entry. */
+static uint64_t by_table(int kind, int user, uint64_t kernel, uint64_t frame)
 {
     uint64_t made = 0;
     for (size_t i = 0; i < row_count; i++)
         if (for_mode(&rows[i], user))
-            made |= bits_of(&rows[i], approved ? rows[i].approved : rows[i].ordinary, kernel, frame, made);
+            made |= bits_of(&rows[i], rows[i].words[kind], kernel, frame, made);
     return made;
 }
 
@@ -152,7 +157,7 @@ static uint64_t no_execute(int user, uint64_t entry)
 {
     for (size_t i = 0; i < row_count; i++)
         if (rows[i].first == 63 && for_mode(&rows[i], user))
-            return bits_of(&rows[i], bit(entry, 10) ? rows[i].approved : rows[i].ordinary, 0, 0, entry);
+            return bits_of(&rows[i], rows[i].words[bit(entry, 10) ? APPROVED : ORDINARY], 0, 0, entry);
     stop("no row for bit 63", user ? "U" : "K");
 }
 
@@ -181,6 +186,16 @@ static struct guard started(int user)
                     g.numbers, GUARD_NUMBERS) != GUARD_ACCEPTED)
         stop("the start", "refused");
     g.state[GUARD_STATE_MODE] = user ? GUARD_MODE_USER : GUARD_MODE_KERNEL;
+    return g;
+}
+
+/* The same with a pair pending. */
+static struct guard with_pending(int user)
+{
+    struct guard g = started(user);
+    if (guard_ask(g.state, GUARD_STATE_WORDS, g.shadow, PAGES, g.map, PAGES, g.exclusion, VECTOR, PENDING_PAGE, PENDING_FRAME,
+                  g.numbers, GUARD_NUMBERS) != GUARD_ACCEPTED)
+        stop("the ask", "refused");
     return g;
 }
 
@@ -216,12 +231,12 @@ static uint64_t reserved_bits(void)
     }
 }
 
-/* A kernel entry drawn by its fields: mostly present, its frame ordinary, excluded or past the last, reserved bits as above, every
- * other bit at random. */
+/* A kernel entry drawn by its fields: mostly present, its frame ordinary, excluded, one that may be pending or past the last,
+ * reserved bits as above, every other bit at random. */
 static uint64_t kernel_entry(void)
 {
     uint64_t frame = below(FRAMES);
-    switch (below(6)) {
+    switch (below(7)) {
     case 0:
         frame = below(2) ? 2 : 299;
         break;
@@ -231,6 +246,9 @@ static uint64_t kernel_entry(void)
     case 2:
         frame = word() & UINT64_C(0xffffffffff);
         break;
+    case 3:
+        frame = PENDING_FRAME;
+        break;
     }
     uint64_t entry = (word() & ~UINT64_C(0x7ffffffffffff000)) | reserved_bits() | GUARD_ENTRY_OF_FRAME(frame);
     return below(8) ? entry | GUARD_ENTRY_PRESENT : entry & ~GUARD_ENTRY_PRESENT;
@@ -239,16 +257,17 @@ static uint64_t kernel_entry(void)
 /* A synchronisation, by the list of the header: the shadow entry, the map's number and both numbers. */
 static int synchronised(int user, int all)
 {
-    struct guard g = started(user);
+    struct guard g = with_pending(user);
     /* with all pages: none changes after this but the one whose kernel entry does */
     sync_all(&g);
-    /* absent by bit 0; the other four lines of the list; absent by a reserved bit, of an approved page and of another */
-    unsigned kinds[7] = {0};
+    /* absent by bit 0; four lines of the list; absent by a reserved bit, of an approved page and of another; the pending frame, and
+     * the same frame where it is not pending */
+    unsigned kinds[9] = {0};
     for (int i = 0; i < ROUNDS; i++) {
         uint64_t page = below(PAGES);
         /* a page approved by an earlier round stays approved: begin anew at times */
         if (below(PAGES) == 0) {
-            g = started(user);
+            g = below(2) ? with_pending(user) : started(user);
             sync_all(&g);
         }
         uint64_t entry = g.kernel[page] = kernel_entry();
@@ -262,24 +281,27 @@ static int synchronised(int user, int all)
         } else if (entry & GUARD_ENTRY_RESERVED) {
             kinds[old_map != GUARD_MAP_NONE ? 5 : 6]++;
         } else if (old_map != GUARD_MAP_NONE) {
-            want = by_table(1, user, entry, old_map);
+            want = by_table(APPROVED, user, entry, old_map);
             kinds[1]++;
         } else if (frame >= FRAMES) {
             kinds[2]++;
+        } else if (frame == PENDING_FRAME && g.state[GUARD_STATE_PENDING]) {
+            want = by_table(PENDING, user, entry, frame);
+            kinds[7]++;
         } else if (excluded(frame)) {
-            want = by_table(1, user, entry, frame);
+            want = by_table(APPROVED, user, entry, frame);
             want_map = frame;
             kinds[3]++;
         } else {
-            want = by_table(0, user, entry, frame);
-            kinds[4]++;
+            want = by_table(ORDINARY, user, entry, frame);
+            kinds[frame == PENDING_FRAME ? 8 : 4]++;
         }
         uint64_t number = all ? sync_all(&g) : sync_page(&g, page);
         if (number != GUARD_ACCEPTED || g.shadow[page] != want || g.map[page] != want_map ||
             g.numbers[0] != (want != old_shadow) || g.numbers[1] != (want_map != old_map))
             return 0;
     }
-    for (int k = 0; k < 7; k++)
+    for (int k = 0; k < 9; k++)
         if (kinds[k] < 100)
             return 0;
     return 1;
@@ -300,13 +322,13 @@ static int reserved(int user)
         for (uint64_t page = 0; page < 7; page++)
             if (g.kernel[page] != 0 && sync_page(&g, page) != GUARD_ACCEPTED)
                 return 0;
-        if (g.shadow[0] != (absent ? 0 : by_table(1, user, g.kernel[0], 2)) || g.map[0] != 2)
+        if (g.shadow[0] != (absent ? 0 : by_table(APPROVED, user, g.kernel[0], 2)) || g.map[0] != 2)
             return 0;
         /* with bit 51 the frame is past the last one */
         if (k != 63 && (g.shadow[5] != 0 || g.map[5] != GUARD_MAP_NONE || g.shadow[6] != 0 || g.map[6] != GUARD_MAP_NONE))
             return 0;
-        if (k == 63 && (g.shadow[5] != by_table(1, user, g.kernel[5], 2) || g.map[5] != 2 ||
-                        g.shadow[6] != by_table(0, user, g.kernel[6], 3) || g.map[6] != GUARD_MAP_NONE))
+        if (k == 63 && (g.shadow[5] != by_table(APPROVED, user, g.kernel[5], 2) || g.map[5] != 2 ||
+                        g.shadow[6] != by_table(ORDINARY, user, g.kernel[6], 3) || g.map[6] != GUARD_MAP_NONE))
             return 0;
     }
     return 1;
@@ -340,7 +362,7 @@ static int cached_as(const struct guard *g, int user, uint64_t bits)
     uint64_t ordinary = (user ? 0x3007 : 0x8000000000003007) | bits;
     return g->shadow[0] == (in_user | 0x2401) && g->shadow[1] == (in_user | 0x12b401) && g->shadow[5] == (in_user | 0x2401) &&
            g->shadow[6] == 0 && g->shadow[7] == ordinary && g->shadow[8] == 0 &&
-           by_table(1, user, g->kernel[0], 2) == g->shadow[0] && by_table(0, user, g->kernel[7], 3) == ordinary;
+           by_table(APPROVED, user, g->kernel[0], 2) == g->shadow[0] && by_table(ORDINARY, user, g->kernel[7], 3) == ordinary;
 }
 
 /* Neither of bits 3 and 4, each alone and both, from each of these to each: an entry that gains or loses one is counted as changed. A
@@ -358,6 +380,39 @@ static int cached(int user, int all)
             if (switch_to(&g, user) != GUARD_ACCEPTED || !cached_as(&g, user, to << 3))
                 return 0;
         }
+    return 1;
+}
+
+/* Pages of the pending frame: their entries by the table, also after a switch to the other mode and back; a commit then makes each of
+ * them an approved one, and so the asked page, which is absent. */
+static int pending(int user, int all)
+{
+    for (int i = 0; i < ROUNDS / PAGES; i++) {
+        struct guard g = with_pending(user);
+        g.kernel[0] = 0x2001;
+        g.kernel[1] = 0x12b001;
+        g.kernel[7] = 0x3007;
+        for (uint64_t page = 10; page < 20; page++)
+            g.kernel[page] = ((word() & ~UINT64_C(0x7ffffffffffff000)) | 0x5001);
+        if (all)
+            sync_all(&g);
+        for (uint64_t page = 0; page < 20 && !all; page++)
+            sync_page(&g, page);
+        for (int turn = 0; turn < 3; turn++) {
+            int now = turn == 1 ? !user : user;
+            if (turn > 0 && switch_to(&g, now) != GUARD_ACCEPTED)
+                return 0;
+            for (uint64_t page = 10; page < 20; page++)
+                if (g.shadow[page] != by_table(PENDING, now, g.kernel[page], 0) || g.map[page] != GUARD_MAP_NONE)
+                    return 0;
+        }
+        if (guard_commit(g.state, GUARD_STATE_WORDS, g.shadow, PAGES, g.map, PAGES, g.numbers, GUARD_NUMBERS) != GUARD_ACCEPTED ||
+            g.numbers[0] != 11 || g.numbers[1] != 11)
+            return 0;
+        for (uint64_t page = 9; page < 20; page++)
+            if (g.shadow[page] != by_table(APPROVED, user, 0, PENDING_FRAME) || g.map[page] != PENDING_FRAME)
+                return 0;
+    }
     return 1;
 }
 
@@ -460,7 +515,7 @@ static int start_entries(void)
         right = right && g.shadow[p] == 0 && g.map[p] == GUARD_MAP_NONE;
     for (unsigned f = 0; f < VECTOR * 8; f++)
         right = right && bit(g.exclusion[f / 8], f % 8) == excluded(f);
-    return right && g.shadow[0] == by_table(1, 0, 0, 2);
+    return right && g.shadow[0] == by_table(APPROVED, 0, 0, 2);
 }
 
 int main(void)
@@ -474,6 +529,8 @@ int main(void)
         check(reserved(user), user ? "reserved bits in user mode" : "reserved bits in kernel mode");
         check(cached(user, 0), user ? "cache bits in user mode" : "cache bits in kernel mode");
         check(cached(user, 1), user ? "cache bits in user mode, all pages" : "cache bits in kernel mode, all pages");
+        check(pending(user, 0), user ? "pending entries in user mode" : "pending entries in kernel mode");
+        check(pending(user, 1), user ? "pending entries in user mode, all pages" : "pending entries in kernel mode, all pages");
         check(switched(user), user ? "entries after a leave" : "entries after an enter");
         check(asked(user), user ? "bits that the calls ask for in user mode" : "bits that the calls ask for in kernel mode");
         check(accessed_and_dirty(user), user ? "accessed and dirty bits in user mode" : "accessed and dirty bits in kernel mode");

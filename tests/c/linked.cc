@@ -1,5 +1,5 @@
 // The header and the archive from C++: the start and one synchronised page of document 01's policy (C1 and C2), the same page from a
-// tree, and a transfer of two devices, by their C names.
+// tree, a transfer of two devices, and a driver that is asked for, dropped and committed, by their C names.
 #include <cstdio>
 
 #include "guard.h"
@@ -60,6 +60,17 @@ int main()
     check("C++: device 1 writes to its window", number == GUARD_ACCEPTED && numbers[0] == 3 && numbers[1] == 3);
     number = guard_device_write(state, GUARD_STATE_WORDS, exclusion, 1, cards, 2, 0, 12288, 4096, numbers, GUARD_NUMBERS);
     check("C++: device 0 there gives 19", number == GUARD_OUTSIDE_WINDOW && numbers[0] == 0 && numbers[1] == 0);
+
+    number = guard_ask(state, GUARD_STATE_WORDS, shadow, 4, map, 4, exclusion, 1, 3, 1, numbers, GUARD_NUMBERS);
+    check("C++: ask for page 3 with frame 1", number == GUARD_ACCEPTED && exclusion[0] == 0x06 && state[GUARD_STATE_PENDING] == 1 &&
+                                                  state[GUARD_STATE_PENDING_PAGE] == 3 && state[GUARD_STATE_PENDING_FRAME] == 1);
+    number = guard_drop(state, GUARD_STATE_WORDS, exclusion, 1, numbers, GUARD_NUMBERS);
+    check("C++: drop", number == GUARD_ACCEPTED && exclusion[0] == 0x04 && state[GUARD_STATE_PENDING] == 0);
+    number = guard_commit(state, GUARD_STATE_WORDS, shadow, 4, map, 4, numbers, GUARD_NUMBERS);
+    check("C++: commit with nothing pending gives 22", number == GUARD_NOTHING_PENDING && map[3] == GUARD_MAP_NONE);
+    guard_ask(state, GUARD_STATE_WORDS, shadow, 4, map, 4, exclusion, 1, 3, 1, numbers, GUARD_NUMBERS);
+    number = guard_commit(state, GUARD_STATE_WORDS, shadow, 4, map, 4, numbers, GUARD_NUMBERS);
+    check("C++: commit", number == GUARD_ACCEPTED && numbers[0] == 1 && numbers[1] == 1 && shadow[3] == 0x1401 && map[3] == 1);
     std::printf("%d passed, %d failed\n", passed, failed);
     return failed == 0 ? 0 : 1;
 }

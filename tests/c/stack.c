@@ -229,6 +229,22 @@ static struct call device_write(uint64_t device, uint64_t address, uint64_t leng
                 AT(numbers), GUARD_NUMBERS);
 }
 
+static struct call ask(uint64_t page, uint64_t frame, uint64_t words)
+{
+    return CALL(guard_ask, AT(state), words, AT(shadow), PAGES, AT(map), PAGES, AT(exclusion), VECTOR, page, frame, AT(numbers),
+                GUARD_NUMBERS);
+}
+
+static struct call commit(uint64_t words)
+{
+    return CALL(guard_commit, AT(state), words, AT(shadow), PAGES, AT(map), PAGES, AT(numbers), GUARD_NUMBERS);
+}
+
+static struct call drop(uint64_t words)
+{
+    return CALL(guard_drop, AT(state), words, AT(exclusion), VECTOR, AT(numbers), GUARD_NUMBERS);
+}
+
 static void put(size_t at, unsigned number)
 {
     policy[at] = number & 255;
@@ -465,5 +481,45 @@ int main(void)
         measure(device_write(device, 0, 1, cut));
     }
     report("guard_device_write");
+
+    /* The kernel's entries are writable, and have frames below V: frame 0 gives 21. The first pages are approved. */
+    for (int user = 0; user < 2; user++)
+        for (uint64_t page = 0; page < PAGES; page += 37) {
+            prepare(user);
+            measure(ask(page, FRAMES - 1 - page, whole));
+            measure(ask(page, 0, whole));
+            measure(ask(page, FRAMES, whole));
+            measure(ask(page, FRAMES - 1, cut));
+        }
+    report("guard_ask");
+
+    for (int user = 0; user < 2; user++)
+        for (uint64_t page = ENTRIES; page < PAGES; page += 37) {
+            prepare(user);
+            measure(commit(whole));
+            if (map[page] != GUARD_MAP_NONE)
+                continue;
+            make(ask(page, FRAMES - 1, GUARD_STATE_WORDS));
+            /* every eighth page is an alias */
+            for (uint64_t alias = 0; alias < PAGES; alias += 8)
+                kernel[alias] = GUARD_ENTRY_OF_FRAME(FRAMES - 1) | GUARD_ENTRY_PRESENT;
+            if (page % 2 == 0)
+                make(sync_all(GUARD_STATE_WORDS));
+            measure(commit(whole));
+            measure(commit(cut));
+        }
+    report("guard_commit");
+
+    for (int user = 0; user < 2; user++)
+        for (uint64_t frame = 0; frame < FRAMES; frame += 127) {
+            prepare(user);
+            measure(drop(whole));
+            memset(shadow, 0, sizeof shadow);
+            if (frame < PAGES || frame >= PAGES + ENTRIES)
+                make(ask(PAGES - 1, frame, GUARD_STATE_WORDS));
+            measure(drop(whole));
+            measure(drop(cut));
+        }
+    report("guard_drop");
     return 0;
 }

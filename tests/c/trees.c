@@ -315,6 +315,16 @@ static struct guard started(int user)
     return g;
 }
 
+/* The same with a frame pending that pages of the trees have. */
+static struct guard with_pending(int user)
+{
+    struct guard g = started(user);
+    if (guard_ask(g.state, GUARD_STATE_WORDS, g.shadow, PAGES, g.map, PAGES, g.exclusion, VECTOR, PAGES - 1, 3, g.numbers,
+                  GUARD_NUMBERS) != GUARD_ACCEPTED)
+        stop("the ask", "refused");
+    return g;
+}
+
 /* A synchronisation from a tree leaves what one from the flat entries of its walks leaves, and gives the same numbers. */
 static int synchronised(int user, int all)
 {
@@ -323,10 +333,11 @@ static int synchronised(int user, int all)
     static struct guard other;
     uint64_t changed = 0;
     uint64_t joined = 0;
+    uint64_t pending = 0;
     for (int round = 0; round < ROUNDS; round++) {
         /* begin anew at times, since a page stays approved */
         if (round % 4 == 0)
-            one = other = started(user);
+            one = other = round % 8 == 0 ? started(user) : with_pending(user);
         uint64_t count = plant();
         uint64_t root = below(count);
         uint64_t depth = 1 + below(GUARD_DEPTH_MAX);
@@ -350,9 +361,12 @@ static int synchronised(int user, int all)
                 return 0;
             changed += one.numbers[0];
             joined += one.numbers[1];
+            /* present, read-only and not approved, with bit 9 and frame 3 */
+            for (uint64_t at = page; at < (all ? PAGES : page + 1); at++)
+                pending += one.state[GUARD_STATE_PENDING] && (one.shadow[at] & 0x000ffffffffff603) == 0x3201;
         }
     }
-    return changed > 1000 && joined > 100;
+    return changed > 1000 && joined > 100 && pending > 10;
 }
 
 int main(void)

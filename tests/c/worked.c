@@ -159,12 +159,28 @@ static uint64_t device_write(struct guard *g, uint64_t address, uint64_t length)
                               GUARD_NUMBERS);
 }
 
+static uint64_t ask(struct guard *g, uint64_t page, uint64_t frame)
+{
+    return guard_ask(g->state, GUARD_STATE_WORDS, g->shadow, PAGES, g->map, PAGES, g->exclusion, VECTOR, page, frame, g->numbers,
+                     GUARD_NUMBERS);
+}
+
+static uint64_t commit(struct guard *g)
+{
+    return guard_commit(g->state, GUARD_STATE_WORDS, g->shadow, PAGES, g->map, PAGES, g->numbers, GUARD_NUMBERS);
+}
+
+static uint64_t drop(struct guard *g)
+{
+    return guard_drop(g->state, GUARD_STATE_WORDS, g->exclusion, VECTOR, g->numbers, GUARD_NUMBERS);
+}
+
 /* "Policy V 4, F 4, n 1, e 1, page 1, frame 2." */
 static const uint8_t policy[12] = {4, 0, 4, 0, 1, 0, 1, 0, 1, 0, 2, 0};
 
 /* Runs as they may be before a start: nothing of them is read. Both devices may write to every frame. */
 static const struct guard unset = {
-    .state = {9, 9, 9, 9, 9, 9, 9, 9, 9, 9, 9, 9, 9, 9, 9, 9, 9, 9, 9, 9, 9, 9},
+    .state = {9, 9, 9, 9, 9, 9, 9, 9, 9, 9, 9, 9, 9, 9, 9, 9, 9, 9, 9, 9, 9, 9, 9, 9, 9},
     .numbers = {77, 88},
     .kernel = {0, 0, 0, 0},
     .shadow = {5, 6, 7, 8},
@@ -175,7 +191,7 @@ static const struct guard unset = {
 
 /* The guard just started, in kernel mode on page 1. C1: "shadow of page 1 is 0x2401, exclusion byte 0x04". */
 static const struct guard started = {
-    .state = {4, 4, 1, 1, 0, 0, 0, 0, 0, 0, 0, 0, 0, 0, 0, 0, 0, 0, 0, GUARD_MODE_KERNEL, 1, DEVICES},
+    .state = {4, 4, 1, 1, 0, 0, 0, 0, 0, 0, 0, 0, 0, 0, 0, 0, 0, 0, 0, GUARD_MODE_KERNEL, 1, DEVICES, 0, 0, 0},
     .numbers = {1, 1},
     .kernel = {0, 0, 0, 0},
     .shadow = {0, 0x2401, 0, 0},
@@ -186,7 +202,7 @@ static const struct guard started = {
 
 /* The guard at the end of the worked example, in user mode on page 3. */
 static const struct guard finished = {
-    .state = {4, 4, 1, 1, 0, 0, 0, 0, 0, 0, 0, 0, 0, 0, 0, 0, 0, 0, 0, GUARD_MODE_USER, 3, DEVICES},
+    .state = {4, 4, 1, 1, 0, 0, 0, 0, 0, 0, 0, 0, 0, 0, 0, 0, 0, 0, 0, GUARD_MODE_USER, 3, DEVICES, 0, 0, 0},
     .numbers = {0, 0},
     .kernel = {0x2003, 0, 0, 0x3007},
     .shadow = {0x8000000000002401, 0x8000000000002401, 0, 0x3007},
@@ -456,6 +472,12 @@ static void damaged_state(const char *name, const struct guard *before)
     refused(full, leave(&g, 3), GUARD_STATE_OR_TABLE, &g, before);
     snprintf(full, sizeof full, "device write: %s gives 7", name);
     refused(full, device_write(&g, 0, 1), GUARD_STATE_OR_TABLE, &g, before);
+    snprintf(full, sizeof full, "ask: %s gives 7", name);
+    refused(full, ask(&g, 2, 1), GUARD_STATE_OR_TABLE, &g, before);
+    snprintf(full, sizeof full, "commit: %s gives 7", name);
+    refused(full, commit(&g), GUARD_STATE_OR_TABLE, &g, before);
+    snprintf(full, sizeof full, "drop: %s gives 7", name);
+    refused(full, drop(&g), GUARD_STATE_OR_TABLE, &g, before);
 }
 
 static void refused_states(void)
@@ -475,6 +497,8 @@ static void refused_states(void)
         {"no device", GUARD_STATE_DEVICES, 0},
         {"65 devices", GUARD_STATE_DEVICES, 65},
         {"65538 devices", GUARD_STATE_DEVICES, 65538},
+        {"pending word 2", GUARD_STATE_PENDING, 2},
+        {"pending word 2^32 + 1", GUARD_STATE_PENDING, 4294967297},
     };
     for (size_t i = 0; i < sizeof damage / sizeof damage[0]; i++) {
         struct guard before = with_word(damage[i].at, damage[i].word);
@@ -496,11 +520,11 @@ static void refused_lengths(void)
 {
     const struct guard before = finished;
     struct guard g = ready(&before);
-    refused("state run of 21 words gives 7",
+    refused("state run of 24 words gives 7",
             guard_fetch(g.state, GUARD_STATE_WORDS - 1, g.shadow, PAGES, 3, g.numbers, GUARD_NUMBERS), GUARD_STATE_OR_TABLE, &g,
             &before);
     uint64_t longer[GUARD_STATE_WORDS + 1] = {4, 4, 1, 1, [GUARD_STATE_MODE] = 1, 3, DEVICES, 0};
-    refused("state run of 23 words gives 7",
+    refused("state run of 26 words gives 7",
             guard_fetch(longer, GUARD_STATE_WORDS + 1, g.shadow, PAGES, 3, g.numbers, GUARD_NUMBERS), GUARD_STATE_OR_TABLE, &g,
             &before);
     refused("shadow table of 3 entries gives 7",
@@ -536,7 +560,7 @@ static void refused_starts(void)
     refused("page 4 of 4 gives 5", start(&g, high_page, sizeof high_page), GUARD_LISTED_PAGE, &g, &before);
     const uint8_t high_frame[12] = {4, 0, 4, 0, 1, 0, 1, 0, 1, 0, 4, 0};
     refused("frame 4 of 4 gives 6", start(&g, high_frame, sizeof high_frame), GUARD_LISTED_FRAME, &g, &before);
-    refused("start on a state run of 21 words gives 7",
+    refused("start on a state run of 24 words gives 7",
             guard_start(policy, sizeof policy, DEVICES, g.state, GUARD_STATE_WORDS - 1, g.shadow, PAGES, g.map, PAGES, g.exclusion,
                         VECTOR, g.numbers, GUARD_NUMBERS),
             GUARD_STATE_OR_TABLE, &g, &before);
@@ -775,7 +799,7 @@ static void refused_trees(void)
 static void refused_tree_lengths(void)
 {
     enum { STATE, SHADOW, MAP, EXCLUSION, NUMBERS, LENGTHS };
-    static const char *const names[LENGTHS] = {"state run of 21 words", "shadow table of 3 entries", "map of 3 numbers",
+    static const char *const names[LENGTHS] = {"state run of 24 words", "shadow table of 3 entries", "map of 3 numbers",
                                                "exclusion vector of 0 bytes", "numbers run of 1 word"};
     const struct guard before = finished;
     struct guard g = ready(&before);

@@ -12,7 +12,7 @@ use crate::tables::Tables;
 use crate::work::{in_turn, Side, Sides, Work, ARGUMENTS};
 
 /// 0 for an accepted call, else the number of the refusal.
-fn number(answer: Answer) -> u8 {
+pub fn number(answer: Answer) -> u8 {
     answer.map_or_else(|refusal| refusal.number(), |_| 0)
 }
 

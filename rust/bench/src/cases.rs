@@ -4,6 +4,7 @@
 use reference::Device;
 
 use crate::access::{DeviceWrite, Fetch, Write};
+use crate::approval::{Ask, Commit, Drop};
 use crate::record::WriteRecord;
 use crate::switch::{LeaveAndEnter, Start};
 use crate::synchronise::{SynchroniseAll, SynchroniseOne};
@@ -17,9 +18,10 @@ pub struct Case {
     pub prepare: Box<dyn Fn() -> Box<dyn Work>>,
 }
 
-const SIZES: [u16; 3] = [16, 256, 2048];
+const SMALLEST: u16 = 16;
 const MIDDLE: u16 = 256;
 const LARGEST: u16 = 2048;
+const SIZES: [u16; 3] = [SMALLEST, MIDDLE, LARGEST];
 /// The depths, with the most pages that a guard can have of each.
 const DEPTHS: [(u64, u16); 3] = [(1, 512), (2, LARGEST), (3, LARGEST)];
 const MEBIBYTE: u64 = 1 << 20;
@@ -30,6 +32,7 @@ pub fn cases() -> Vec<Case> {
     cases.extend(switches());
     cases.extend(records());
     cases.extend(trees());
+    cases.extend(approvals());
     cases
 }
 
@@ -127,6 +130,41 @@ fn trees() -> Vec<Case> {
         }
         let name = format!("synchronise all from a tree, large pages, V {LARGEST}{mode}");
         cases.push(case(name, move || SynchroniseAllFromTree::new(large(), in_user)));
+    }
+    cases
+}
+
+fn approvals() -> Vec<Case> {
+    let mut cases = Vec::new();
+    for v in [SMALLEST, LARGEST] {
+        let ask = move || Ask::new(&Tables::new(Contents::Ordinary, v), 0);
+        cases.push(case(format!("ask, V {v}"), ask));
+    }
+    for refusal in [20, 21] {
+        let ask = move || Ask::new(&Tables::new(Contents::Ordinary, LARGEST), refusal);
+        cases.push(case(format!("ask, V {LARGEST}, refused with {refusal}"), ask));
+    }
+    for v in [SMALLEST, LARGEST] {
+        let commit = move || Commit::new(&Tables::asked(Contents::Absent, v));
+        cases.push(case(format!("commit, V {v}, no alias"), commit));
+    }
+    let commit = || Commit::new(&Tables::pending(Contents::Ordinary, LARGEST));
+    cases.push(case(format!("commit, V {LARGEST}, one page of sixteen an alias"), commit));
+    let commit = || Commit::new(&Tables::new(Contents::Ordinary, LARGEST));
+    cases.push(case(format!("commit, V {LARGEST}, refused with 22"), commit));
+    for v in [SMALLEST, LARGEST] {
+        let drop = move || Drop::new(&Tables::asked(Contents::Ordinary, v));
+        cases.push(case(format!("drop, V {v}"), drop));
+    }
+    let drop = || Drop::new(&Tables::new(Contents::Ordinary, LARGEST));
+    cases.push(case(format!("drop, V {LARGEST}, refused with 22"), drop));
+    for (v, in_user) in [(SMALLEST, false), (LARGEST, false), (LARGEST, true)] {
+        for contents in Contents::ALL {
+            let mode = if in_user { ", user mode" } else { "" };
+            let name = format!("synchronise all, V {v}, {}, one pending{mode}", contents.words());
+            let all = move || SynchroniseAll::new(Tables::pending(contents, v), in_user);
+            cases.push(case(name, all));
+        }
     }
     cases
 }

@@ -3,6 +3,7 @@
 #![forbid(unsafe_code)]
 
 mod access;
+mod approval;
 mod cases;
 mod measure;
 mod plain;

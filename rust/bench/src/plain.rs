@@ -20,6 +20,12 @@ pub fn keep_general() {
     black_box((walk as *const (), sync_page_tree as *const (), sync_all_tree as *const ()));
     black_box((on_runs::walk as *const (), on_runs::sync_page_tree as *const ()));
     black_box(on_runs::sync_all_tree as *const ());
+    black_box((ask as *const (), commit as *const (), drop as *const ()));
+    black_box((
+        on_runs::ask as *const (),
+        on_runs::commit as *const (),
+        on_runs::drop as *const (),
+    ));
 }
 
 #[inline(never)]
@@ -129,6 +135,28 @@ pub fn sync_all_tree(
     reference::synchronise_all_from_tree(state, tree, shadow, map, exclusion)
 }
 
+#[inline(never)]
+pub fn ask(
+    state: &mut State,
+    shadow: &[u64],
+    map: &[u16],
+    exclusion: &mut [u8],
+    page: u64,
+    frame: u64,
+) -> Answer {
+    reference::ask(state, shadow, map, exclusion, page, frame)
+}
+
+#[inline(never)]
+pub fn commit(state: &mut State, shadow: &mut [u64], map: &mut [u16]) -> Answer {
+    reference::commit(state, shadow, map)
+}
+
+#[inline(never)]
+pub fn drop(state: &mut State, exclusion: &mut [u8]) -> Answer {
+    reference::drop(state, exclusion)
+}
+
 /// Synchronising with the kernel's frame always taken, which guards nothing: the price of steps 2 and 4.
 pub mod without_approval {
     use reference::{Answer, State};
@@ -184,7 +212,7 @@ pub mod on_runs {
         page: u64,
         numbers: &mut [u64],
     ) -> u64 {
-        boundary::ask(run, numbers, |state| {
+        boundary::with_state(run, numbers, |state| {
             reference::synchronise_one(state, kernel, shadow, map, exclusion, page)
         })
     }
@@ -198,14 +226,14 @@ pub mod on_runs {
         exclusion: &[u8],
         numbers: &mut [u64],
     ) -> u64 {
-        boundary::ask(run, numbers, |state| {
+        boundary::with_state(run, numbers, |state| {
             reference::synchronise_all(state, kernel, shadow, map, exclusion)
         })
     }
 
     #[inline(never)]
     pub fn fetch(run: &mut [u64], shadow: &[u64], page: u64, numbers: &mut [u64]) -> u64 {
-        boundary::go(run, numbers, |state| reference::fetch(state, shadow, page))
+        boundary::with_mode(run, numbers, |state| reference::fetch(state, shadow, page))
     }
 
     #[inline(never)]
@@ -217,19 +245,19 @@ pub mod on_runs {
         length: u64,
         numbers: &mut [u64],
     ) -> u64 {
-        boundary::ask(run, numbers, |state| {
+        boundary::with_state(run, numbers, |state| {
             reference::write(state, shadow, exclusion, address, length)
         })
     }
 
     #[inline(never)]
     pub fn enter(run: &mut [u64], shadow: &mut [u64], index: u64, numbers: &mut [u64]) -> u64 {
-        boundary::go(run, numbers, |state| reference::enter(state, shadow, index))
+        boundary::with_mode(run, numbers, |state| reference::enter(state, shadow, index))
     }
 
     #[inline(never)]
     pub fn leave(run: &mut [u64], shadow: &mut [u64], page: u64, numbers: &mut [u64]) -> u64 {
-        boundary::go(run, numbers, |state| reference::leave(state, shadow, page))
+        boundary::with_mode(run, numbers, |state| reference::leave(state, shadow, page))
     }
 
     #[inline(never)]
@@ -242,7 +270,7 @@ pub mod on_runs {
         length: u64,
         numbers: &mut [u64],
     ) -> u64 {
-        boundary::ask(run, numbers, |state| {
+        boundary::with_state(run, numbers, |state| {
             reference::device_write(state, exclusion, devices, device, address, length)
         })
     }
@@ -281,7 +309,7 @@ pub mod on_runs {
         numbers: &mut [u64],
     ) -> u64 {
         let tree = Tree { tables, root, depth };
-        boundary::ask(run, numbers, |state| {
+        boundary::with_state(run, numbers, |state| {
             reference::synchronise_one_from_tree(state, tree, shadow, map, exclusion, page)
         })
     }
@@ -299,8 +327,38 @@ pub mod on_runs {
         numbers: &mut [u64],
     ) -> u64 {
         let tree = Tree { tables, root, depth };
-        boundary::ask(run, numbers, |state| {
+        boundary::with_state(run, numbers, |state| {
             reference::synchronise_all_from_tree(state, tree, shadow, map, exclusion)
         })
+    }
+
+    #[inline(never)]
+    pub fn ask(
+        run: &mut [u64],
+        shadow: &[u64],
+        map: &[u16],
+        exclusion: &mut [u8],
+        page: u64,
+        frame: u64,
+        numbers: &mut [u64],
+    ) -> u64 {
+        boundary::with_pending(run, numbers, |state| {
+            reference::ask(state, shadow, map, exclusion, page, frame)
+        })
+    }
+
+    #[inline(never)]
+    pub fn commit(
+        run: &mut [u64],
+        shadow: &mut [u64],
+        map: &mut [u16],
+        numbers: &mut [u64],
+    ) -> u64 {
+        boundary::with_pending(run, numbers, |state| reference::commit(state, shadow, map))
+    }
+
+    #[inline(never)]
+    pub fn drop(run: &mut [u64], exclusion: &mut [u8], numbers: &mut [u64]) -> u64 {
+        boundary::with_pending(run, numbers, |state| reference::drop(state, exclusion))
     }
 }

@@ -2,6 +2,7 @@
 //! A case has two kernel tables that differ in an eighth of their entries and are brought in turn, so that every call has work to do.
 
 use inputs::{record, Random};
+use reference::Pair;
 
 const PRESENT: u64 = 1;
 const WRITABLE: u64 = 1 << 1;
@@ -40,6 +41,8 @@ pub struct Tables {
     pub policy: Vec<u8>,
     /// The number of devices that a start is given.
     pub devices: u16,
+    /// What is asked for after the start, if anything is.
+    pub asked: Option<Pair>,
     pub kernels: [Vec<u64>; 2],
 }
 
@@ -72,7 +75,27 @@ impl Tables {
             }
         }
         let policy = record(v, 2 * v, 1, &listed);
-        Tables { v, policy, devices: MOST_DEVICES, kernels: [first, second] }
+        Tables { v, policy, devices: MOST_DEVICES, asked: None, kernels: [first, second] }
+    }
+
+    /// The last page and a free frame are asked for. Some pages of a large table that is mostly ordinary have that frame.
+    pub fn asked(contents: Contents, v: u16) -> Tables {
+        Tables { asked: Some(Pair { page: v - 1, frame: v + 2 }), ..Tables::new(contents, v) }
+    }
+
+    /// The same, with the frame in one entry of sixteen of each kernel table, the first one and the last aside.
+    pub fn pending(contents: Contents, v: u16) -> Tables {
+        let mut tables = Tables::asked(contents, v);
+        let mut random = Random::new(v.into());
+        for page in 1..usize::from(v) - 1 {
+            if random.one_in(16) {
+                for kernel in &mut tables.kernels {
+                    let bits = PRESENT | random.pick(&[WRITABLE, USER, WRITABLE | USER]);
+                    kernel[page] = entry(u64::from(v) + 2, bits);
+                }
+            }
+        }
+        tables
     }
 }
 

@@ -39,7 +39,8 @@ impl Trees {
         let mut second = first.clone();
         second[0] &= !WRITABLE;
         let policy = record(v, 2 * v, 1, &[(0, 0)]);
-        let flat = Tables { v, policy, devices: MOST_DEVICES, kernels: Default::default() };
+        let devices = MOST_DEVICES;
+        let flat = Tables { v, policy, devices, asked: None, kernels: Default::default() };
         let mut trees = Trees { flat, runs: [first, second], depth: 2 };
         trees.flat.kernels = [0, 1].map(|turn| trees.walked(turn));
         trees

@@ -1,6 +1,9 @@
 //! A measured call: its sides, and what a repetition is on each.
 //! Arguments pass through a black box, so that nothing is computed ahead of a call; answers in memory are lent to it, not copied.
 
+use guard::archive::NUMBERS;
+use reference::Answer;
+
 use crate::sides::{PlainSide, RunSide};
 use crate::tables::Tables;
 
@@ -44,6 +47,7 @@ pub trait Work {
 }
 
 /// What the archive and the reference hold.
+#[derive(Clone)]
 pub struct Sides {
     pub archive: RunSide,
     pub plain: PlainSide,
@@ -64,12 +68,30 @@ impl Sides {
     pub fn agree(&self) -> bool {
         self.plain.agrees(&self.archive) && self.plain.agrees(&self.on_runs)
     }
+
+    /// Whether all stand alike, and also after one call more on copies of them, which answers the same.
+    pub fn agree_after(
+        &self,
+        archive: impl Fn(&mut RunSide) -> u64,
+        plain: impl Fn(&mut PlainSide) -> Answer,
+        on_runs: impl Fn(&mut RunSide) -> u64,
+    ) -> bool {
+        let mut after = self.clone();
+        let refusals = [archive(&mut after.archive), on_runs(&mut after.on_runs)];
+        let (refusal, numbers) = match plain(&mut after.plain) {
+            Ok((first, second)) => (0, [first, second]),
+            Err(refusal) => (refusal.number(), [0; NUMBERS]),
+        };
+        let same_answers = refusals == [refusal.into(); 2]
+            && [after.archive.numbers, after.on_runs.numbers] == [numbers; 2];
+        self.agree() && same_answers && after.agree()
+    }
 }
 
 /// The arguments that a case takes in turn: a power of two, so that choosing one costs little.
 pub const ARGUMENTS: usize = 64;
 
-pub fn in_turn(arguments: Vec<u64>) -> Vec<u64> {
+pub fn in_turn<T: Copy>(arguments: Vec<T>) -> Vec<T> {
     assert!(!arguments.is_empty(), "no argument is answered as the case wants it");
     arguments.into_iter().cycle().take(ARGUMENTS).collect()
 }

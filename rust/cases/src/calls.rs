@@ -3,7 +3,7 @@
 
 use ::guard::archive::{
     self, Device, MODE_KERNEL, MODE_USER, NUMBERS, STATE_DEVICES, STATE_ENTRIES, STATE_ENTRY,
-    STATE_FRAMES, STATE_MODE, STATE_PAGES, STATE_RUNNING, STATE_WORDS,
+    STATE_FRAMES, STATE_MODE, STATE_PAGES, STATE_PENDING, STATE_RUNNING, STATE_WORDS,
 };
 use ::guard::ENTRY_PAGES;
 use std::hint::black_box;
@@ -22,6 +22,8 @@ pub struct State {
     pub entry_pages: [u16; ENTRY_PAGES],
     pub mode: Mode,
     pub devices: u16,
+    /// The three words of a pending pair, as they stand in the run: those that are not read may be any.
+    pub pending: [u64; 3],
 }
 
 #[derive(Clone, Copy, PartialEq, Eq)]
@@ -37,7 +39,7 @@ pub struct Called {
 }
 
 /// A run of numbers that holds neither zeros nor an answer, so that a call which does not write it is seen.
-const UNWRITTEN: [u64; NUMBERS] = [0xdead, 0xbeef];
+pub const UNWRITTEN: [u64; NUMBERS] = [0xdead, 0xbeef];
 
 pub fn words(s: State) -> [u64; STATE_WORDS] {
     let mut run = [0; STATE_WORDS];
@@ -54,6 +56,7 @@ pub fn words(s: State) -> [u64; STATE_WORDS] {
     run[STATE_MODE] = mode;
     run[STATE_RUNNING] = page.into();
     run[STATE_DEVICES] = s.devices.into();
+    run[STATE_PENDING..].copy_from_slice(&s.pending);
     run
 }
 
@@ -75,11 +78,12 @@ fn state(run: [u64; STATE_WORDS]) -> State {
             other => panic!("mode word {other}"),
         },
         devices: field(run[STATE_DEVICES]),
+        pending: std::array::from_fn(|i| run[STATE_PENDING + i]),
     }
 }
 
 /// "with the call's other numbers 0": a refused call that leaves other numbers is told apart from every wanted answer.
-fn answer(number: u64, numbers: [u64; NUMBERS]) -> Answer {
+pub fn answer(number: u64, numbers: [u64; NUMBERS]) -> Answer {
     match (number, numbers) {
         (0, [first, second]) => Answer::Done(first, second),
         (number, [0, 0]) => Answer::Refused(number),
@@ -220,6 +224,31 @@ pub fn device_write(
         archive::device_write(&run, exclusion, &list, device, address, length, &mut numbers);
     assert!(*black_box(&list) == *devices, "the list of devices is changed");
     answer(number, numbers)
+}
+
+pub fn ask(
+    s: State,
+    shadow: &[u64],
+    map: &[u16],
+    exclusion: &mut [u8],
+    page: u64,
+    frame: u64,
+) -> Called {
+    let (mut run, mut numbers) = (words(s), UNWRITTEN);
+    let number = archive::ask(&mut run, shadow, map, exclusion, page, frame, &mut numbers);
+    Called { answer: answer(number, numbers), state: state(run) }
+}
+
+pub fn commit(s: State, shadow: &mut [u64], map: &mut [u16]) -> Called {
+    let (mut run, mut numbers) = (words(s), UNWRITTEN);
+    let number = archive::commit(&mut run, shadow, map, &mut numbers);
+    Called { answer: answer(number, numbers), state: state(run) }
+}
+
+pub fn drop(s: State, exclusion: &mut [u8]) -> Called {
+    let (mut run, mut numbers) = (words(s), UNWRITTEN);
+    let number = archive::drop(&mut run, exclusion, &mut numbers);
+    Called { answer: answer(number, numbers), state: state(run) }
 }
 
 /// The sizes are V, F, n and e.

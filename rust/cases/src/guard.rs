@@ -5,11 +5,11 @@ use crate::calls::Mode;
 use crate::calls::State;
 use ::guard::ENTRY_PAGES;
 
-// A state whose first four entry pages are given; the others are 0. It has three devices.
+// A state whose first four entry pages are given; the others are 0. It has three devices, and nothing is pending.
 pub fn state(pages: u16, frames: u16, entry_count: u16, first: [u16; 4], mode: Mode) -> State {
     let mut entry_pages = [0u16; ENTRY_PAGES];
     entry_pages[..4].copy_from_slice(&first);
-    State { pages, frames, entry_count, entry_pages, mode, devices: 3 }
+    State { pages, frames, entry_count, entry_pages, mode, devices: 3, pending: [0, 0, 0] }
 }
 
 pub fn state_in(mode: Mode) -> State {

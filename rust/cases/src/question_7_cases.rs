@@ -1,6 +1,6 @@
 // Question 7 of every call but the start: "Are the state's V, F within range, e from 1 to 16, the running page below V, and does every
 // lent table have its exact length". A call asks it of the tables that it is lent and of no other. It comes before every other question.
-// K5: the state's number of devices is 1 to 64, "and a list of another length gives 7".
+// K5: the state's number of devices is 1 to 64, "and a list of another length gives 7". K6: "Question 7 wants a pending pair below V and F".
 use crate::calls::Answer;
 use crate::calls::Mode;
 use crate::calls::Mode::Kernel;
@@ -23,6 +23,9 @@ struct Numbers {
     enter: u64,
     leave: u64,
     device_write: u64,
+    ask: u64,
+    commit: u64,
+    drop: u64,
 }
 
 // How many places each table is lent with.
@@ -179,6 +182,37 @@ fn device_write(t: Tally, name: &str, s: State, lent: Lent, number: u64) -> Tall
     t.case("device_write", name, told(answer, number, true))
 }
 
+// Asks for page 0 with frame 0.
+fn ask(t: Tally, name: &str, s: State, lent: Lent, number: u64) -> Tally {
+    let given = tables();
+    let mut exclusion = [0; 513];
+    let called = crate::calls::ask(
+        s,
+        &given.shadow[..lent.shadow],
+        &given.map[..lent.map],
+        &mut exclusion[..lent.exclusion],
+        0,
+        0,
+    );
+    let unchanged = called.state == s && exclusion == [0; 513];
+    t.case("ask", name, told(called.answer, number, unchanged))
+}
+
+fn commit(t: Tally, name: &str, s: State, lent: Lent, number: u64) -> Tally {
+    let given = tables();
+    let Room { mut shadow, mut map } = given;
+    let called = crate::calls::commit(s, &mut shadow[..lent.shadow], &mut map[..lent.map]);
+    let unchanged = called.state == s && shadow == given.shadow && map == given.map;
+    t.case("commit", name, told(called.answer, number, unchanged))
+}
+
+fn drop(t: Tally, name: &str, s: State, lent: Lent, number: u64) -> Tally {
+    let mut exclusion = [0xff; 513];
+    let called = crate::calls::drop(s, &mut exclusion[..lent.exclusion]);
+    let unchanged = called.state == s && exclusion == [0xff; 513];
+    t.case("drop", name, told(called.answer, number, unchanged))
+}
+
 fn calls(t: Tally, name: &str, s: State, lent: Lent, wanted: Numbers) -> Tally {
     let t = sync_page(t, name, s, lent, wanted.sync_page);
     let t = sync_all(t, name, s, lent, wanted.sync_all);
@@ -188,10 +222,13 @@ fn calls(t: Tally, name: &str, s: State, lent: Lent, wanted: Numbers) -> Tally {
     let t = write(t, name, s, lent, wanted.write);
     let t = enter(t, name, s, lent, wanted.enter);
     let t = leave(t, name, s, lent, wanted.leave);
-    device_write(t, name, s, lent, wanted.device_write)
+    let t = device_write(t, name, s, lent, wanted.device_write);
+    let t = ask(t, name, s, lent, wanted.ask);
+    let t = commit(t, name, s, lent, wanted.commit);
+    drop(t, name, s, lent, wanted.drop)
 }
 
-// Kernel mode: enter is refused by question 10 where it passes 7.
+// Kernel mode: enter is refused by question 10 where it passes 7. Nothing is pending: commit and drop are refused by 22.
 fn passed() -> Numbers {
     Numbers {
         sync_page: 0,
@@ -203,7 +240,15 @@ fn passed() -> Numbers {
         enter: 10,
         leave: 0,
         device_write: 0,
+        ask: 0,
+        commit: 22,
+        drop: 22,
     }
+}
+
+// The same where page 2 is pending with frame 4: an ask is refused by 20.
+fn passed_pending() -> Numbers {
+    Numbers { ask: 20, commit: 0, drop: 0, ..passed() }
 }
 
 // Tables and a list of devices of these lengths on V 4, F 9 and three devices.
@@ -218,19 +263,23 @@ fn kernel() -> Numbers {
     Numbers { sync_page: 7, sync_all: 7, ..passed() }
 }
 
-// The map is lent to the synchronising calls alone.
-fn map() -> Numbers {
+fn synchronising() -> Numbers {
     Numbers { sync_page: 7, sync_all: 7, sync_page_tree: 7, sync_all_tree: 7, ..passed() }
 }
 
-// The shadow table is lent to every call but a device write.
+// The map is lent to the synchronising calls, to ask and to commit.
+fn map() -> Numbers {
+    Numbers { ask: 7, commit: 7, ..synchronising() }
+}
+
+// The shadow table is lent to every call but a device write and a drop.
 fn shadow() -> Numbers {
     Numbers { fetch: 7, write: 7, enter: 7, leave: 7, ..map() }
 }
 
-// The exclusion vector is lent to the synchronising calls, to write and to device write.
+// The exclusion vector is lent to the synchronising calls, to write, to device write, to ask and to drop.
 fn exclusion() -> Numbers {
-    Numbers { write: 7, device_write: 7, ..map() }
+    Numbers { write: 7, device_write: 7, ask: 7, drop: 7, ..synchronising() }
 }
 
 // The list of devices is lent to device write alone.
@@ -260,7 +309,7 @@ fn sized(t: Tally, name: &str, s: State, exclusion: usize, wanted: Numbers) -> T
 }
 
 fn state_refused(t: Tally, name: &str, s: State, exclusion: usize) -> Tally {
-    let every = Numbers { device_write: 7, ..shadow() };
+    let every = Numbers { device_write: 7, drop: 7, ..shadow() };
     sized(t, name, s, exclusion, every)
 }
 
@@ -283,6 +332,78 @@ fn damaged_states(t: Tally) -> Tally {
 
 fn with_devices(devices: u16, mode: Mode) -> State {
     State { devices, ..guard::state_in(mode) }
+}
+
+// A state of V 4 and F 9 with these words of a pair.
+fn with_pair(pending: [u64; 3], mode: Mode) -> State {
+    State { pending, ..guard::state_in(mode) }
+}
+
+// "question 7 wants a pending pair below V and F", whatever the call and the mode; a word of it is not cut.
+fn damaged_pairs(t: Tally) -> Tally {
+    let mut t = t;
+    for (name, pending) in [
+        ("page V is pending", [1, 4, 4]),
+        ("page 65535 is pending", [1, 65535, 4]),
+        ("page 65538 is pending", [1, 65538, 4]),
+        ("page 2^32 + 2 is pending", [1, 4294967298, 4]),
+        ("page 2^63 + 2 is pending", [1, 9223372036854775810, 4]),
+        ("the highest page is pending", [1, 18446744073709551615, 4]),
+        ("frame F is pending", [1, 2, 9]),
+        ("frame 65535 is pending", [1, 2, 65535]),
+        ("frame 65540 is pending", [1, 2, 65540]),
+        ("frame 2^32 + 4 is pending", [1, 2, 4294967300]),
+        ("frame 2^63 + 4 is pending", [1, 2, 9223372036854775812]),
+        ("the highest frame is pending", [1, 2, 18446744073709551615]),
+        ("page V and frame F are pending", [1, 4, 9]),
+        ("a pending word of 2", [2, 2, 4]),
+        ("a pending word of 2, and no pair", [2, 0, 0]),
+        ("a pending word of 65536", [65536, 2, 4]),
+        ("a pending word of 2^32", [4294967296, 2, 4]),
+        ("a pending word of 2^32 + 1", [4294967297, 2, 4]),
+        ("a pending word of 2^63", [9223372036854775808, 0, 0]),
+        ("the highest pending word", [18446744073709551615, 2, 4]),
+    ] {
+        t = state_refused(t, name, with_pair(pending, Kernel(1)), 2);
+        t = state_refused(t, &format!("{name}, user mode"), with_pair(pending, User(1)), 2);
+    }
+    t
+}
+
+// Pairs at the ends of their ranges; and where none is pending, words that are not read.
+fn pairs_in_order(t: Tally) -> Tally {
+    let pending =
+        |t, name: &str, words| sized(t, name, with_pair(words, Kernel(1)), 2, passed_pending());
+    let none = |t, name: &str, words| sized(t, name, with_pair(words, Kernel(1)), 2, passed());
+    let t = pending(t, "page 2 and frame 4 are pending", [1, 2, 4]);
+    let t = pending(t, "page 0 and frame 0 are pending", [1, 0, 0]);
+    let t = pending(t, "page V - 1 and frame F - 1 are pending", [1, 3, 8]);
+    let t = none(t, "page V and frame F, which are not pending", [0, 4, 9]);
+    let t = none(t, "page 65536 and frame 65536, which are not pending", [0, 65536, 65536]);
+    let highest = 18446744073709551615;
+    none(t, "the highest page and frame, which are not pending", [0, highest, highest])
+}
+
+// The lengths of the tables where a pair is pending: a commit and a drop ask them too, before 22 and before 20.
+fn lent_tables_while_pending(t: Tally) -> Tally {
+    let lengths = |t, name: &str, lent: [usize; 4], wanted| {
+        let [kernel, shadow, map, exclusion] = lent;
+        let lent = Lent { kernel, shadow, map, exclusion, devices: 3 };
+        calls(t, name, with_pair([1, 2, 4], Kernel(1)), lent, wanted)
+    };
+    let wanted = |of_commit, of_drop, lent: Numbers| Numbers {
+        ask: if lent.ask == 7 { 7 } else { 20 },
+        commit: of_commit,
+        drop: of_drop,
+        ..lent
+    };
+    let t = lengths(t, "a kernel table too short, pending", [3, 4, 4, 2], wanted(0, 0, kernel()));
+    let t = lengths(t, "a shadow table too short, pending", [4, 3, 4, 2], wanted(7, 0, shadow()));
+    let t = lengths(t, "a shadow table too long, pending", [4, 5, 4, 2], wanted(7, 0, shadow()));
+    let t = lengths(t, "a map too short, pending", [4, 4, 3, 2], wanted(7, 0, map()));
+    let t = lengths(t, "a map too long, pending", [4, 4, 5, 2], wanted(7, 0, map()));
+    let t = lengths(t, "a vector too short, pending", [4, 4, 4, 1], wanted(0, 7, exclusion()));
+    lengths(t, "a vector too long, pending", [4, 4, 4, 3], wanted(0, 7, exclusion()))
 }
 
 // Each part of the state at the ends of its range, and vectors whose length is rounded up.
@@ -312,5 +433,8 @@ pub fn all(t: Tally) -> Tally {
     let t = lent_tables(t);
     let t = damaged_states(t);
     let t = states_in_order(t);
+    let t = damaged_pairs(t);
+    let t = pairs_in_order(t);
+    let t = lent_tables_while_pending(t);
     smallest(t)
 }

@@ -1,7 +1,8 @@
 // The start: what an accepted record sets, and questions 1 to 7 with their order. A refused start leaves the state run and the lent
 // tables as they were. "A refused start, which has no state to keep, answers a state of zeros in user mode on page 0": that is the
 // answer of the library's start::start, which is proved; the call for C, tested here, does not write it to the run.
-// K5: the start is given the number of devices, 1 to 64, and "a number outside that gives 3 at the start".
+// K5: the start is given the number of devices, 1 to 64, and "a number outside that gives 3 at the start". K6: a start writes 0 in the
+// three words of a pending pair.
 use crate::calls::words;
 use crate::calls::Answer;
 use crate::calls::Answer::Done;
@@ -33,6 +34,7 @@ const STATE_BEFORE: State = State {
     entry_pages: [100, 101, 102, 103, 104, 105, 106, 107, 108, 109, 110, 111, 112, 113, 114, 115],
     mode: User(999),
     devices: 40,
+    pending: [1, 998, 2999],
 };
 
 // The same, with each word one bit wider than its field: a start does not read the run.
@@ -201,6 +203,7 @@ fn sixteen(t: Tally) -> Tally {
         entry_pages: [0, 1, 2, 3, 4, 5, 6, 7, 8, 9, 10, 11, 12, 13, 14, 15],
         mode: Kernel(0),
         devices: 3,
+        pending: [0, 0, 0],
     };
     let tables = entries && numbers && bytes;
     t.case("start", "sixteen entry pages", answer == Done(17, 16) && run == words(left) && tables)

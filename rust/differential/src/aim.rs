@@ -1,18 +1,29 @@
 //! Where a list aims: policies, kernel tables and arguments near the edges of what exists and of what is excluded.
 //! An aimed list goes for aliases, ends of pages and neighbours of excluded frames; another is mostly random.
 
-use inputs::{random_record, KernelEntry, Random};
+use inputs::{random_record, record, KernelEntry, Parts, Random};
 use reference::claim::Call;
-use reference::{Device, Tree};
+use reference::{Device, Tree, NO_FRAME};
 
-/// The sizes of a list's policy and some of its excluded frames.
+use crate::call::Lent;
+
+/// The sizes of a list's policy, some of its excluded frames, and what is pending.
 pub struct Aim {
     v: u64,
     f: u64,
     e: u64,
     excluded: Vec<u64>,
     is_aimed: bool,
+    /// Whether asks, commits and drops are frequent, and what they are about: synchronisations of all pages, and mode switches.
+    of_drivers: bool,
+    /// The page and the frame that are pending.
+    pending: Option<(u64, u64)>,
+    /// Those that were pending last.
+    last: Option<(u64, u64)>,
 }
+
+/// How many frames of a policy are aimed at.
+const SOME: usize = 64;
 
 /// A valid record: mostly with few pages and frames, so that aliases are frequent, and now and then of the largest sizes.
 pub fn policy(random: &mut Random) -> Vec<u8> {
@@ -25,19 +36,48 @@ pub fn policy(random: &mut Random) -> Vec<u8> {
     random_record(random, v as u16, f as u16)
 }
 
+/// A valid record that lists one page or two of few: a page that is approved stays so, and an ask needs one that is not.
+pub fn policy_for_drivers(random: &mut Random) -> Vec<u8> {
+    let (v, f) = match random.below(120) {
+        0 => (2048, 4096),
+        1 => (6 + random.below(2043) as u16, 8 + random.below(4089) as u16),
+        _ => (6 + random.below(13) as u16, 8 + random.below(40) as u16),
+    };
+    let mut frame = || random.below(f.into()) as u16;
+    let listed = [(0, frame()), (v / 2, frame())];
+    record(v, f, 1, &listed[..1 + random.below(2) as usize])
+}
+
 /// The sizes of a record that is long enough to have them: V, F, n, e.
 pub fn sizes(policy: &[u8]) -> [u16; 4] {
     std::array::from_fn(|place| u16::from_le_bytes([policy[2 * place], policy[2 * place + 1]]))
 }
 
 impl Aim {
-    pub fn new(random: &mut Random, policy: &[u8]) -> Aim {
-        let [v, f, n, e] = sizes(policy).map(u64::from);
-        let frame_at = 8 + 2 * n as usize;
-        let frames = policy[frame_at..].chunks_exact(2).take(64);
-        let excluded =
-            frames.map(|frame| u16::from_le_bytes([frame[0], frame[1]]).into()).collect();
-        Aim { v, f, e, excluded, is_aimed: random.one_in(2) }
+    pub fn new(random: &mut Random, policy: &[u8], of_drivers: bool) -> Aim {
+        let Parts { sizes: [v, f, _, e], frames, .. } = Parts::of(policy);
+        let excluded = frames.iter().take(SOME).map(|&frame| frame.into()).collect();
+        Aim {
+            v,
+            f,
+            e,
+            excluded,
+            is_aimed: !of_drivers && random.one_in(2),
+            of_drivers,
+            pending: None,
+            last: None,
+        }
+    }
+
+    /// Says what is pending at the next call.
+    pub fn set_pending(&mut self, pending: Option<(u64, u64)>) {
+        self.last = pending.or(self.last);
+        self.pending = pending;
+    }
+
+    /// The page that is pending.
+    pub fn asked(&self) -> Option<u64> {
+        self.pending.map(|(page, _)| page)
     }
 
     /// V.
@@ -55,8 +95,14 @@ impl Aim {
         (0..self.v + 2).map(|_| self.entry(random).bits()).collect()
     }
 
+    /// An entry; where something is pending, often one with its frame.
     pub fn entry(&self, random: &mut Random) -> KernelEntry {
-        let entry = KernelEntry::random(random, self.f);
+        let mut entry = KernelEntry::random(random, self.f);
+        if let Some((_, frame)) = self.pending.filter(|_| random.one_in(2)) {
+            // Now and then one that has it in its lower bits alone.
+            entry.frame = frame + if random.one_in(20) { 1 << 16 } else { 0 };
+            return entry;
+        }
         if !self.is_aimed || random.one_in(2) {
             return entry;
         }
@@ -73,9 +119,17 @@ impl Aim {
         if random.one_in(30) {
             *kernel = self.kernel(random);
         }
-        for _ in 0..random.below(3) {
+        let more = if self.of_drivers && self.pending.is_some() { 3 } else { 0 };
+        for _ in 0..random.below(3) + more {
             let page = random.below(kernel.len() as u64) as usize;
             kernel[page] = self.entry(random).bits();
+        }
+        // What becomes of the asked page before its commit.
+        let asked = self.asked().and_then(|page| usize::try_from(page).ok());
+        if let Some(entry) =
+            asked.and_then(|page| kernel.get_mut(page)).filter(|_| random.one_in(4))
+        {
+            *entry = self.entry(random).bits();
         }
     }
 
@@ -85,34 +139,95 @@ impl Aim {
         length as usize
     }
 
+    /// A call on what is lent.
     pub fn call<'a>(
         &self,
         random: &mut Random,
+        lent: &Lent,
         kernel: &'a [u64],
         tree: Tree<'a>,
         devices: &'a [Device],
     ) -> Call<'a> {
-        match random.below(19) {
-            0..3 => Call::SynchroniseOne { kernel, page: self.page(random) },
-            3 | 4 => Call::SynchroniseAll { kernel },
+        // From 26 on: lists of drivers alone.
+        match random.below(if self.of_drivers { 42 } else { 26 }) {
+            0..3 => Call::SynchroniseOne { kernel, page: self.page_to_synchronise(random) },
+            3 | 4 | 26..34 => Call::SynchroniseAll { kernel },
             5 | 6 => Call::Fetch { page: self.page(random) },
-            7 | 8 => {
+            7..10 => {
                 let length = if random.one_in(30) { random.word() } else { random.below(18) };
                 Call::Write { address: self.address(random, self.v), length }
             }
-            9 | 10 => Call::Enter { index: near(random, self.e) },
-            11 | 12 => Call::Leave { page: self.page_to_leave_to(random, kernel) },
-            13 | 14 => self.device_write(random, devices),
-            15 | 16 => Call::SynchroniseOneFromTree { tree, page: self.page(random) },
-            _ => Call::SynchroniseAllFromTree { tree },
+            10 | 11 => Call::Enter { index: near(random, self.e) },
+            12 | 13 | 34..37 => Call::Leave { page: self.page_to_leave_to(random, &lent.shadow) },
+            14..17 => self.device_write(random, devices),
+            17 | 18 => {
+                Call::SynchroniseOneFromTree { tree, page: self.page_to_synchronise(random) }
+            }
+            19 | 20 => Call::SynchroniseAllFromTree { tree },
+            _ => self.approval(random, lent),
         }
     }
 
-    /// Often a page that the kernel maps, as user and executable: a list is to reach user mode.
-    fn page_to_leave_to(&self, random: &mut Random, kernel: &[u64]) -> u64 {
+    /// An ask, a commit or a drop: mostly one that what is pending allows.
+    fn approval<'a>(&self, random: &mut Random, lent: &Lent) -> Call<'a> {
+        match (random.below(10), self.pending) {
+            (0, _) => Call::Commit,
+            (1, _) => Call::Drop,
+            (2..5, Some(_)) => Call::Commit,
+            (5, Some(_)) => Call::Drop,
+            _ => self.ask(random, lent),
+        }
+    }
+
+    /// An ask for any page and frame, for those that were pending last, for a frame that is excluded, or for one that a page has. Mostly
+    /// the page is one without an approval, and often the frame one that is not excluded.
+    fn ask<'a>(&self, random: &mut Random, lent: &Lent) -> Call<'a> {
+        let is_approved = |page: u64| lent.map.get(page as usize).is_some_and(|&of| of != NO_FRAME);
+        let is_excluded = |frame: u64| {
+            let byte = lent.exclusion.get(frame as usize / 8);
+            byte.is_some_and(|byte| byte >> (frame % 8) & 1 == 1)
+        };
+        let (mut page, mut frame) = (self.page(random), near(random, self.f));
+        for _ in 0..random.below(8) {
+            if is_approved(page) {
+                page = random.below(self.v);
+            }
+        }
+        for _ in 0..random.below(3) {
+            if is_excluded(frame) {
+                frame = random.below(self.f);
+            }
+        }
+        match (random.below(10), self.last) {
+            (0, Some(last)) => (page, frame) = last,
+            (1, Some((_, last))) => frame = last,
+            (2, _) => frame = self.near_excluded(random),
+            // Neither exists.
+            (3, _) if random.one_in(4) => {
+                page = self.v + random.below(3);
+                frame = self.f + random.below(3);
+            }
+            (4 | 5, _) if !lent.shadow.is_empty() => {
+                frame = random.pick(&lent.shadow) >> 12 & ((1 << 40) - 1);
+            }
+            _ => {}
+        }
+        Call::Ask { page, frame }
+    }
+
+    /// Any page, or where one is pending often that one.
+    fn page_to_synchronise(&self, random: &mut Random) -> u64 {
+        match self.pending {
+            Some((asked, _)) if random.one_in(4) => asked,
+            _ => self.page(random),
+        }
+    }
+
+    /// Often a page that is mapped as user and executable: a list is to reach user mode.
+    fn page_to_leave_to(&self, random: &mut Random, shadow: &[u64]) -> u64 {
         let is_user_code = |page: u64| {
-            let entry = usize::try_from(page).ok().and_then(|page| kernel.get(page));
-            entry.is_some_and(|entry| entry & (0xfff << 52 | 0b101) == 0b101)
+            let entry = usize::try_from(page).ok().and_then(|page| shadow.get(page));
+            entry.is_some_and(|entry| entry & (1 << 9 | 0b101) == 0b101)
         };
         let tries = random.below(6);
         let found = (0..tries).map(|_| self.page(random)).find(|&page| is_user_code(page));

@@ -6,7 +6,7 @@ use inputs::{Parts, Random};
 use reference::{claim, vector_len, Tree};
 
 /// The calls, in document 01's order, then those of the requests.
-pub const KINDS: [&str; 12] = [
+pub const KINDS: [&str; 15] = [
     "start",
     "synchronise one",
     "synchronise all",
@@ -19,6 +19,9 @@ pub const KINDS: [&str; 12] = [
     "one from a tree",
     "all from a tree",
     "walk",
+    "ask",
+    "commit",
+    "drop",
 ];
 
 /// The places in [`KINDS`] of the calls that have no state, and of those with a tree.
@@ -26,6 +29,10 @@ pub const WRITE_RECORD: usize = 8;
 pub const ONE_FROM_TREE: usize = 9;
 pub const ALL_FROM_TREE: usize = 10;
 pub const WALK: usize = 11;
+/// Those of K6.
+pub const ASK: usize = 12;
+pub const COMMIT: usize = 13;
+pub const DROP: usize = 14;
 
 /// A start, a call that a list of demand 3 may have, or one that has no state.
 #[derive(Clone, Copy, Debug)]
@@ -52,6 +59,9 @@ impl Call<'_> {
             Call::Listed(claim::Call::SynchroniseOneFromTree { .. }) => ONE_FROM_TREE,
             Call::Listed(claim::Call::SynchroniseAllFromTree { .. }) => ALL_FROM_TREE,
             Call::Walk { .. } => WALK,
+            Call::Listed(claim::Call::Ask { .. }) => ASK,
+            Call::Listed(claim::Call::Commit) => COMMIT,
+            Call::Listed(claim::Call::Drop) => DROP,
         }
     }
 }

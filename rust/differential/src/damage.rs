@@ -3,7 +3,7 @@
 
 use guard::archive::{
     MODE_KERNEL, MODE_USER, STATE_DEVICES, STATE_ENTRIES, STATE_ENTRY, STATE_FRAMES, STATE_MODE,
-    STATE_PAGES, STATE_RUNNING,
+    STATE_PAGES, STATE_PENDING, STATE_PENDING_FRAME, STATE_PENDING_PAGE, STATE_RUNNING,
 };
 use guard::ENTRY_PAGES;
 use inputs::Random;
@@ -30,10 +30,16 @@ pub enum Damage {
     Table,
     /// A buffer shorter than the record.
     Buffer,
+    /// A word other than 0 and 1 for whether a pair is pending.
+    PendingWord,
+    /// A pending page at or above V, also one that is below V in its lower bits.
+    PendingPage,
+    /// The same of a pending frame and F.
+    PendingFrame,
 }
 
 impl Damage {
-    pub const ALL: [Damage; 8] = [
+    pub const ALL: [Damage; 11] = [
         Damage::Contents,
         Damage::StateRun,
         Damage::NumbersRun,
@@ -42,16 +48,22 @@ impl Damage {
         Damage::Field,
         Damage::Table,
         Damage::Buffer,
+        Damage::PendingWord,
+        Damage::PendingPage,
+        Damage::PendingFrame,
     ];
 
     /// What a call on a state and tables may find beside damaged contents.
-    pub const OF_TABLES: [Damage; 6] = [
+    pub const OF_TABLES: [Damage; 9] = [
         Damage::StateRun,
         Damage::NumbersRun,
         Damage::ModeWord,
         Damage::WideWord,
         Damage::Field,
         Damage::Table,
+        Damage::PendingWord,
+        Damage::PendingPage,
+        Damage::PendingFrame,
     ];
 
     /// What the writing of a record may find, which is lent no state and no table.
@@ -70,6 +82,9 @@ impl Damage {
             Damage::Field => "field of the state",
             Damage::Table => "length of a table",
             Damage::Buffer => "length of the buffer",
+            Damage::PendingWord => "pending word",
+            Damage::PendingPage => "pending page",
+            Damage::PendingFrame => "pending frame",
         }
     }
 
@@ -87,10 +102,7 @@ impl Damage {
             Damage::Contents => {}
             Damage::StateRun => resize(random, &mut lent.state),
             Damage::NumbersRun => resize(random, &mut lent.numbers),
-            Damage::ModeWord => {
-                let wide = 1 << random.pick(&[16, 32, 63]);
-                lent.state[STATE_MODE] = random.pick(&[2, 3, wide, wide + 1, u64::MAX]);
-            }
+            Damage::ModeWord => lent.state[STATE_MODE] = no_flag(random),
             Damage::WideWord => {
                 let entry = STATE_ENTRY + random.below(ENTRY_PAGES as u64) as usize;
                 let fields = [
@@ -116,8 +128,37 @@ impl Damage {
                 let any = random.below(length as u64) as usize;
                 lent.buffer.truncate(random.pick(&[0, length - 1, any]));
             }
+            Damage::PendingWord => lent.state[STATE_PENDING] = no_flag(random),
+            Damage::PendingPage => damage_pair(random, &mut lent.state, STATE_PENDING_PAGE),
+            Damage::PendingFrame => damage_pair(random, &mut lent.state, STATE_PENDING_FRAME),
         }
     }
+}
+
+/// A word that is neither 0 nor 1.
+fn no_flag(random: &mut Random) -> u64 {
+    let wide = 1 << random.pick(&[16, 32, 63]);
+    random.pick(&[2, 3, wide, wide + 1, u64::MAX])
+}
+
+/// A pair that is pending, with one of its words out of range.
+fn damage_pair(random: &mut Random, state: &mut [u64], place: usize) {
+    // A start is lent words of any size.
+    let [v, f] = [STATE_PAGES, STATE_FRAMES].map(|place| (state[place] % (1 << 32)).max(1));
+    put_pair(random, state, v, f);
+    let end = if place == STATE_PENDING_PAGE { v } else { f };
+    state[place] = match random.below(4) {
+        0 => end,
+        1 => random.pick(&[end + 1, 65535, u64::MAX]),
+        _ => state[place] + (1 << random.pick(&[16, 17, 31, 32, 63])),
+    };
+}
+
+/// A pair that is pending, with a page below V and a frame below F.
+fn put_pair(random: &mut Random, state: &mut [u64], v: u64, f: u64) {
+    state[STATE_PENDING] = 1;
+    state[STATE_PENDING_PAGE] = random.below(v);
+    state[STATE_PENDING_FRAME] = random.below(f);
 }
 
 /// Another length: mostly one more or less, or none.
@@ -167,10 +208,19 @@ pub fn damage_contents(random: &mut Random, lent: &mut Lent) {
     lent.state[STATE_MODE] = random.pick(&[MODE_KERNEL, MODE_USER]);
     lent.state[STATE_RUNNING] = random.below(v);
     lent.state[STATE_DEVICES] = count(random);
+    if random.one_in(2) {
+        put_pair(random, &mut lent.state, v, f);
+    } else {
+        // Words that are not read: in range, next to it, or any.
+        lent.state[STATE_PENDING] = 0;
+        let any = random.word();
+        lent.state[STATE_PENDING_PAGE] = random.pick(&[0, v - 1, v, any]);
+        lent.state[STATE_PENDING_FRAME] = random.pick(&[0, f - 1, f, any]);
+    }
 }
 
 /// A shadow entry with any bits: mostly present, with a frame near those below F.
-fn shadow_entry(random: &mut Random, frames: u64) -> u64 {
+pub fn shadow_entry(random: &mut Random, frames: u64) -> u64 {
     let frame = if random.one_in(10) { random.word() >> 24 } else { random.below(frames + 2) };
     let bits = random.word() & !(((1 << 40) - 1) << 12);
     let present = u64::from(!random.one_in(6));

@@ -1,7 +1,7 @@
 //! A list on damaged runs and tables: damaged contents pass from call to call, other damage concerns one call.
-//! Among the calls are starts, on sound and on damaged records; after them records are written and pages are walked to.
+//! Among the calls are starts, on sound and on damaged records; after them records are written, pages are walked to, and calls are made
+//! on tables around a pending pair.
 
-use guard::archive::STATE_DEVICES;
 use inputs::Random;
 use reference::Fault;
 
@@ -10,6 +10,7 @@ use crate::call::{Call, Lent};
 use crate::damage::{damage_contents, Damage};
 use crate::devices::any_count;
 use crate::list::List;
+use crate::pending::pending_call;
 use crate::run::{compare, Plan};
 use crate::sides::{by_archive, by_reference};
 use crate::tally::Tally;
@@ -17,9 +18,10 @@ use crate::walked::{check_flat, walk_call};
 use crate::windows::check_windows;
 use crate::written::{check_written_again, write_call};
 
-/// The records that are written after a list, and the bare walks.
+/// The records that are written after a list, the bare walks, and the calls with a pair that may be pending.
 const RECORDS: u64 = 6;
-const WALKS: u64 = 20;
+const WALKS: u64 = 24;
+const PENDING: u64 = 20;
 
 pub fn run_list(plan: &Plan, seed: u64, tally: &mut Tally) -> Result<(), String> {
     let mut list = List::new(seed);
@@ -38,9 +40,7 @@ pub fn run_list(plan: &Plan, seed: u64, tally: &mut Tally) -> Result<(), String>
         let mut damaged = lent.clone();
         let damage = Damage::random(&mut list.random, &Damage::OF_TABLES);
         damage.apply(&mut list.random, &mut damaged);
-        // A state run that was cut short has no such word.
-        let count = damaged.state.get(STATE_DEVICES).copied().unwrap_or(list.count);
-        let listed = list.next_call(count);
+        let listed = list.next_call(&lent, &damaged.state);
         let call = Call::Listed(listed);
         let before = damaged.clone();
         let number = compare(plan.fault, &mut damaged, &call)?;
@@ -51,6 +51,7 @@ pub fn run_list(plan: &Plan, seed: u64, tally: &mut Tally) -> Result<(), String>
         tally.count_tree(&call, number, &damaged);
         if damage == Damage::Contents {
             tally.count_transfer(&listed, number, &before);
+            tally.count_approval(&listed, number, &before);
         }
         tally.count_damaged(call.kind(), number, damage)?;
         if damage == Damage::Contents {
@@ -62,6 +63,9 @@ pub fn run_list(plan: &Plan, seed: u64, tally: &mut Tally) -> Result<(), String>
     }
     for _ in 0..WALKS {
         walk_call(plan.fault, &mut list.random, &list.trees, tally)?;
+    }
+    for _ in 0..PENDING {
+        pending_call(plan.fault, &mut list.random, tally)?;
     }
     Ok(())
 }

@@ -8,6 +8,7 @@ use std::ops::Range;
 use reference::claim::Call;
 
 use crate::call::Lent;
+use crate::list::pending_of;
 
 /// The least count of each.
 const MINIMUM: u64 = 1000;
@@ -45,8 +46,9 @@ impl Entries {
             Call::Enter { .. } => self.count_switched(AT_ENTER, &before.shadow),
             Call::Leave { .. } => self.count_switched(AT_LEAVE, &before.shadow),
             Call::Fetch { .. } | Call::Write { .. } | Call::DeviceWrite { .. } => {}
-            // The walks of a tree are counted by themselves.
+            // The walks of a tree are counted by themselves, and so is what concerns a pending pair.
             Call::SynchroniseOneFromTree { .. } | Call::SynchroniseAllFromTree { .. } => {}
+            Call::Ask { .. } | Call::Commit | Call::Drop => {}
         }
     }
 
@@ -58,9 +60,10 @@ impl Entries {
         before: &Lent,
         after: &Lent,
     ) {
+        let pending = pending_of(&before.state).map(|(_, frame)| frame);
         for page in pages {
             let frame = kernel[page] >> 12 & ((1 << 40) - 1);
-            if kernel[page] & 1 == 0 || frame >= frames {
+            if kernel[page] & 1 == 0 || frame >= frames || Some(frame) == pending {
                 continue;
             }
             let row = if before.map[page] != NO_FRAME {

@@ -3,12 +3,14 @@
 #![forbid(unsafe_code)]
 
 mod aim;
+mod approvals;
 mod call;
 mod damage;
 mod damaged;
 mod devices;
 mod entries;
 mod list;
+mod pending;
 mod run;
 mod sides;
 mod started;
@@ -23,5 +25,5 @@ mod written;
 
 pub use damage::Damage;
 pub use run::{run, Plan};
-pub use started::{run_claim, run_windows};
+pub use started::{run_claim, run_from_ask_on, run_windows};
 pub use tally::Tally;

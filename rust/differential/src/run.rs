@@ -27,7 +27,7 @@ pub struct Plan {
 impl Plan {
     /// The lists of a whole run, which make more than a million calls.
     pub const LISTS: u64 = 20_000;
-    pub const CALLS: u64 = 72;
+    pub const CALLS: u64 = 84;
 }
 
 /// A call on which the archive, the reference or the one-page guards differ.

@@ -55,6 +55,11 @@ pub fn by_archive(lent: &mut Lent, call: &Call) -> u64 {
         Listed::SynchroniseAllFromTree { tree: Tree { tables, root, depth } } => {
             archive::sync_all_tree(state, tables, root, depth, shadow, map, exclusion, numbers)
         }
+        Listed::Ask { page, frame } => {
+            archive::ask(state, shadow, map, exclusion, page, frame, numbers)
+        }
+        Listed::Commit => archive::commit(state, shadow, map, numbers),
+        Listed::Drop => archive::drop(state, exclusion, numbers),
     }
 }
 
@@ -71,37 +76,48 @@ pub fn by_reference(fault: Fault, lent: &mut Lent, call: &Call) -> u64 {
         Call::Walk { tree, page } => return fault::walk(fault, tree, page, numbers),
         Call::Listed(call) => call,
     };
-    match call {
-        Listed::SynchroniseOne { kernel, page } => boundary::ask(run, numbers, |state| {
+    fault::on_run(fault, &call, run, |run| match call {
+        Listed::SynchroniseOne { kernel, page } => boundary::with_state(run, numbers, |state| {
             fault::synchronise_one(fault, state, kernel, shadow, map, exclusion, page)
         }),
-        Listed::SynchroniseAll { kernel } => boundary::ask(run, numbers, |state| {
+        Listed::SynchroniseAll { kernel } => boundary::with_state(run, numbers, |state| {
             fault::synchronise_all(fault, state, kernel, shadow, map, exclusion)
         }),
         Listed::Fetch { page } => {
-            boundary::go(run, numbers, |state| fault::fetch(fault, state, shadow, page))
+            boundary::with_mode(run, numbers, |state| fault::fetch(fault, state, shadow, page))
         }
-        Listed::Write { address, length } => boundary::ask(run, numbers, |state| {
+        Listed::Write { address, length } => boundary::with_state(run, numbers, |state| {
             fault::write(fault, state, shadow, exclusion, address, length)
         }),
         Listed::Enter { index } => {
-            boundary::go(run, numbers, |state| fault::enter(fault, state, shadow, index))
+            boundary::with_mode(run, numbers, |state| fault::enter(fault, state, shadow, index))
         }
         Listed::Leave { page } => {
-            boundary::go(run, numbers, |state| fault::leave(fault, state, shadow, page))
+            boundary::with_mode(run, numbers, |state| fault::leave(fault, state, shadow, page))
         }
         Listed::DeviceWrite { devices, device, address, length } => {
-            boundary::ask(run, numbers, |state| {
+            boundary::with_state(run, numbers, |state| {
                 fault::device_write(fault, state, exclusion, devices, device, address, length)
             })
         }
-        Listed::SynchroniseOneFromTree { tree, page } => boundary::ask(run, numbers, |state| {
-            fault::synchronise_one_from_tree(fault, state, tree, shadow, map, exclusion, page)
-        }),
-        Listed::SynchroniseAllFromTree { tree } => boundary::ask(run, numbers, |state| {
+        Listed::SynchroniseOneFromTree { tree, page } => {
+            boundary::with_state(run, numbers, |state| {
+                fault::synchronise_one_from_tree(fault, state, tree, shadow, map, exclusion, page)
+            })
+        }
+        Listed::SynchroniseAllFromTree { tree } => boundary::with_state(run, numbers, |state| {
             fault::synchronise_all_from_tree(fault, state, tree, shadow, map, exclusion)
         }),
-    }
+        Listed::Ask { page, frame } => boundary::with_pending(run, numbers, |state| {
+            fault::ask(fault, state, shadow, map, exclusion, page, frame)
+        }),
+        Listed::Commit => {
+            boundary::with_pending(run, numbers, |state| fault::commit(fault, state, shadow, map))
+        }
+        Listed::Drop => {
+            boundary::with_pending(run, numbers, |state| fault::drop(fault, state, exclusion))
+        }
+    })
 }
 
 /// The call on the safe guard: its number, and its two numbers as a run. The guard has a list of its own, so that it takes over the
@@ -135,6 +151,9 @@ pub fn by_guard(guard: &mut Guard, call: &Listed) -> Option<(u64, [u64; NUMBERS]
         Listed::SynchroniseAllFromTree { tree } => guard
             .synchronise_all_tree(&lent_to_guard(tree))
             .map(|counts| [counts.changed, counts.joined]),
+        Listed::Ask { page, frame } => guard.ask(page, frame).map(|()| [0, 0]),
+        Listed::Commit => guard.commit().map(|counts| [counts.changed, counts.joined]),
+        Listed::Drop => guard.drop_pending().map(|()| [0, 0]),
     };
     Some(match answer {
         Ok(numbers) => (0, numbers),

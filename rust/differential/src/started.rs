@@ -5,9 +5,10 @@ use guard::archive::{MODE_USER, STATE_DEVICES, STATE_MODE};
 use guard::{Device, Guard, Options};
 use inputs::Random;
 use reference::claim::{Call as Listed, Claim, Reaching};
+use reference::AskToCommit;
 
 use crate::call::{Call, Lent};
-use crate::list::List;
+use crate::list::{pending_of, List};
 use crate::run::{compare, Plan};
 use crate::sides::{by_archive, by_guard, by_reference};
 use crate::tally::Tally;
@@ -22,9 +23,10 @@ pub fn run_list(plan: &Plan, seed: u64, tally: &mut Tally) -> Result<(), String>
     tally.count_started(start.kind(), number)?;
     let mut guard = start_guard(&list)?;
     let mut claim = Claim::told_start(&list.policy);
+    let mut sentence = AskToCommit::default();
     let mut random = Random::new(seed);
     for _ in 0..plan.calls {
-        let listed = list.next_call(lent.state[STATE_DEVICES]);
+        let listed = list.next_call(&lent, &lent.state);
         let call = Call::Listed(listed);
         let before = lent.clone();
         let number = compare(plan.fault, &mut lent, &call)?;
@@ -35,7 +37,9 @@ pub fn run_list(plan: &Plan, seed: u64, tally: &mut Tally) -> Result<(), String>
         }
         tally.count_tree(&call, number, &lent);
         tally.count_transfer(&listed, number, &before);
+        tally.count_approval_started(&listed, number, &before);
         compare_guard(&mut guard, &listed, number, &lent)?;
+        check_from_ask_on(&mut sentence, &claim, &listed, number)?;
         check_claim(&mut claim, &listed, number, &before, &lent)?;
         check_windows(&mut random, &listed, &before, (number, &lent), by_archive)?;
     }
@@ -56,10 +60,29 @@ pub fn run_claim(plan: &Plan, seed: u64) -> Result<(), String> {
     by_reference(plan.fault, &mut lent, &list.start());
     let mut claim = Claim::told_start(&list.policy);
     for _ in 0..plan.calls {
-        let listed = list.next_call(lent.state[STATE_DEVICES]);
+        let listed = list.next_call(&lent, &lent.state);
         let before = lent.clone();
         let number = by_reference(plan.fault, &mut lent, &Call::Listed(listed));
         check_claim(&mut claim, &listed, number, &before, &lent)?;
+    }
+    Ok(())
+}
+
+/// The same again, with K6's own sentence alone.
+pub fn run_from_ask_on(plan: &Plan, seed: u64) -> Result<(), String> {
+    let mut list = List::new(seed);
+    let mut lent = list.garbage();
+    by_reference(plan.fault, &mut lent, &list.start());
+    let mut claim = Claim::told_start(&list.policy);
+    let mut sentence = AskToCommit::default();
+    for _ in 0..plan.calls {
+        let listed = list.next_call(&lent, &lent.state);
+        let settled = claim.settled(&listed, &reaching(&lent));
+        let number = by_reference(plan.fault, &mut lent, &Call::Listed(listed));
+        check_from_ask_on(&mut sentence, &claim, &listed, number)?;
+        if settled == 0 {
+            claim.tell(&listed);
+        }
     }
     Ok(())
 }
@@ -72,7 +95,7 @@ pub fn run_windows(plan: &Plan, seed: u64) -> Result<(), String> {
     let side = |lent: &mut Lent, call: &Call| by_reference(plan.fault, lent, call);
     side(&mut lent, &list.start());
     for _ in 0..plan.calls {
-        let listed = list.next_call(lent.state[STATE_DEVICES]);
+        let listed = list.next_call(&lent, &lent.state);
         let before = lent.clone();
         let number = side(&mut lent, &Call::Listed(listed));
         check_windows(&mut random, &listed, &before, (number, &lent), side)?;
@@ -101,6 +124,11 @@ fn compare_guard(
     }
 }
 
+/// What a call reads of the state that reaches it.
+fn reaching(before: &Lent) -> Reaching {
+    Reaching { devices: before.state[STATE_DEVICES], pending: pending_of(&before.state) }
+}
+
 /// Demand 3 at one call. The one-page guards are told of it where it is accepted.
 fn check_claim(
     claim: &mut Claim,
@@ -109,8 +137,7 @@ fn check_claim(
     before: &Lent,
     after: &Lent,
 ) -> Result<(), String> {
-    let reaching = Reaching { devices: before.state[STATE_DEVICES] };
-    let settled = claim.settled(call, &reaching);
+    let settled = claim.settled(call, &reaching(before));
     let numbers = (after.numbers[0], after.numbers[1]);
     let holds = if settled == 0 {
         claim.is_safe(call, numbers) && counts_fit(call, before, after)
@@ -131,11 +158,45 @@ fn tables_are_same(before: &Lent, after: &Lent) -> bool {
     before.shadow == after.shadow && before.map == after.map && before.exclusion == after.exclusion
 }
 
-/// The counts of a synchronisation and of a switch are those of the places that differ; an access changes none.
+/// K6's own sentence at one call of a list, by what the guard allowed and the frames that the one-page guards have before it: "No write
+/// or transfer allowed from its ask onward covers a byte of a committed frame".
+fn check_from_ask_on(
+    sentence: &mut AskToCommit,
+    claim: &Claim,
+    call: &Listed,
+    number: u64,
+) -> Result<(), String> {
+    if number != 0 {
+        return Ok(());
+    }
+    let holds = match *call {
+        Listed::Ask { frame, .. } => {
+            sentence.told_asked(frame);
+            true
+        }
+        Listed::Commit => sentence.told_committed(),
+        Listed::Drop => {
+            sentence.told_dropped();
+            true
+        }
+        _ => claim.covered(call).into_iter().all(|frames| sentence.told_covered(frames)),
+    };
+    if holds {
+        return Ok(());
+    }
+    Err(format!("a committed frame was covered after its ask, {call:?}"))
+}
+
+/// The counts of a synchronisation, of a switch and of a commit are those of the places that differ; an access changes none, and an ask
+/// and a drop change the exclusion vector alone.
 fn counts_fit(call: &Listed, before: &Lent, after: &Lent) -> bool {
     match call {
         Listed::Fetch { .. } | Listed::Write { .. } | Listed::DeviceWrite { .. } => {
             tables_are_same(before, after)
+        }
+        Listed::Ask { .. } | Listed::Drop => {
+            let tables_are_same = before.shadow == after.shadow && before.map == after.map;
+            after.numbers == [0, 0] && tables_are_same
         }
         _ => {
             let changed = differing(&before.shadow, &after.shadow);

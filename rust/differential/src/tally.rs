@@ -7,6 +7,7 @@ use guard::archive::{STATE_DEVICES, STATE_FRAMES};
 use guard::Refusal;
 use reference::claim;
 
+use crate::approvals::Approvals;
 use crate::call::{Call, Lent, KINDS, WALK, WRITE_RECORD};
 use crate::damage::Damage;
 use crate::entries::Entries;
@@ -25,7 +26,7 @@ const OF_THE_DRILL: [usize; 2] = [14, 15];
 /// The numbers of each call, 0 for accepted: all that the questions let concern it. On damaged runs and tables each of them comes.
 /// Only the start reads a record (1 to 6); 8 is for calls with a length, 9 for those that name something, 10 for mode
 /// switches, 11 and 12 for calls that touch a shadow entry, 13 for writes. Writing a record asks 2 to 7, and it alone asks 16; 17 is
-/// for calls with a tree, 18 and 19 are for device writes.
+/// for calls with a tree, 18 and 19 are for device writes, 20 is for asks and commits, 21 for asks, 22 for commits and drops.
 const OF_THE_CALL: [&[usize]; KINDS.len()] = [
     &[0, 1, 2, 3, 4, 5, 6, 7],
     &[0, 7, 9],
@@ -39,12 +40,16 @@ const OF_THE_CALL: [&[usize]; KINDS.len()] = [
     &[0, 7, 9, 17],
     &[0, 7, 17],
     &[0, 7, 17],
+    &[0, 7, 9, 20, 21],
+    &[0, 7, 20, 22],
+    &[0, 7, 22],
 ];
 
 /// Of these, the numbers that do not come in a list from an accepted start.
 /// Its start is accepted. The state and the guard tables pass question 7 at every call of such a list, so 7 is only about the kernel
 /// table that a synchronisation is brought or the devices that a device write is, and not about a tree. A write never gives 13: an
-/// entry with the frame of the policy is an approved one and has no bit 1, and an ordinary one has a frame below F. An enter never
+/// entry with the frame of the policy or a committed one is an approved one and has no bit 1, one with the pending frame has no bit 1
+/// by question 21 and the rule for it, and an ordinary one has a frame below F. An enter never
 /// gives 12: an entry page is listed, so its entry is approved where it is present. No record is written there, and no page is walked
 /// to alone.
 const NOT_STARTED: [&[usize]; KINDS.len()] = [
@@ -60,6 +65,9 @@ const NOT_STARTED: [&[usize]; KINDS.len()] = [
     &[7],
     &[7],
     OF_THE_CALL[WALK],
+    &[7],
+    &[7],
+    &[7],
 ];
 
 type Numbers = [[u64; NUMBERS]; KINDS.len()];
@@ -108,6 +116,8 @@ pub struct Tally {
     walks: Walks,
     /// Of all lists and of starts.
     transfers: Transfers,
+    /// Of all lists.
+    approvals: Approvals,
 }
 
 impl Tally {
@@ -129,6 +139,21 @@ impl Tally {
     /// Counts what a device write met of its devices, if the call is one, where all else that question 7 asks for is in order.
     pub(crate) fn count_transfer(&mut self, call: &claim::Call, number: u64, before: &Lent) {
         self.transfers.count(call, before.state[STATE_DEVICES], number);
+    }
+
+    /// Counts what a call of a list from a start has to do with asks, commits, drops and what is pending.
+    pub(crate) fn count_approval_started(
+        &mut self,
+        call: &claim::Call,
+        number: u64,
+        before: &Lent,
+    ) {
+        self.approvals.count(call, number, before, true);
+    }
+
+    /// The same of another call, where all that question 7 asks for is in order.
+    pub(crate) fn count_approval(&mut self, call: &claim::Call, number: u64, before: &Lent) {
+        self.approvals.count(call, number, before, false);
     }
 
     /// Counts a start by its devices.
@@ -159,6 +184,7 @@ impl Tally {
         complaints.extend(self.entries.complaints());
         complaints.extend(self.walks.complaints());
         complaints.extend(self.transfers.complaints());
+        complaints.extend(self.approvals.complaints());
         for number in 0..NUMBERS {
             let of_a_call = OF_THE_CALL.iter().any(|numbers| numbers.contains(&number));
             if of_a_call == OF_THE_DRILL.contains(&number) {
@@ -201,7 +227,8 @@ impl Tally {
         self.print_damage(out)?;
         self.entries.print(out)?;
         self.walks.print(out)?;
-        self.transfers.print(out)
+        self.transfers.print(out)?;
+        self.approvals.print(out)
     }
 
     fn print_numbers(&self, out: &mut impl Write, half: Half) -> io::Result<()> {

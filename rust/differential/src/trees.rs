@@ -56,6 +56,14 @@ impl Trees {
             let index = random.below(self.drawn as u64) as usize;
             self.draw(random, aim, table, index);
         }
+        if let Some(asked) = aim.asked().filter(|_| random.one_in(4)) {
+            // The asked page and one more, in a table of level 1.
+            let table = self.levels.iter().position(|&level| level == 1).unwrap_or(0);
+            let any = random.below(self.drawn as u64) as usize;
+            for index in [asked as usize % ENTRIES, any] {
+                self.draw(random, aim, table, index);
+            }
+        }
     }
 
     fn draw(&mut self, random: &mut Random, aim: &Aim, table: usize, index: usize) {
@@ -110,7 +118,7 @@ impl Trees {
     pub fn lent(&self, random: &mut Random) -> Tree<'_> {
         let whole = &self.words[..ENTRIES * self.levels.len()];
         let mut tree = Tree { tables: whole, root: self.root, depth: self.depth };
-        match random.below(16) {
+        match random.below(14) {
             0 => self.damage(random, &mut tree),
             1 => {
                 self.damage(random, &mut tree);

@@ -4,7 +4,7 @@
 
 use std::io::{self, Write};
 
-use differential::{run, run_claim, run_windows, Damage, Plan, Tally};
+use differential::{run, run_claim, run_from_ask_on, run_windows, Damage, Plan, Tally};
 use reference::Fault;
 
 const SEED: u64 = 1;
@@ -23,26 +23,37 @@ fn a_million_calls_agree() {
 
 /// The mistakes that a list of demand 3 shows.
 fn of_lists() -> impl Iterator<Item = Fault> {
-    Fault::PLANTED.into_iter().chain(Fault::OF_TREES).chain(Fault::OF_DEVICES)
+    let of_calls = Fault::PLANTED.into_iter().chain(Fault::OF_TREES).chain(Fault::OF_DEVICES);
+    of_calls.chain(Fault::OF_PENDING)
 }
 
 #[test]
 fn every_planted_mistake_is_found() {
     let of_others = Fault::OF_WRITING_RECORDS.into_iter().chain(Fault::OF_WALKS);
-    for fault in of_lists().chain(of_others).chain(Fault::OF_DEVICE_COUNTS) {
+    let of_states = Fault::OF_DEVICE_COUNTS.into_iter().chain(Fault::OF_PENDING_STATES);
+    for fault in of_lists().chain(of_others).chain(of_states) {
         let plan = Plan { seed: SEED, lists: 200, calls: Plan::CALLS, fault };
         let difference = run(&plan).expect_err(&format!("{fault:?} is not found"));
         println!("{fault:?}: {difference}");
     }
 }
 
+/// The first of some lists that breaks by this check, with a mistake.
+fn first_broken(
+    fault: Fault,
+    lists: u64,
+    check: impl Fn(&Plan, u64) -> Result<(), String>,
+) -> Option<(u64, String)> {
+    let plan = Plan { seed: SEED, lists: 0, calls: Plan::CALLS, fault };
+    (0..lists).find_map(|seed| check(&plan, seed).err().map(|what| (seed, what)))
+}
+
 /// The one-page guards alone find every mistake, and none where there is none.
 #[test]
 fn demand_3_sees_every_planted_mistake() {
     for fault in std::iter::once(Fault::None).chain(of_lists()) {
-        let plan = Plan { seed: SEED, lists: 0, calls: Plan::CALLS, fault };
-        let broken = (0..200).filter(|&seed| run_claim(&plan, seed).is_err()).count();
-        assert_eq!(broken > 0, fault != Fault::None, "{fault:?} breaks {broken} of 200 lists");
+        let broken = first_broken(fault, 1000, run_claim);
+        assert_eq!(broken.is_some(), fault != Fault::None, "{fault:?}: {broken:?}");
     }
 }
 
@@ -50,11 +61,21 @@ fn demand_3_sees_every_planted_mistake() {
 #[test]
 fn the_window_of_another_device_is_seen() {
     for fault in std::iter::once(Fault::None).chain(Fault::OF_DEVICES) {
-        let plan = Plan { seed: SEED, lists: 0, calls: Plan::CALLS, fault };
-        let broken = (0..200).filter(|&seed| run_windows(&plan, seed).is_err()).count();
+        let broken = first_broken(fault, 200, run_windows);
         let is_of_another =
             matches!(fault, Fault::CutDevice | Fault::NeighbourWindow | Fault::AnyWindow);
-        assert_eq!(broken > 0, is_of_another, "{fault:?} breaks {broken} of 200 lists");
+        assert_eq!(broken.is_some(), is_of_another, "{fault:?}: {broken:?}");
+    }
+}
+
+/// K6's own sentence alone finds a frame that is not excluded from its ask to its commit and after it, and finds nothing where there is no
+/// mistake.
+#[test]
+fn a_committed_frame_that_was_covered_is_seen() {
+    let opened = [Fault::AskDoesNotExclude, Fault::AskExcludedFrame, Fault::DropClearsByte];
+    for fault in std::iter::once(Fault::None).chain(opened) {
+        let broken = first_broken(fault, 1000, run_from_ask_on);
+        assert_eq!(broken.is_some(), fault != Fault::None, "{fault:?}: {broken:?}");
     }
 }
 
@@ -243,6 +264,61 @@ fn too_few_transfers_of_a_kind_are_noticed() {
     }
 }
 
+/// Each way into 9, 20, 21 and 22, each frame that an ask is accepted for, each kind of commit, and each entry that is synchronised while a
+/// pair is pending, in both modes and from flat tables and trees.
+#[test]
+fn too_few_approvals_of_a_kind_are_noticed() {
+    let complaints = Tally::default().complaints();
+    let modes = ["kernel mode", "user mode"];
+    let mut rows = vec![
+        ("9, asks".to_string(), &["page", "wide page", "frame", "wide frame", "both"][..]),
+        ("20, ask".to_string(), &["one pending", "page approved", "frame excluded", "several"]),
+        ("20, commit".to_string(), &["page approved"]),
+        ("21, asks".to_string(), &["asked page alone", "another alone", "several"]),
+        ("accepted, asks".to_string(), &["not mapped", "read-only", "not present"]),
+        ("22, commit".to_string(), &["words 0", "other words"]),
+        ("22, drop".to_string(), &["words 0", "other words"]),
+    ];
+    for mode in modes {
+        let aliases = &["no alias", "one alias", "several"];
+        rows.push((format!("commits, {mode}"), aliases));
+        rows.push((format!("commits, {mode}, started"), aliases));
+        let found = &["absent", "with the frame", "with another", "approved entry"];
+        rows.push((format!("asked page, {mode}"), found));
+    }
+    let synchronised = ["one, kernel mode", "one, user mode", "all, kernel mode", "all, user mode"];
+    let from_trees = [
+        "one from a tree, kernel",
+        "one from a tree, user",
+        "all from a tree, kernel",
+        "all from a tree, user",
+    ];
+    for call in synchronised.into_iter().chain(from_trees) {
+        let entries = &["asked page", "other page", "approved page", "alias", "ordinary"];
+        rows.push((format!("while pending, {call}"), entries));
+    }
+    for (row, columns) in rows {
+        for column in columns {
+            let complaint = format!("{row}, {column}: 0 of them, at least 1000 are asked for");
+            assert!(complaints.contains(&complaint), "{complaint}");
+        }
+    }
+    let calls = [("ask", &[0, 9, 20, 21][..]), ("commit", &[0, 20, 22]), ("drop", &[0, 22])];
+    for (call, numbers) in calls {
+        for (half, numbers) in [("from a start", numbers), ("damaged", &[numbers, &[7]].concat())] {
+            for number in numbers {
+                let complaint =
+                    format!("{half}, {call}, {number}: 0 calls, at least 1000 are asked for");
+                assert!(complaints.contains(&complaint), "{complaint}");
+            }
+        }
+    }
+    for damage in ["pending word", "pending page", "pending frame"] {
+        let of_damage = complaints.iter().filter(|text| text.starts_with(&format!("{damage}, ")));
+        assert_eq!(of_damage.count(), 13, "every call but the record's and the walk, {damage}");
+    }
+}
+
 /// Damage to what a call is not lent is counted, printed in place of its dash, and complained of.
 #[test]
 fn damage_that_cannot_be_is_a_complaint() {
@@ -255,11 +331,11 @@ fn damage_that_cannot_be_is_a_complaint() {
     };
     let mut tally = Tally::default();
     let [table, buffer] = of_damage(&tally);
-    assert_eq!((table.matches('-').count(), buffer.matches('-').count()), (2, 11));
+    assert_eq!((table.matches('-').count(), buffer.matches('-').count()), (2, 14));
     tally.count_damaged(8, 0, Damage::Table).unwrap();
     tally.count_damaged(0, 0, Damage::Buffer).unwrap();
     let [table, buffer] = of_damage(&tally);
-    assert_eq!((table.matches('-').count(), buffer.matches('-').count()), (1, 10));
+    assert_eq!((table.matches('-').count(), buffer.matches('-').count()), (1, 13));
     assert!(table.contains(" 1 "), "{table}");
     let complaints = tally.complaints();
     for cell in ["length of a table, write record", "length of the buffer, start"] {
@@ -272,13 +348,13 @@ fn damage_that_cannot_be_is_a_complaint() {
 #[test]
 fn a_list_that_writes_a_record_is_a_complaint() {
     let mut tally = Tally::default();
-    for kind in 0..12 {
+    for kind in 0..15 {
         tally.count_started(kind, 16).unwrap();
     }
     tally.count_started(8, 0).unwrap();
     let complaints = tally.complaints();
     let of_16 = complaints.iter().filter(|text| text.ends_with(", 16: 1 calls, which cannot be"));
-    assert_eq!(of_16.count(), 12);
+    assert_eq!(of_16.count(), 15);
     let complaint = "from a start, write record, 0: 1 calls, which cannot be".to_string();
     assert!(complaints.contains(&complaint));
 }

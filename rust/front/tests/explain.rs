@@ -70,7 +70,7 @@ fn every_number_has_its_words() {
         assert_eq!(words(&line), expected);
         explained += 1;
     }
-    assert_eq!(explained, 19);
+    assert_eq!(explained, 22);
 }
 
 #[test]
@@ -176,7 +176,8 @@ fn lines_that_are_none() {
         ("S 0 1 1 K", "line 1: 'S 0 1 1 K' is no line of the drill"),
         ("S 0 1 1 K 1 1", "line 1: 'S 0 1 1 K 1 1' is no line of the drill"),
         ("8 0 1 1 K 1", "line 1: '8' is no kind of call"),
-        ("1 20 0 0 K 1", "line 1: 20 is no refusal number"),
+        ("ask 0 0 0 K 1", "line 1: 'ask' is no kind of call"),
+        ("1 23 0 0 K 1", "line 1: 23 is no refusal number"),
         ("1 256 0 0 K 1", "line 1: 256 is no refusal number"),
         ("1 +1 0 0 K 1", "line 1: a decimal number is expected, not '+1'"),
         ("1 0 0 x K 1", "line 1: a decimal number is expected, not 'x'"),

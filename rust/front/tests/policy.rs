@@ -146,7 +146,7 @@ fn items_that_are_no_policy_items() {
 #[test]
 fn a_policy_in_order_has_no_cause() {
     let policy = Policy::read(&common::read("examples/hotel.policy")).unwrap();
-    for number in (0..20).chain([65536 + 5, u64::MAX]) {
+    for number in (0..23).chain([65536 + 5, u64::MAX]) {
         assert_eq!(policy.cause(number), None, "{number}");
     }
 }

@@ -8,7 +8,7 @@ use front::{refusals, refusals_page};
 #[test]
 fn the_file_has_each_number_once_and_in_order() {
     let numbers: Vec<_> = refusals().map(|refusal| refusal.number).collect();
-    assert_eq!(numbers, (1..=19).collect::<Vec<_>>());
+    assert_eq!(numbers, (1..=22).collect::<Vec<_>>());
 }
 
 #[test]

@@ -8,7 +8,7 @@
 //! Each returns 0 where the call is accepted, else the number of the question that refused it.
 
 /// The words of a state run; the places of its fields follow.
-pub const STATE_WORDS: usize = 22;
+pub const STATE_WORDS: usize = 25;
 /// V, the number of virtual pages.
 pub const STATE_PAGES: usize = 0;
 /// F, the number of physical frames.
@@ -23,6 +23,12 @@ pub const STATE_MODE: usize = 19;
 pub const STATE_RUNNING: usize = 20;
 /// The number of devices.
 pub const STATE_DEVICES: usize = 21;
+/// 1 while a pair of page and frame is pending, else 0.
+pub const STATE_PENDING: usize = 22;
+/// The pending page; not read where none is pending.
+pub const STATE_PENDING_PAGE: usize = 23;
+/// The pending frame; not read where none is pending.
+pub const STATE_PENDING_FRAME: usize = 24;
 
 pub const MODE_KERNEL: u64 = 0;
 pub const MODE_USER: u64 = 1;
@@ -198,6 +204,38 @@ extern "C" {
         device: u64,
         address: u64,
         length: u64,
+        numbers: *mut u64,
+        numbers_length: usize,
+    ) -> u64;
+    fn guard_ask(
+        state: *mut u64,
+        state_length: usize,
+        shadow: *const u64,
+        shadow_length: usize,
+        map: *const u16,
+        map_length: usize,
+        exclusion: *mut u8,
+        exclusion_length: usize,
+        page: u64,
+        frame: u64,
+        numbers: *mut u64,
+        numbers_length: usize,
+    ) -> u64;
+    fn guard_commit(
+        state: *mut u64,
+        state_length: usize,
+        shadow: *mut u64,
+        shadow_length: usize,
+        map: *mut u16,
+        map_length: usize,
+        numbers: *mut u64,
+        numbers_length: usize,
+    ) -> u64;
+    fn guard_drop(
+        state: *mut u64,
+        state_length: usize,
+        exclusion: *mut u8,
+        exclusion_length: usize,
         numbers: *mut u64,
         numbers_length: usize,
     ) -> u64;
@@ -514,6 +552,70 @@ pub fn device_write(
             device,
             address,
             length,
+            numbers.as_mut_ptr(),
+            numbers.len(),
+        )
+    }
+}
+
+/// Asks for the approval of a page with a frame, which is pending from then on: 0 and 0.
+#[inline]
+pub fn ask(
+    state: &mut [u64],
+    shadow: &[u64],
+    map: &[u16],
+    exclusion: &mut [u8],
+    page: u64,
+    frame: u64,
+    numbers: &mut [u64],
+) -> u64 {
+    // SAFETY: each pair is a slice's own pointer and length; see the module's text.
+    unsafe {
+        guard_ask(
+            state.as_mut_ptr(),
+            state.len(),
+            shadow.as_ptr(),
+            shadow.len(),
+            map.as_ptr(),
+            map.len(),
+            exclusion.as_mut_ptr(),
+            exclusion.len(),
+            page,
+            frame,
+            numbers.as_mut_ptr(),
+            numbers.len(),
+        )
+    }
+}
+
+/// Approves the pending pair: shadow entries changed, pages that joined the map.
+#[inline]
+pub fn commit(state: &mut [u64], shadow: &mut [u64], map: &mut [u16], numbers: &mut [u64]) -> u64 {
+    // SAFETY: each pair is a slice's own pointer and length; see the module's text.
+    unsafe {
+        guard_commit(
+            state.as_mut_ptr(),
+            state.len(),
+            shadow.as_mut_ptr(),
+            shadow.len(),
+            map.as_mut_ptr(),
+            map.len(),
+            numbers.as_mut_ptr(),
+            numbers.len(),
+        )
+    }
+}
+
+/// Drops the pending pair: 0 and 0.
+#[inline]
+pub fn drop(state: &mut [u64], exclusion: &mut [u8], numbers: &mut [u64]) -> u64 {
+    // SAFETY: each pair is a slice's own pointer and length; see the module's text.
+    unsafe {
+        guard_drop(
+            state.as_mut_ptr(),
+            state.len(),
+            exclusion.as_mut_ptr(),
+            exclusion.len(),
             numbers.as_mut_ptr(),
             numbers.len(),
         )

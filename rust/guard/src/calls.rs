@@ -4,7 +4,7 @@
 use crate::archive;
 use crate::archive::{
     Device, MODE_USER, NUMBERS, STATE_ENTRIES, STATE_ENTRY, STATE_FRAMES, STATE_MODE, STATE_PAGES,
-    STATE_RUNNING, STATE_WORDS,
+    STATE_PENDING, STATE_PENDING_FRAME, STATE_PENDING_PAGE, STATE_RUNNING, STATE_WORDS,
 };
 use crate::{Options, Refusal, Tree};
 
@@ -31,6 +31,23 @@ pub struct Synchronised {
     pub changed: u64,
     /// Pages that joined the approval map.
     pub joined: u64,
+}
+
+/// What a commit changed.
+#[derive(Clone, Copy, Debug, PartialEq, Eq)]
+pub struct Committed {
+    /// Shadow entries whose value changed.
+    pub changed: u64,
+    /// Pages that joined the approval map, the asked one included.
+    pub joined: u64,
+}
+
+/// The page and the frame of an ask that is neither committed nor dropped yet. A later version has more fields.
+#[derive(Clone, Copy, Debug, PartialEq, Eq)]
+#[non_exhaustive]
+pub struct Pending {
+    pub page: u64,
+    pub frame: u64,
 }
 
 /// The frames that the first and the last byte of a write go to.
@@ -155,6 +172,68 @@ impl Guard {
         Ok(Frames { first, last })
     }
 
+    /// Asks for the approval of a page with a frame, which are pending from then on: no write and no transfer may reach the frame, and a page
+    /// that is synchronised with it becomes read-only and no-execute. No shadow entry changes here, so synchronise all pages after
+    /// it and before the frame is inspected.
+    ///
+    /// ```
+    /// use guard::{Committed, Device, Guard, Options, Policy, Refusal};
+    ///
+    /// // The kernel maps page 2 to frame 6, read-only: a driver, which the policy does not name.
+    /// let policy = Policy::new(4, 8).entry_page(1, 2).record()?;
+    /// let mut guard = Guard::start(&policy, Options::new().device(Device::new(3, 7)))?;
+    /// let kernel = [0, 0x2001, 0x6001, 0];
+    /// guard.synchronise_all(&kernel)?;
+    /// assert_eq!(guard.fetch(2), Err(Refusal::NotPermitted));
+    ///
+    /// // While it is pending and inspected, no device writes to it.
+    /// guard.ask(2, 6)?;
+    /// guard.synchronise_all(&kernel)?;
+    /// assert_eq!(guard.pending().map(|pair| (pair.page, pair.frame)), Some((2, 6)));
+    /// assert_eq!(guard.device_write(0, 0x6000, 1), Err(Refusal::Excluded));
+    /// assert_eq!(guard.fetch(2), Err(Refusal::NotPermitted));
+    ///
+    /// // Inspected and found good.
+    /// assert_eq!(guard.commit()?, Committed { changed: 1, joined: 1 });
+    /// assert_eq!(guard.fetch(2)?, 6);
+    /// assert_eq!(guard.pending(), None);
+    /// # Ok::<(), Refusal>(())
+    /// ```
+    pub fn ask(&mut self, page: u64, frame: u64) -> Result<(), Refusal> {
+        let Guard { state, shadow, map, exclusion, .. } = self;
+        answer(|numbers| archive::ask(state, shadow, map, exclusion, page, frame, numbers))?;
+        Ok(())
+    }
+
+    /// Approves the pending page with its frame, and so every page without an approval whose present shadow entry has that frame.
+    pub fn commit(&mut self) -> Result<Committed, Refusal> {
+        let Guard { state, shadow, map, .. } = self;
+        let [changed, joined] = answer(|numbers| archive::commit(state, shadow, map, numbers))?;
+        Ok(Committed { changed, joined })
+    }
+
+    /// Drops what is pending, which opens its frame again. It is not called `drop`, which in Rust ends a value: the guard goes on.
+    ///
+    /// ```
+    /// use guard::{Device, Frames, Guard, Options, Policy, Refusal};
+    ///
+    /// let policy = Policy::new(4, 8).entry_page(1, 2).record()?;
+    /// let mut guard = Guard::start(&policy, Options::new().device(Device::new(3, 7)))?;
+    /// guard.ask(2, 6)?;
+    /// assert_eq!(guard.device_write(0, 0x6000, 1), Err(Refusal::Excluded));
+    ///
+    /// // Inspected and found bad.
+    /// guard.drop_pending()?;
+    /// assert_eq!(guard.device_write(0, 0x6000, 1)?, Frames { first: 6, last: 6 });
+    /// assert_eq!(guard.commit(), Err(Refusal::NothingPending));
+    /// # Ok::<(), Refusal>(())
+    /// ```
+    pub fn drop_pending(&mut self) -> Result<(), Refusal> {
+        let Guard { state, exclusion, .. } = self;
+        answer(|numbers| archive::drop(state, exclusion, numbers))?;
+        Ok(())
+    }
+
     /// Gives a device another window, from the first frame to the last. No answer to another device changes. Where there is no such
     /// device nothing changes, and the refusal is 18.
     pub fn set_window(&mut self, device: u64, first: u16, last: u16) -> Result<(), Refusal> {
@@ -189,6 +268,12 @@ impl Guard {
         } else {
             Mode::Kernel(page)
         }
+    }
+
+    /// The page and the frame that are pending, if any are.
+    pub fn pending(&self) -> Option<Pending> {
+        let [page, frame] = [STATE_PENDING_PAGE, STATE_PENDING_FRAME].map(|word| self.state[word]);
+        (self.state[STATE_PENDING] == 1).then_some(Pending { page, frame })
     }
 
     /// The shadow table, which the processor walks; include/guard.h has every bit of its entries.

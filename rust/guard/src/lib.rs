@@ -1,7 +1,7 @@
 //! The proved page guard as a Rust type: [`Guard`] owns its state, tables and devices, and every call is safe on every input.
 //! The calls run in the archive of `crates/exports`, where each is proved to answer what documents 01 and 02 say.
 //! [`Policy`] builds the policy record that a guard starts with, and [`Options`] has its devices. A kernel's page tables are lent flat, or
-//! as a [`Tree`].
+//! as a [`Tree`]. A driver that arrives later is asked for, inspected, and committed or dropped: [`Guard::ask`].
 //!
 //! ```
 //! use guard::{Device, Frames, Guard, Mode, Options, Refusal, Synchronised};
@@ -30,7 +30,7 @@ mod refusal;
 mod tree;
 
 pub use archive::Device;
-pub use calls::{Frames, Guard, Mode, Synchronised, ENTRY_PAGES, NO_FRAME};
+pub use calls::{Committed, Frames, Guard, Mode, Pending, Synchronised, ENTRY_PAGES, NO_FRAME};
 pub use options::{Options, MAX_DEVICES};
 pub use policy::{write_record, Policy};
 pub use refusal::Refusal;

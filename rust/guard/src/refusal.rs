@@ -50,6 +50,9 @@ refusals! {
     Tree = 17, "the tree's run, depth or root does not fit";
     NoDevice = 18, "the device is not in the list";
     OutsideWindow = 19, "the transfer is outside the device's window";
+    ApprovalConflict = 20, "a pair is pending, the page is approved or the frame is excluded";
+    MappedWritable = 21, "a present shadow entry maps the frame writable";
+    NothingPending = 22, "no pair is pending";
 }
 
 impl Refusal {

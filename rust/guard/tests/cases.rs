@@ -200,13 +200,16 @@ fn every_call_is_safe_on_every_input() {
         let number = if random.one_in(2) { wide } else { near };
         let device = if random.one_in(4) { random.word() } else { 0 };
         let before = guard.clone();
-        let accepted = match random.below(7) {
+        let accepted = match random.below(10) {
             0 => guard.synchronise_page(&kernel, number).is_ok(),
             1 => guard.synchronise_all(&kernel).is_ok(),
             2 => guard.fetch(number).is_ok(),
             3 => guard.write(number.wrapping_mul(4090), near).is_ok(),
             4 => guard.enter(number).is_ok(),
             5 => guard.leave(number).is_ok(),
+            6 => guard.ask(number, if random.one_in(4) { random.word() } else { near }).is_ok(),
+            7 => guard.commit().is_ok(),
+            8 => guard.drop_pending().is_ok(),
             _ => guard.device_write(device, number.wrapping_mul(4090), near).is_ok(),
         };
         assert!(accepted || guard == before);

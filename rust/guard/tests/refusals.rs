@@ -38,7 +38,7 @@ fn a_number_finds_its_refusal() {
     for refusal in Refusal::ALL {
         assert_eq!(Refusal::from_number(refusal.number().into()), Some(refusal));
     }
-    for number in [0, 20, 256, 257, 65536 + 7, u64::MAX] {
+    for number in [0, 23, 256, 257, 65536 + 7, u64::MAX] {
         assert_eq!(Refusal::from_number(number), None);
     }
 }

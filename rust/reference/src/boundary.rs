@@ -1,13 +1,13 @@
-//! The reference behind the boundary of include/guard.h: the state in a run of 22 words, the two numbers in a run of two.
+//! The reference behind the boundary of include/guard.h: the state in a run of 25 words, the two numbers in a run of two.
 //! Both runs are part of question 7; a refused call changes no state run, table or buffer, and a numbers run of two gets zeros.
 
 use crate::fault;
 use crate::record::write_where;
 use crate::start::start_where;
-use crate::state::{Answer, Mode, Refusal, State};
+use crate::state::{Answer, Mode, Pair, Refusal, State};
 use crate::tree::{walk_where, Tree};
 
-const STATE_WORDS: usize = 22;
+const STATE_WORDS: usize = 25;
 const PAGES: usize = 0;
 const FRAMES: usize = 1;
 const ENTRIES: usize = 2;
@@ -15,12 +15,15 @@ const ENTRY: usize = 3;
 const MODE: usize = 19;
 const RUNNING: usize = 20;
 const DEVICES: usize = 21;
+const PENDING: usize = 22;
+const PENDING_PAGE: usize = 23;
+const PENDING_FRAME: usize = 24;
 
 const NUMBERS: usize = 2;
 
 /// A call that leaves the state as it is.
 #[inline(always)]
-pub fn ask(run: &[u64], numbers: &mut [u64], call: impl FnOnce(&State) -> Answer) -> u64 {
+pub fn with_state(run: &[u64], numbers: &mut [u64], call: impl FnOnce(&State) -> Answer) -> u64 {
     let answer = match state_in(run) {
         Some(state) if numbers.len() == NUMBERS => call(&state),
         _ => Err(Refusal::StateOrTable),
@@ -30,12 +33,37 @@ pub fn ask(run: &[u64], numbers: &mut [u64], call: impl FnOnce(&State) -> Answer
 
 /// A call that may change the mode and the running page, and nothing else of the state.
 #[inline(always)]
-pub fn go(run: &mut [u64], numbers: &mut [u64], call: impl FnOnce(&mut State) -> Answer) -> u64 {
+pub fn with_mode(
+    run: &mut [u64],
+    numbers: &mut [u64],
+    call: impl FnOnce(&mut State) -> Answer,
+) -> u64 {
+    changing(run, numbers, call, |run, state| put_mode(run, state.mode))
+}
+
+/// A call that may change what is pending, and nothing else of the state.
+#[inline(always)]
+pub fn with_pending(
+    run: &mut [u64],
+    numbers: &mut [u64],
+    call: impl FnOnce(&mut State) -> Answer,
+) -> u64 {
+    changing(run, numbers, call, |run, state| put_pending(run, state.pending))
+}
+
+/// A call that changes the state; what it can change is put into the run where it is accepted.
+#[inline(always)]
+fn changing(
+    run: &mut [u64],
+    numbers: &mut [u64],
+    call: impl FnOnce(&mut State) -> Answer,
+    put: impl FnOnce(&mut [u64], &State),
+) -> u64 {
     let answer = match state_in(run) {
         Some(mut state) if numbers.len() == NUMBERS => {
             let answer = call(&mut state);
             if answer.is_ok() {
-                put_mode(run, state.mode);
+                put(run, &state);
             }
             answer
         }
@@ -116,7 +144,8 @@ pub(crate) fn walk_variant<const VARIANT: u8>(tree: Tree, page: u64, numbers: &m
     reply(numbers, walk_where::<VARIANT>(run_fits, tree, page))
 }
 
-/// The state of a run with the right length, in which each field has its width. An entry page too wide is above every V.
+/// The state of a run with the right length, in which each field has its width. An entry page too wide is above every V. The words of
+/// the pair are read where one is pending.
 #[inline(always)]
 fn state_in(run: &[u64]) -> Option<State> {
     let run: &[u64; STATE_WORDS] = run.try_into().ok()?;
@@ -127,9 +156,14 @@ fn state_in(run: &[u64]) -> Option<State> {
         1 => Mode::User(page),
         _ => return None,
     };
+    let pending = match run[PENDING] {
+        0 => None,
+        1 => Some(Pair { page: field(PENDING_PAGE)?, frame: field(PENDING_FRAME)? }),
+        _ => return None,
+    };
     let entry_pages = std::array::from_fn(|place| field(ENTRY + place).unwrap_or(u16::MAX));
     let (v, f, e, devices) = (field(PAGES)?, field(FRAMES)?, field(ENTRIES)?, field(DEVICES)?);
-    Some(State { v, f, e, entry_pages, mode, devices })
+    Some(State { v, f, e, entry_pages, mode, devices, pending })
 }
 
 #[inline(always)]
@@ -142,12 +176,22 @@ fn put_state(run: &mut [u64], state: &State) {
     }
     put_mode(run, state.mode);
     run[DEVICES] = state.devices.into();
+    put_pending(run, state.pending);
 }
 
 #[inline(always)]
 fn put_mode(run: &mut [u64], mode: Mode) {
     run[MODE] = mode.is_user().into();
     run[RUNNING] = mode.page().into();
+}
+
+/// Where nothing is pending all three words are 0.
+#[inline(always)]
+fn put_pending(run: &mut [u64], pending: Option<Pair>) {
+    let [page, frame] = pending.map_or([0; 2], |pair| [pair.page.into(), pair.frame.into()]);
+    run[PENDING] = pending.is_some().into();
+    run[PENDING_PAGE] = page;
+    run[PENDING_FRAME] = frame;
 }
 
 #[inline(always)]

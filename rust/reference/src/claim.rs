@@ -1,9 +1,12 @@
 //! Demand 3 as something that runs: the calls of a list, and the number that the one-page guards settle for each.
 //! A test keeps these beside a guard and compares answers, entries, approvals and mode after every call.
 
+use std::ops::RangeInclusive;
+
 use crate::device::Device;
-use crate::page_guard::PageGuard;
+use crate::page_guard::{PageGuard, Record};
 use crate::path::Path;
+use crate::terms::Terms;
 use crate::tree::Tree;
 
 /// A call of the list, with the kernel table or the tree that a synchronising call brings, and the devices that a device write brings.
@@ -18,6 +21,9 @@ pub enum Call<'a> {
     DeviceWrite { devices: &'a [Device], device: u64, address: u64, length: u64 },
     SynchroniseOneFromTree { tree: Tree<'a>, page: u64 },
     SynchroniseAllFromTree { tree: Tree<'a> },
+    Ask { page: u64, frame: u64 },
+    Commit,
+    Drop,
 }
 
 /// What the questions read of the state that reaches a call: no one-page guard holds it.
@@ -25,15 +31,21 @@ pub enum Call<'a> {
 pub struct Reaching {
     /// The number of devices (K5).
     pub devices: u64,
+    /// The pending page and frame (K6).
+    pub pending: Option<(u64, u64)>,
 }
 
-/// The policy and the one-page guards of all its pages.
+/// The policy, the one-page guards of all its pages, and the terms of frames.
 pub struct Claim {
     v: u64,
     f: u64,
     entry_pages: Vec<u16>,
     pages: Vec<PageGuard>,
+    terms: Terms,
 }
+
+/// The approval of a page that has none.
+const NO_APPROVAL: u16 = 65535;
 
 /// A question: its number, and whether the answer is yes.
 type Question = (u8, bool);
@@ -41,13 +53,14 @@ type Question = (u8, bool);
 impl Claim {
     /// The one-page guards as an accepted start of this record leaves them.
     pub fn told_start(record: &[u8]) -> Claim {
-        let number = |place: usize| u16::from_le_bytes([record[2 * place], record[2 * place + 1]]);
-        let (v, f, e) = (number(0), number(1), number(3));
+        let record = Record::of(record);
+        let policy = record.frame_set();
         Claim {
-            v: v.into(),
-            f: f.into(),
-            entry_pages: (4..4 + usize::from(e)).map(number).collect(),
-            pages: (0..v).map(|page| PageGuard::told_start(record, page)).collect(),
+            v: record.v.into(),
+            f: record.f.into(),
+            entry_pages: record.pages[..record.e.into()].to_vec(),
+            pages: (0..record.v).map(|page| PageGuard::told_start(&record, policy, page)).collect(),
+            terms: Terms::told_start(policy),
         }
     }
 
@@ -96,10 +109,23 @@ impl Claim {
                 first_no(&[(17, is_tree(&tree)), (9, page < self.v)])
             }
             Call::SynchroniseAllFromTree { tree } => first_no(&[(17, is_tree(&tree))]),
+            // Whether and what is pending is read from the state that reaches the call.
+            Call::Ask { page, frame } => first_no(&[
+                (9, page < self.v && frame < self.f),
+                (20, reaching.pending.is_none()),
+                (20, self.approval(page) == NO_APPROVAL),
+                (20, !self.pages[0].excludes(frame)),
+                (21, !self.is_mapped_writable(frame)),
+            ]),
+            Call::Commit => first_no(&[
+                (20, reaching.pending.is_none_or(|(page, _)| self.approval(page) == NO_APPROVAL)),
+                (22, reaching.pending.is_some()),
+            ]),
+            Call::Drop => first_no(&[(22, reaching.pending.is_some())]),
         }
     }
 
-    /// Tells the one-page guards of an accepted call.
+    /// Tells the one-page guards and the terms of an accepted call.
     pub fn tell(&mut self, call: &Call) {
         match *call {
             Call::SynchroniseOne { kernel, page } => {
@@ -120,6 +146,20 @@ impl Claim {
             }
             Call::Enter { .. } => self.pages.iter_mut().for_each(PageGuard::told_entered),
             Call::Leave { .. } => self.pages.iter_mut().for_each(PageGuard::told_left),
+            Call::Ask { page, frame } => {
+                for (number, guard) in (0..).zip(&mut self.pages) {
+                    guard.told_asked(frame as u16, number == page);
+                }
+                self.terms.told_asked(frame as u16);
+            }
+            Call::Commit => {
+                self.pages.iter_mut().for_each(PageGuard::told_committed);
+                self.terms.told_committed();
+            }
+            Call::Drop => {
+                self.pages.iter_mut().for_each(PageGuard::told_dropped);
+                self.terms.told_dropped();
+            }
             Call::Fetch { .. } | Call::Write { .. } | Call::DeviceWrite { .. } => {}
         }
     }
@@ -132,27 +172,40 @@ impl Claim {
             && pages().all(|page| page.is_user() == is_user)
     }
 
-    /// Whether an allowed call answers and reaches what it may, by the one-page guards before it: a fetch in kernel mode
-    /// reads a frame of the policy, and no write covers one; a device's write covers no frame outside its window.
+    /// Whether an allowed call answers and reaches what it may: a fetch in kernel mode reads a code frame, and no write covers a
+    /// protected one or memory beyond the last; a device's write covers no frame outside its window. Which frame a page has is the
+    /// one-page guard's word, which frames are code and protected that of the terms, both before the call.
     pub fn is_safe(&self, call: &Call, numbers: (u64, u64)) -> bool {
+        let is_clear = |frame| frame < self.f && !self.terms.is_protected(frame);
         match *call {
             Call::Fetch { page } => {
                 let frame = self.frame(page);
-                numbers == (frame, frame) && (self.is_user() || self.pages[0].excludes(frame))
+                numbers == (frame, frame) && (self.is_user() || self.terms.is_code(frame))
             }
             Call::Write { address, length } => {
                 let frames: Vec<_> =
                     touched(address, length).map(|page| self.frame(page)).collect();
                 (frames.first(), frames.last()) == (Some(&numbers.0), Some(&numbers.1))
-                    && frames.iter().all(|&frame| self.is_free(frame))
+                    && frames.iter().all(|&frame| is_clear(frame))
             }
             Call::DeviceWrite { devices, device, address, length } => {
                 let mut frames = touched(address, length);
                 numbers == (address / 4096, (address + length - 1) / 4096)
-                    && frames
-                        .all(|frame| self.is_free(frame) && is_permitted(devices, device, frame))
+                    && frames.all(|frame| is_clear(frame) && is_permitted(devices, device, frame))
             }
             _ => true,
+        }
+    }
+
+    /// The frames that the bytes of an allowed write or transfer cover, in runs; other calls cover none.
+    pub fn covered(&self, call: &Call) -> Vec<RangeInclusive<u64>> {
+        match *call {
+            Call::Write { address, length } => {
+                let frames = touched(address, length).map(|page| self.frame(page));
+                frames.map(|frame| frame..=frame).collect()
+            }
+            Call::DeviceWrite { address, length, .. } => vec![touched(address, length)],
+            _ => Vec::new(),
         }
     }
 
@@ -199,6 +252,18 @@ impl Claim {
         self.entry(page) >> bit & 1 == 1
     }
 
+    /// The approval of a page's one-page guard; a page that does not exist has none.
+    fn approval(&self, page: u64) -> u16 {
+        let guard = usize::try_from(page).ok().and_then(|page| self.pages.get(page));
+        guard.map_or(NO_APPROVAL, PageGuard::approval)
+    }
+
+    /// Whether the entry of some one-page guard is present and writable and has this frame.
+    fn is_mapped_writable(&self, frame: u64) -> bool {
+        let mut pages = 0..self.v;
+        pages.any(|page| self.has(page, 0) && self.has(page, 1) && self.frame(page) == frame)
+    }
+
     /// In user mode a page needs bit 2.
     fn is_open(&self, page: u64) -> bool {
         !self.is_user() || self.has(page, 2)
@@ -206,7 +271,7 @@ impl Claim {
 }
 
 /// The pages, or frames, of the bytes from an address on, with exact sums.
-fn touched(address: u64, length: u64) -> impl Iterator<Item = u64> {
+fn touched(address: u64, length: u64) -> RangeInclusive<u64> {
     let last_byte = u128::from(address) + u128::from(length.max(1)) - 1;
     address / 4096..=(last_byte / 4096) as u64
 }

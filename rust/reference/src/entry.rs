@@ -50,6 +50,12 @@ pub fn ordinary<const IN_USER: bool>(kernel: u64) -> u64 {
     entry | no_execute::<IN_USER>(entry)
 }
 
+/// The ordinary entry of a kernel entry with the pending frame (K6): it is not writable, and no-execute counts as the kernel's own.
+#[inline(always)]
+pub fn restricted<const IN_USER: bool>(kernel: u64) -> u64 {
+    ordinary::<IN_USER>(kernel & !WRITABLE | NO_EXECUTE)
+}
+
 /// Bit 63 that a present shadow entry has in this mode, by its approved mark and bits 2 and 9; all other bits are 0.
 /// Shifts bring bits 10, 9 and 2 to bit 63, so that a mode switch has no branch and runs on vectors.
 #[inline(always)]

@@ -3,9 +3,12 @@
 //! The calls here take the mistake as an argument; the plain calls are compiled apart and do not pay for it.
 
 use crate::access;
+use crate::approval;
 use crate::boundary;
+use crate::claim::Call;
 use crate::device::Device;
 use crate::device_fault;
+use crate::pending_fault;
 use crate::state::{Answer, State};
 use crate::switch;
 use crate::sync;
@@ -126,6 +129,166 @@ pub enum Fault {
     OneDeviceMore = 54,
     /// K5: keeping 64, whatever the number.
     CountNotKept = 55,
+    /// K6: asking without excluding the frame.
+    AskDoesNotExclude = 56,
+    /// K6: allowing an ask while a pair is pending, which takes its place.
+    AskWhilePending = 57,
+    /// K6: allowing an ask for a page that has an approval.
+    AskApprovedPage = 58,
+    /// K6: taking the approved mark of the page's entry for its approval, at an ask.
+    AskByMark = 59,
+    /// K6: allowing an ask for an excluded frame.
+    AskExcludedFrame = 60,
+    /// K6: asking, committing and dropping in kernel mode alone.
+    InKernelModeAlone = 61,
+    /// K6: asking 9 of the frame alone.
+    AskAnyPage = 62,
+    /// K6: asking 9 of the page alone.
+    AskAnyFrame = 63,
+    /// K6: cutting the page to 16 bits.
+    CutPage = 64,
+    /// K6: cutting the frame to 16 bits.
+    CutFrame = 65,
+    /// K6: asking 20 before 9.
+    ConflictBeforeExists = 66,
+    /// K6: asking 21 before 20.
+    WritableBeforeConflict = 67,
+    /// K6: not asking 21.
+    WritableNotAsked = 68,
+    /// K6: asking 21 of the asked page's entry alone.
+    WritableOfTheAskedPage = 69,
+    /// K6: setting bit 9 at the ask, in the entries that have the frame already.
+    AskClosesEntries = 70,
+    /// K6: counting the asked page at the ask.
+    AskCountsThePage = 71,
+    /// K6: the rule for a pending frame after step 4, so that the page joins.
+    PendingAfterStep4 = 72,
+    /// K6: the rule before step 2, so that an approved page loses its entry.
+    PendingBeforeStep2 = 73,
+    /// K6: the rule before step 3, for every frame with the same lower 16 bits.
+    PendingFrameCut = 74,
+    /// K6: the page joins the map with its ordinary entry.
+    PendingJoins = 75,
+    /// K6: leaving the page absent.
+    PendingNotMapped = 76,
+    /// K6: keeping writable.
+    PendingWritable = 77,
+    /// K6: not setting bit 9.
+    PendingWithoutBit9 = 78,
+    /// K6: setting bit 9, and bit 63 by the kernel entry's own no-execute.
+    PendingRunsInUserMode = 79,
+    /// K6: losing the user bit.
+    PendingWithoutUser = 80,
+    /// K6: losing both cache bits.
+    PendingWithoutCacheBits = 81,
+    /// K6: the rule for the asked page alone.
+    PendingOfTheAskedPage = 82,
+    /// K6: the rule for the asked page with any frame.
+    PendingWhateverTheFrame = 83,
+    /// K6: no rule where one page is synchronised.
+    PendingNotOfOne = 84,
+    /// K6: no rule where all pages are.
+    PendingNotOfAll = 85,
+    /// K6: no rule where they are from a tree.
+    PendingNotOfTrees = 86,
+    /// K6: committing a page that has an approval by now.
+    CommitApprovedPage = 87,
+    /// K6: taking the mark for the approval, at a commit.
+    CommitByMark = 88,
+    /// K6: accepting a commit where nothing is pending.
+    CommitOfNothing = 89,
+    /// K6: committing the asked page alone.
+    CommitSkipsAliases = 90,
+    /// K6: not approving the asked page where it is absent.
+    CommitSkipsAbsentPage = 91,
+    /// K6: not approving the asked page where it has another frame.
+    CommitSkipsOtherFrame = 92,
+    /// K6: taking entries with that frame that are not present.
+    CommitTakesAbsent = 93,
+    /// K6: approved entries as in kernel mode, whatever the mode is.
+    CommitInKernelMode = 94,
+    /// K6: keeping bits 2 to 4 of an entry that is approved.
+    CommitKeepsBits = 95,
+    /// K6: approving in the map and not in the shadow.
+    CommitMapAlone = 96,
+    /// K6: approving in the shadow and not in the map.
+    CommitShadowAlone = 97,
+    /// K6: leaving the pair pending.
+    CommitLeavesPair = 98,
+    /// K6: counting the joined pages without the asked one.
+    JoinedWithoutTheAsked = 99,
+    /// K6: accepting a drop where nothing is pending.
+    DropOfNothing = 100,
+    /// K6: leaving the frame excluded.
+    DropLeavesBit = 101,
+    /// K6: leaving the pair pending at a drop.
+    DropLeavesPair = 102,
+    /// K6: clearing the bit of the next frame.
+    DropClearsNext = 103,
+    /// K6: clearing the bits of all eight frames of the byte.
+    DropClearsByte = 104,
+    /// K6: asking 21 of entries that are not present too.
+    WritableIfNotPresent = 105,
+    /// K6: asking 21 of pages without an approval alone.
+    WritableIfNotApproved = 106,
+    /// K6: asking 21 of entries without the approved mark alone.
+    WritableIfNotMarked = 107,
+    /// K6: asking 21 of entries whose frame has the same lower 16 bits.
+    WritableFrameCut = 108,
+    /// K6: the rule for a pending frame only where the vector excludes it.
+    PendingIfExcluded = 109,
+    /// K6: taking pages with another number in the map too.
+    CommitTakesApproved = 110,
+    /// K6: taking entries whose frame has the same lower 16 bits.
+    CommitFrameCut = 111,
+    /// K6: counting every joined page as a changed entry.
+    JoinedAsChanged = 112,
+    /// K6: not asking 7 of the pair in any call.
+    PairNotAsked = 113,
+    /// K6: not asking it to synchronise one page.
+    PairNotAskedToSynchroniseOne = 114,
+    /// K6: not asking it to synchronise all pages.
+    PairNotAskedToSynchroniseAll = 115,
+    /// K6: not asking it to fetch.
+    PairNotAskedToFetch = 116,
+    /// K6: not asking it to write.
+    PairNotAskedToWrite = 117,
+    /// K6: not asking it to enter.
+    PairNotAskedToEnter = 118,
+    /// K6: not asking it to leave.
+    PairNotAskedToLeave = 119,
+    /// K6: not asking it for a device write.
+    PairNotAskedOfDevices = 120,
+    /// K6: not asking it to synchronise one page from a tree.
+    PairNotAskedOfOneFromTree = 121,
+    /// K6: not asking it to synchronise all pages from a tree.
+    PairNotAskedOfAllFromTree = 122,
+    /// K6: not asking it to ask.
+    PairNotAskedToAsk = 123,
+    /// K6: not asking it to commit.
+    PairNotAskedToCommit = 124,
+    /// K6: not asking it to drop.
+    PairNotAskedToDrop = 125,
+    /// K6: allowing page V in a pending pair.
+    PendingPageV = 126,
+    /// K6: allowing frame F in a pending pair.
+    PendingFrameF = 127,
+    /// K6: cutting the words of the pair to 16 bits.
+    CutPairWords = 128,
+    /// K6: asking the words of the pair where none is pending.
+    PairReadWhereNone = 129,
+    /// K6: taking every word but 0 as one that says that a pair is pending.
+    PendingWordIsAny = 130,
+    /// K6: taking every word but 1 as one that says that none is.
+    PendingWordIsOne = 131,
+    /// K6: writing the words of the pair in a call that concerns no pair.
+    OthersWritePair = 132,
+    /// K6: leaving the words of the pair at a commit.
+    CommitLeavesWords = 133,
+    /// K6: leaving the words of the pair at a drop.
+    DropLeavesWords = 134,
+    /// K6: leaving what the run has of a pair at the start.
+    StartLeavesPair = 135,
 }
 
 pub(crate) const NONE: u8 = Fault::None as u8;
@@ -238,10 +401,105 @@ impl Fault {
         Fault::OneDeviceMore,
         Fault::CountNotKept,
     ];
+
+    /// The mistakes with asks, commits, drops and what is pending that a list of demand 3 shows. No drill has such a call.
+    pub const OF_PENDING: [Fault; 49] = [
+        Fault::AskDoesNotExclude,
+        Fault::AskWhilePending,
+        Fault::AskApprovedPage,
+        Fault::AskByMark,
+        Fault::AskExcludedFrame,
+        Fault::InKernelModeAlone,
+        Fault::AskAnyPage,
+        Fault::AskAnyFrame,
+        Fault::CutPage,
+        Fault::CutFrame,
+        Fault::ConflictBeforeExists,
+        Fault::WritableBeforeConflict,
+        Fault::WritableNotAsked,
+        Fault::WritableOfTheAskedPage,
+        Fault::AskClosesEntries,
+        Fault::AskCountsThePage,
+        Fault::PendingAfterStep4,
+        Fault::PendingBeforeStep2,
+        Fault::PendingFrameCut,
+        Fault::PendingJoins,
+        Fault::PendingNotMapped,
+        Fault::PendingWritable,
+        Fault::PendingWithoutBit9,
+        Fault::PendingRunsInUserMode,
+        Fault::PendingWithoutUser,
+        Fault::PendingWithoutCacheBits,
+        Fault::PendingOfTheAskedPage,
+        Fault::PendingWhateverTheFrame,
+        Fault::PendingNotOfOne,
+        Fault::PendingNotOfAll,
+        Fault::PendingNotOfTrees,
+        Fault::CommitApprovedPage,
+        Fault::CommitByMark,
+        Fault::CommitOfNothing,
+        Fault::CommitSkipsAliases,
+        Fault::CommitSkipsAbsentPage,
+        Fault::CommitSkipsOtherFrame,
+        Fault::CommitTakesAbsent,
+        Fault::CommitInKernelMode,
+        Fault::CommitKeepsBits,
+        Fault::CommitMapAlone,
+        Fault::CommitShadowAlone,
+        Fault::CommitLeavesPair,
+        Fault::JoinedWithoutTheAsked,
+        Fault::DropOfNothing,
+        Fault::DropLeavesBit,
+        Fault::DropLeavesPair,
+        Fault::DropClearsNext,
+        Fault::DropClearsByte,
+    ];
+
+    /// The other mistakes with them. In a list of demand 3 an entry that is not present is 0, a present one has a frame below F, one of an
+    /// approved page is not writable and has the approved frame, a commit changes every entry that it approves, and a pending pair is
+    /// below V and F and its frame excluded; and the words of a pair are nothing that a one-page guard holds.
+    pub const OF_PENDING_STATES: [Fault; 31] = [
+        Fault::WritableIfNotPresent,
+        Fault::WritableIfNotApproved,
+        Fault::WritableIfNotMarked,
+        Fault::WritableFrameCut,
+        Fault::PendingIfExcluded,
+        Fault::CommitTakesApproved,
+        Fault::CommitFrameCut,
+        Fault::JoinedAsChanged,
+        Fault::PairNotAsked,
+        Fault::PairNotAskedToSynchroniseOne,
+        Fault::PairNotAskedToSynchroniseAll,
+        Fault::PairNotAskedToFetch,
+        Fault::PairNotAskedToWrite,
+        Fault::PairNotAskedToEnter,
+        Fault::PairNotAskedToLeave,
+        Fault::PairNotAskedOfDevices,
+        Fault::PairNotAskedOfOneFromTree,
+        Fault::PairNotAskedOfAllFromTree,
+        Fault::PairNotAskedToAsk,
+        Fault::PairNotAskedToCommit,
+        Fault::PairNotAskedToDrop,
+        Fault::PendingPageV,
+        Fault::PendingFrameF,
+        Fault::CutPairWords,
+        Fault::PairReadWhereNone,
+        Fault::PendingWordIsAny,
+        Fault::PendingWordIsOne,
+        Fault::OthersWritePair,
+        Fault::CommitLeavesWords,
+        Fault::DropLeavesWords,
+        Fault::StartLeavesPair,
+    ];
+
+    /// Whether it is one of K6's.
+    fn is_of_pending(self) -> bool {
+        self as u8 >= Fault::AskDoesNotExclude as u8
+    }
 }
 
-/// The variant of a call for a mistake. Where the call cannot make it, the variant does what the plain call does. The mistakes of K5
-/// are none of these: device_fault.rs has them, the start and [`seen`].
+/// The variant of a call for a mistake. Where the call cannot make it, the variant does what the plain call does. The mistakes of K5 and
+/// K6 are none of these: device_fault.rs has those of K5, the start and [`seen`], and pending_fault.rs those of K6.
 macro_rules! variant {
     ($module:ident::$call:ident, $fault:expr) => {
         match $fault {
@@ -283,11 +541,11 @@ fn seen(fault: Fault, state: &State) -> State {
     State { devices, ..*state }
 }
 
-/// The same for a call that may change the mode.
+/// The same for a call that may change the mode or what is pending.
 fn seeing(fault: Fault, state: &mut State, call: impl FnOnce(&mut State) -> Answer) -> Answer {
     let mut seen = seen(fault, state);
     let answer = call(&mut seen);
-    state.mode = seen.mode;
+    (state.mode, state.pending) = (seen.mode, seen.pending);
     answer
 }
 
@@ -312,7 +570,23 @@ pub fn start(
         Fault::CountNotKept => boundary::start_variant::<COUNT_NOT_KEPT>,
         _ => boundary::start,
     };
-    start(policy, devices, run, shadow, map, exclusion, numbers)
+    pending_fault::starting(fault, run, |run| {
+        start(policy, devices, run, shadow, map, exclusion, numbers)
+    })
+}
+
+/// A call on a state run that a mistake may read or write otherwise.
+pub fn on_run(
+    fault: Fault,
+    call: &Call,
+    run: &mut [u64],
+    made: impl FnOnce(&mut [u64]) -> u64,
+) -> u64 {
+    if fault.is_of_pending() {
+        pending_fault::on_run(fault, call, run, made)
+    } else {
+        made(run)
+    }
 }
 
 /// [`crate::synchronise_one`] with a mistake.
@@ -325,6 +599,9 @@ pub fn synchronise_one(
     exclusion: &[u8],
     page: u64,
 ) -> Answer {
+    if fault.is_of_pending() {
+        return pending_fault::one(fault, state, kernel, shadow, map, exclusion, page);
+    }
     let state = &seen(fault, state);
     variant!(sync::one, fault)(state, kernel, shadow, map, exclusion, page)
 }
@@ -338,6 +615,9 @@ pub fn synchronise_all(
     map: &mut [u16],
     exclusion: &[u8],
 ) -> Answer {
+    if fault.is_of_pending() {
+        return pending_fault::all(fault, state, kernel, shadow, map, exclusion);
+    }
     let state = &seen(fault, state);
     variant!(sync::all, fault)(state, kernel, shadow, map, exclusion)
 }
@@ -352,6 +632,9 @@ pub fn synchronise_one_from_tree(
     exclusion: &[u8],
     page: u64,
 ) -> Answer {
+    if fault.is_of_pending() {
+        return pending_fault::one_from_tree(fault, state, tree, shadow, map, exclusion, page);
+    }
     let state = &seen(fault, state);
     variant!(sync::one_from_tree, fault)(state, tree, shadow, map, exclusion, page)
 }
@@ -365,6 +648,9 @@ pub fn synchronise_all_from_tree(
     map: &mut [u16],
     exclusion: &[u8],
 ) -> Answer {
+    if fault.is_of_pending() {
+        return pending_fault::all_from_tree(fault, state, tree, shadow, map, exclusion);
+    }
     let state = &seen(fault, state);
     variant!(sync::all_from_tree, fault)(state, tree, shadow, map, exclusion)
 }
@@ -417,6 +703,38 @@ pub fn device_write(
         return access::device_write(state, exclusion, devices, device, address, length);
     }
     device_fault::device_write(fault, state, exclusion, devices, device, address, length)
+}
+
+/// [`crate::ask`] with a mistake.
+pub fn ask(
+    fault: Fault,
+    state: &mut State,
+    shadow: &mut [u64],
+    map: &[u16],
+    exclusion: &mut [u8],
+    page: u64,
+    frame: u64,
+) -> Answer {
+    if fault.is_of_pending() {
+        return pending_fault::ask(fault, state, shadow, map, exclusion, page, frame);
+    }
+    seeing(fault, state, |state| approval::ask(state, shadow, map, exclusion, page, frame))
+}
+
+/// [`crate::commit`] with a mistake.
+pub fn commit(fault: Fault, state: &mut State, shadow: &mut [u64], map: &mut [u16]) -> Answer {
+    if fault.is_of_pending() {
+        return pending_fault::commit(fault, state, shadow, map);
+    }
+    seeing(fault, state, |state| approval::commit(state, shadow, map))
+}
+
+/// [`crate::drop`] with a mistake.
+pub fn drop(fault: Fault, state: &mut State, exclusion: &mut [u8]) -> Answer {
+    if fault.is_of_pending() {
+        return pending_fault::drop(fault, state, exclusion);
+    }
+    seeing(fault, state, |state| approval::drop(state, exclusion))
 }
 
 /// [`boundary::write_record`] with a mistake; the sizes are V, F, n and e.

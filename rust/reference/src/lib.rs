@@ -3,6 +3,7 @@
 #![forbid(unsafe_code)]
 
 mod access;
+mod approval;
 pub mod boundary;
 pub mod claim;
 mod device;
@@ -12,24 +13,28 @@ mod entry;
 pub mod fault;
 mod page_guard;
 pub mod path;
+mod pending_fault;
 mod record;
 mod start;
 mod state;
 mod switch;
 mod sync;
+mod terms;
 mod tree;
 
 pub use access::{device_write, fetch, write};
+pub use approval::{ask, commit, drop};
 pub use device::Device;
 pub use drill::{drill, drill_with_fault};
 pub use entry::NO_FRAME;
 pub use fault::Fault;
 pub use record::write_record;
 pub use start::start;
-pub use state::{vector_len, Answer, Mode, Refusal, State};
+pub use state::{vector_len, Answer, Mode, Pair, Refusal, State};
 pub use switch::{enter, leave};
 pub use sync::{
     synchronise_all, synchronise_all_from_tree, synchronise_one, synchronise_one_from_tree,
     without_approval,
 };
+pub use terms::AskToCommit;
 pub use tree::{walk, Tree};

@@ -4,18 +4,22 @@
 /// The approval of a page that has none.
 const NONE: u16 = 65535;
 
-/// The frames that no write may reach, one bit each.
+/// Some frames, one bit each.
 #[derive(Clone, Copy, PartialEq, Eq)]
-struct FrameSet([u64; 64]);
+pub(crate) struct FrameSet([u64; 64]);
 
 impl FrameSet {
-    const EMPTY: FrameSet = FrameSet([0; 64]);
+    pub const EMPTY: FrameSet = FrameSet([0; 64]);
 
-    fn add(&mut self, frame: u16) {
+    pub fn add(&mut self, frame: u16) {
         self.0[usize::from(frame / 64)] |= 1 << (frame % 64);
     }
 
-    fn has(&self, frame: u64) -> bool {
+    fn remove(&mut self, frame: u16) {
+        self.0[usize::from(frame / 64)] &= !(1 << (frame % 64));
+    }
+
+    pub fn has(&self, frame: u64) -> bool {
         frame < 4096 && self.0[(frame / 64) as usize] & 1 << (frame % 64) != 0
     }
 }
@@ -40,7 +44,46 @@ impl Entry {
     }
 }
 
-/// The guard of one page: a mode, an entry and an approval, with the frames that its policy excludes.
+/// The policy record of an accepted start, by its parts.
+pub(crate) struct Record {
+    pub v: u16,
+    pub f: u16,
+    pub e: u16,
+    /// The two arrays. The pages are rising.
+    pub pages: Vec<u16>,
+    pub frames: Vec<u16>,
+}
+
+impl Record {
+    pub fn of(bytes: &[u8]) -> Record {
+        let mut numbers = bytes.chunks_exact(2).map(|pair| u16::from_le_bytes([pair[0], pair[1]]));
+        let [v, f, n, e] = [(); 4].map(|()| numbers.next().expect("four sizes"));
+        let pages = numbers.by_ref().take(n.into()).collect();
+        Record { v, f, e, pages, frames: numbers.collect() }
+    }
+
+    /// The frames named in the policy: those in the second array.
+    pub fn frame_set(&self) -> FrameSet {
+        let mut set = FrameSet::EMPTY;
+        self.frames.iter().for_each(|&frame| set.add(frame));
+        set
+    }
+
+    /// The frame that a page is listed with.
+    fn frame_of(&self, page: u16) -> Option<u16> {
+        let place = self.pages.binary_search(&page).ok()?;
+        Some(self.frames[place])
+    }
+}
+
+/// What an ask told the guard of a page: the frame, and whether the ask was for this page.
+#[derive(Clone, Copy, PartialEq, Eq)]
+struct Asked {
+    frame: u16,
+    for_this_page: bool,
+}
+
+/// The guard of one page: a mode, an entry and an approval, with the excluded frames and what is pending (K6).
 #[derive(Clone, PartialEq, Eq)]
 pub(crate) struct PageGuard {
     frames: u64,
@@ -48,27 +91,23 @@ pub(crate) struct PageGuard {
     user: bool,
     entry: u64,
     approval: u16,
+    pending: Option<Asked>,
 }
 
 impl PageGuard {
-    /// Told the policy record of an accepted start.
-    pub fn told_start(record: &[u8], page: u16) -> PageGuard {
-        let number = |place: usize| u16::from_le_bytes([record[2 * place], record[2 * place + 1]]);
-        let listed = usize::from(number(2));
+    /// Told the policy record of an accepted start; the set of its frames is gathered once, and each guard has its own.
+    pub fn told_start(record: &Record, excluded: FrameSet, page: u16) -> PageGuard {
         let mut guard = PageGuard {
-            frames: number(1).into(),
-            excluded: FrameSet::EMPTY,
+            frames: record.f.into(),
+            excluded,
             user: false,
             entry: 0,
             approval: NONE,
+            pending: None,
         };
-        for place in 4..4 + listed {
-            let frame = number(place + listed);
-            guard.excluded.add(frame);
-            if number(place) == page {
-                guard.approval = frame;
-                guard.entry = guard.approved(frame.into()).0;
-            }
+        if let Some(frame) = record.frame_of(page) {
+            guard.approval = frame;
+            guard.entry = guard.approved(frame.into()).0;
         }
         guard
     }
@@ -85,12 +124,39 @@ impl PageGuard {
             self.approved(self.approval.into()).0
         } else if kernel.frame() >= self.frames {
             0
+        } else if self.pending.is_some_and(|asked| u64::from(asked.frame) == kernel.frame()) {
+            // K6: "clears writable and sets bit 9; this comes before step 4".
+            self.ordinary(kernel, false, true).0
         } else if self.excluded.has(kernel.frame()) {
             self.approval = kernel.frame() as u16;
             self.approved(kernel.frame()).0
         } else {
-            self.ordinary(kernel).0
+            self.ordinary(kernel, kernel.bit(1), kernel.bit(63)).0
         };
+    }
+
+    /// Told an accepted ask for a frame, for its own page or another.
+    pub fn told_asked(&mut self, frame: u16, for_this_page: bool) {
+        self.excluded.add(frame);
+        self.pending = Some(Asked { frame, for_this_page });
+    }
+
+    /// Told an accepted commit, which reaches the asked page, and others by their own entry and approval.
+    pub fn told_committed(&mut self) {
+        let Some(Asked { frame, for_this_page }) = self.pending.take() else { return };
+        let found = Entry(self.entry);
+        let maps_it = found.bit(0) && found.frame() == u64::from(frame);
+        if for_this_page || (self.approval == NONE && maps_it) {
+            self.approval = frame;
+            self.entry = self.approved(frame.into()).0;
+        }
+    }
+
+    /// Told an accepted drop.
+    pub fn told_dropped(&mut self) {
+        if let Some(Asked { frame, .. }) = self.pending.take() {
+            self.excluded.remove(frame);
+        }
     }
 
     /// Told an accepted enter.
@@ -129,17 +195,18 @@ impl PageGuard {
         Entry::of(&[(0, true), (10, true), (63, self.user)], frame)
     }
 
-    fn ordinary(&self, kernel: Entry) -> Entry {
-        let (user_page, kernel_no_execute) = (kernel.bit(2), kernel.bit(63));
-        let no_execute = !self.user || kernel_no_execute || !user_page;
+    /// The ordinary entry of a kernel entry, with these bits 1 and 9.
+    fn ordinary(&self, kernel: Entry, writable: bool, bit_9: bool) -> Entry {
+        let user_page = kernel.bit(2);
+        let no_execute = !self.user || bit_9 || !user_page;
         let bits = [
             (0, true),
-            (1, kernel.bit(1)),
+            (1, writable),
             (2, user_page),
             // K3: write-through and cache disable.
             (3, kernel.bit(3)),
             (4, kernel.bit(4)),
-            (9, kernel_no_execute),
+            (9, bit_9),
             (63, no_execute),
         ];
         Entry::of(&bits, kernel.frame())

@@ -81,14 +81,15 @@ impl<'a> Policy<'a> {
         numbers(self.pages).zip(numbers(self.frames))
     }
 
-    /// Kernel mode on the first entry page.
+    /// Kernel mode on the first entry page, and nothing pending.
     fn state(&self) -> State {
         let mut entry_pages = [0; ENTRY_PAGES];
         for (place, (page, _)) in entry_pages.iter_mut().zip(self.listed()).take(self.e.into()) {
             *place = page;
         }
         let mode = Mode::Kernel(entry_pages[0]);
-        State { v: self.v, f: self.f, e: self.e, entry_pages, mode, devices: self.devices }
+        let Policy { v, f, e, devices, .. } = *self;
+        State { v, f, e, entry_pages, mode, devices, pending: None }
     }
 }
 

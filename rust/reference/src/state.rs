@@ -48,6 +48,13 @@ impl Mode {
     }
 }
 
+/// A page and a frame that an accepted ask named (K6): they are pending until a commit or a drop.
+#[derive(Clone, Copy, Debug, PartialEq, Eq)]
+pub struct Pair {
+    pub page: u16,
+    pub frame: u16,
+}
+
 /// What the guard keeps beside the lent tables.
 #[derive(Clone, Copy, Debug, PartialEq, Eq)]
 pub struct State {
@@ -62,12 +69,21 @@ pub struct State {
     pub mode: Mode,
     /// The number of devices.
     pub devices: u16,
+    /// What is pending, if anything is.
+    pub pending: Option<Pair>,
 }
 
 impl State {
     /// The answer of a refused start, which has no state to keep.
-    pub const REFUSED: State =
-        State { v: 0, f: 0, e: 0, entry_pages: [0; ENTRY_PAGES], mode: Mode::User(0), devices: 0 };
+    pub const REFUSED: State = State {
+        v: 0,
+        f: 0,
+        e: 0,
+        entry_pages: [0; ENTRY_PAGES],
+        mode: Mode::User(0),
+        devices: 0,
+        pending: None,
+    };
 
     /// Question 7 about the state alone.
     #[inline]
@@ -77,6 +93,7 @@ impl State {
             && (1..=ENTRY_PAGES as u16).contains(&self.e)
             && self.mode.page() < self.v
             && (1..=MAX_DEVICES).contains(&self.devices)
+            && self.pending.is_none_or(|pair| pair.page < self.v && pair.frame < self.f)
     }
 
     /// Question 7 for a call that is lent one table with a place for each page.
@@ -121,10 +138,13 @@ pub enum Refusal {
     Tree = 17,
     NoDevice = 18,
     OutsideWindow = 19,
+    ApprovalConflict = 20,
+    MappedWritable = 21,
+    NothingPending = 22,
 }
 
 impl Refusal {
-    pub const ALL: [Refusal; 19] = [
+    pub const ALL: [Refusal; 22] = [
         Refusal::RecordTooShort,
         Refusal::SizeOutOfRange,
         Refusal::CountOutOfRange,
@@ -144,6 +164,9 @@ impl Refusal {
         Refusal::Tree,
         Refusal::NoDevice,
         Refusal::OutsideWindow,
+        Refusal::ApprovalConflict,
+        Refusal::MappedWritable,
+        Refusal::NothingPending,
     ];
 
     #[inline]

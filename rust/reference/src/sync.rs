@@ -2,12 +2,28 @@
 //! One step serves the exact guard, the planted mistakes and the variant without approval; each is compiled apart.
 
 use crate::entry::{
-    approved, framed, is_excluded, ordinary, CACHE_BITS, CACHE_DISABLE, FRAME, FRAME_SHIFT,
-    NO_FRAME, PRESENT, RESERVED, WRITE_THROUGH,
+    approved, framed, is_excluded, ordinary, restricted, CACHE_BITS, CACHE_DISABLE, FRAME,
+    FRAME_SHIFT, NO_FRAME, PRESENT, RESERVED, WRITE_THROUGH,
 };
 use crate::fault;
 use crate::state::{Answer, Refusal, State, MAX_FRAMES, MAX_VECTOR};
 use crate::tree::{Tree, WholeTree};
+
+/// What a step compares a frame with, in a frame's place: F and the pending frame.
+#[derive(Clone, Copy)]
+struct Frames {
+    end: u64,
+    /// Where none is pending, a number that no frame has.
+    pending: u64,
+}
+
+impl Frames {
+    #[inline(always)]
+    fn of(state: &State) -> Frames {
+        let pending = state.pending.map_or(u64::MAX, |pair| framed(pair.frame));
+        Frames { end: framed(state.f), pending }
+    }
+}
 
 /// Question 7 for the tables that a synchronisation is lent: those with a place for each page, and the vector.
 #[inline(always)]
@@ -16,13 +32,13 @@ fn fits<const TABLES: usize>(state: &State, places: [usize; TABLES], exclusion: 
     state.fits_vector(exclusion.len()) && places.into_iter().all(|count| count == v)
 }
 
-/// Steps 1 to 5 for one page: its shadow entry. `frames_end` is F in a frame's place.
+/// Steps 1 to 5 for one page, with the rule for a pending frame between 3 and 4 (K6): its shadow entry.
 /// A page that joins the map is counted where it joins, which is rare, and not on the common way.
 #[inline(always)]
 fn step<const IN_USER: bool, const VARIANT: u8>(
     kernel: u64,
     place: &mut u16,
-    frames_end: u64,
+    frames: Frames,
     is_excluded: impl Fn(u64) -> bool,
     joined: &mut u64,
 ) -> u64 {
@@ -46,8 +62,11 @@ fn step<const IN_USER: bool, const VARIANT: u8>(
         let kept = if VARIANT == fault::TRUST_KERNEL_FRAME { frame } else { framed(*place) };
         return approved::<IN_USER>(kept) | carried;
     }
-    if frame >= frames_end {
+    if frame >= frames.end {
         return 0;
+    }
+    if VARIANT != fault::NO_APPROVAL && frame == frames.pending {
+        return restricted::<IN_USER>(kernel);
     }
     let joins = VARIANT != fault::NO_APPROVAL && VARIANT != fault::WRITABLE_ALIAS;
     if joins && is_excluded(frame >> FRAME_SHIFT) {
@@ -121,14 +140,14 @@ fn put<const VARIANT: u8>(
     exclusion: &[u8],
     page: usize,
 ) -> (u64, u64) {
-    let frames_end = framed(state.f);
+    let frames = Frames::of(state);
     let is_excluded = |frame| is_excluded(exclusion, frame);
     let place = &mut map[page];
     let mut joined = 0;
     let entry = if state.mode.is_user() {
-        step::<true, VARIANT>(kernel, place, frames_end, is_excluded, &mut joined)
+        step::<true, VARIANT>(kernel, place, frames, is_excluded, &mut joined)
     } else {
-        step::<false, VARIANT>(kernel, place, frames_end, is_excluded, &mut joined)
+        step::<false, VARIANT>(kernel, place, frames, is_excluded, &mut joined)
     };
     let changed = shadow[page] != entry;
     shadow[page] = entry;
@@ -196,16 +215,16 @@ fn all_pages<const VARIANT: u8, P>(
     exclusion: &[u8],
 ) -> (u64, u64) {
     if state.mode.is_user() {
-        run::<true, VARIANT, P>(state.f, pages, entry_of, shadow, map, exclusion)
+        run::<true, VARIANT, P>(state, pages, entry_of, shadow, map, exclusion)
     } else {
-        run::<false, VARIANT, P>(state.f, pages, entry_of, shadow, map, exclusion)
+        run::<false, VARIANT, P>(state, pages, entry_of, shadow, map, exclusion)
     }
 }
 
 /// The step for each page in rising order, by its kernel entry: how many entries changed and how many pages joined.
 #[inline(always)]
 fn run<const IN_USER: bool, const VARIANT: u8, P>(
-    frames: u16,
+    state: &State,
     pages: impl Iterator<Item = P>,
     entry_of: impl Fn(P) -> u64,
     shadow: &mut [u64],
@@ -218,11 +237,11 @@ fn run<const IN_USER: bool, const VARIANT: u8, P>(
     let (words, _) = vector.as_chunks::<8>();
     let is_excluded =
         |frame: u64| u64::from_le_bytes(words[(frame / 64) as usize]) >> (frame % 64) & 1 != 0;
-    let frames_end = framed(frames.min(MAX_FRAMES));
+    let frames = Frames { end: framed(state.f.min(MAX_FRAMES)), ..Frames::of(state) };
     let (mut changed, mut joined) = (0, 0);
     for ((page, shadow), place) in pages.zip(shadow).zip(map) {
         let kernel = entry_of(page);
-        let entry = step::<IN_USER, VARIANT>(kernel, place, frames_end, is_excluded, &mut joined);
+        let entry = step::<IN_USER, VARIANT>(kernel, place, frames, is_excluded, &mut joined);
         changed += u64::from(*shadow != entry);
         *shadow = entry;
     }
@@ -279,7 +298,7 @@ pub fn synchronise_all_from_tree(
     all_from_tree::<{ fault::NONE }>(state, tree, shadow, map, exclusion)
 }
 
-/// Synchronising without steps 2 and 4: the kernel's frame is always taken and no page joins.
+/// Synchronising without steps 2 and 4 and without the rule for a pending frame: the kernel's frame is always taken and no page joins.
 /// It shows what approval costs; it asks the same questions of the same tables, and it guards nothing.
 pub mod without_approval {
     use super::{all, fault, one, Answer, State};

@@ -181,7 +181,7 @@ fn on_run(words: usize, devices: u64, list: usize) -> (u64, [u64; 2]) {
     }
     let mut numbers = [77; 2];
     let list = vec![window(0, 8); list];
-    let number = boundary::ask(&run, &mut numbers, |state| {
+    let number = boundary::with_state(&run, &mut numbers, |state| {
         reference::device_write(state, &[0, 0], &list, 0, 4095, 2)
     });
     (number, numbers)
@@ -190,22 +190,22 @@ fn on_run(words: usize, devices: u64, list: usize) -> (u64, [u64; 2]) {
 #[test]
 fn word_21_of_the_state_run() {
     for count in [1, 2, 63, 64] {
-        assert_eq!(on_run(22, count as u64, count), (0, [0, 1]));
-        assert_eq!(on_run(22, count as u64, count + 1), (7, [0, 0]));
+        assert_eq!(on_run(25, count as u64, count), (0, [0, 1]));
+        assert_eq!(on_run(25, count as u64, count + 1), (7, [0, 0]));
         for wide in [1 << 16, 1 << 32, 1 << 63] {
-            assert_eq!(on_run(22, count as u64 + wide, count), (7, [0, 0]));
+            assert_eq!(on_run(25, count as u64 + wide, count), (7, [0, 0]));
         }
     }
-    assert_eq!(on_run(22, 0, 0), (7, [0, 0]));
-    assert_eq!(on_run(22, 65, 65), (7, [0, 0]));
-    for words in [0, 20, 21, 23] {
+    assert_eq!(on_run(25, 0, 0), (7, [0, 0]));
+    assert_eq!(on_run(25, 65, 65), (7, [0, 0]));
+    for words in [0, 20, 21, 22, 24, 26] {
         for list in [0, 1, 64] {
             assert_eq!(on_run(words, 1, list), (7, [0, 0]), "a run of {words} words");
         }
     }
 }
 
-/// A start writes all words of the run and asks for 22.
+/// A start writes all words of the run and asks for 25.
 #[test]
 fn a_start_writes_word_21() {
     let record = record(4, 9, 1, &[(1, 2), (3, 8)]);
@@ -223,14 +223,14 @@ fn a_start_writes_word_21() {
         );
         (number, run)
     };
-    let mut left = vec![0; 22];
+    let mut left = vec![0; 25];
     left[..4].copy_from_slice(&[4, 9, 1, 1]);
     left[20] = 1;
     for devices in [1, 2, 64] {
         left[21] = devices;
-        assert_eq!(start(22, devices), (0, left.clone()));
+        assert_eq!(start(25, devices), (0, left.clone()));
     }
-    for words in [21, 23] {
+    for words in [22, 24, 26] {
         assert_eq!(start(words, 1), (7, vec![99; words]));
         assert_eq!(start(words, 0), (3, vec![99; words]), "3 comes before 7");
     }

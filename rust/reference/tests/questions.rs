@@ -4,7 +4,7 @@
 mod common;
 
 use common::{cases_record, record, refused, Guard};
-use reference::{Answer, Device, Mode, State, NO_FRAME};
+use reference::{Answer, Device, Mode, Pair, State, NO_FRAME};
 
 const NO_EXECUTE: u64 = 1 << 63;
 
@@ -70,9 +70,9 @@ fn frames_may_repeat_and_page_0_may_come_first() {
     assert_eq!(guard.exclusion, [0, 1]);
 }
 
-/// Every call in turn, with arguments that are accepted on [`busy_guard`] in one of the two modes.
+/// Every call in turn, with arguments that are accepted on [`ready`]'s guard.
 type Call = fn(&mut Guard) -> Answer;
-const CALLS: [(&str, Call); 7] = [
+const CALLS: [(&str, Call); 10] = [
     ("synchronise one", |guard| guard.synchronise_one(0)),
     ("synchronise all", |guard| guard.synchronise_all()),
     ("fetch", |guard| guard.fetch(1)),
@@ -80,6 +80,9 @@ const CALLS: [(&str, Call); 7] = [
     ("enter", |guard| guard.enter(0)),
     ("leave", |guard| guard.leave(3)),
     ("device write", |guard| guard.device_write(0, 1)),
+    ("ask", |guard| guard.ask(2, 1)),
+    ("commit", |guard| guard.commit()),
+    ("drop", |guard| guard.drop_pending()),
 ];
 
 /// A guard with an approved page, a kernel page and a user page.
@@ -87,6 +90,17 @@ fn busy_guard() -> Guard {
     let mut guard = Guard::cases();
     guard.kernel = vec![0x3003, 0x2003, 0, 0x3007];
     guard.synchronise_all().unwrap();
+    guard
+}
+
+/// The same guard where the call suits: in user mode to enter, with a pair that is pending to commit and to drop.
+fn ready(name: &str) -> Guard {
+    let mut guard = busy_guard();
+    match name {
+        "enter" => assert_eq!(guard.leave(3), Ok((2, 0))),
+        "commit" | "drop" => assert_eq!(guard.ask(2, 1), Ok((0, 0))),
+        _ => {}
+    }
     guard
 }
 
@@ -99,7 +113,7 @@ fn assert_refused(guard: &Guard, name: &str, call: Call, number: u8) {
 
 #[test]
 fn question_7_of_the_state_concerns_every_call() {
-    let broken: [fn(&mut State); 11] = [
+    let broken: [fn(&mut State); 15] = [
         |state| state.v = 0,
         |state| state.v = 2049,
         |state| state.f = 0,
@@ -111,10 +125,15 @@ fn question_7_of_the_state_concerns_every_call() {
         |state| state.devices = 0,
         |state| state.devices = 65,
         |state| state.devices = 65535,
+        |state| state.pending = Some(Pair { page: 4, frame: 0 }),
+        |state| state.pending = Some(Pair { page: 65535, frame: 3 }),
+        |state| state.pending = Some(Pair { page: 0, frame: 4 }),
+        |state| state.pending = Some(Pair { page: 3, frame: 65535 }),
     ];
     for (name, call) in CALLS {
+        assert!(call(&mut ready(name)).is_ok(), "{name} is accepted");
         for break_state in broken {
-            let mut guard = busy_guard();
+            let mut guard = ready(name);
             break_state(&mut guard.state);
             // Tables and a list of the broken sizes, so that only the state is at fault.
             guard.devices = vec![guard.devices[0]; guard.state.devices.into()];
@@ -135,13 +154,17 @@ fn question_7_concerns_the_tables_that_a_call_is_lent() {
         (
             "shadow",
             |g, by| g.shadow.resize(4_usize.wrapping_add_signed(by as isize), 1),
-            &["sync", "fetch", "write", "enter", "leave"],
+            &["sync", "fetch", "write", "enter", "leave", "ask", "commit"],
         ),
-        ("map", |g, by| g.map.resize(4_usize.wrapping_add_signed(by as isize), 1), &["sync"]),
+        (
+            "map",
+            |g, by| g.map.resize(4_usize.wrapping_add_signed(by as isize), 1),
+            &["sync", "ask", "commit"],
+        ),
         (
             "exclusion",
             |g, by| g.exclusion.resize(1_usize.wrapping_add_signed(by as isize), 0),
-            &["sync", "write", "device write"],
+            &["sync", "write", "device write", "ask", "drop"],
         ),
         (
             "list of devices",
@@ -155,10 +178,7 @@ fn question_7_concerns_the_tables_that_a_call_is_lent() {
     for (table, resize, lent_to) in tables {
         for by in [-1, 1] {
             for (name, call) in CALLS {
-                let mut guard = busy_guard();
-                if name == "enter" {
-                    guard.leave(3).unwrap();
-                }
+                let mut guard = ready(name);
                 resize(&mut guard, by);
                 if lent_to.iter().any(|prefix| name.starts_with(prefix)) {
                     assert_refused(&guard, name, call, 7);
@@ -181,6 +201,7 @@ fn question_7_comes_before_8_and_9() {
     assert_refused(&guard, "synchronise one", |guard| guard.synchronise_one(4), 7);
     assert_refused(&guard, "enter", |guard| guard.enter(1), 7);
     assert_refused(&guard, "leave", |guard| guard.leave(4), 7);
+    assert_refused(&guard, "ask", |guard| guard.ask(4, 4), 7);
 }
 
 #[test]

@@ -90,6 +90,19 @@ impl Guard {
         reference::leave(&mut self.state, &mut self.shadow, page)
     }
 
+    pub fn ask(&mut self, page: u64, frame: u64) -> Answer {
+        let Guard { state, shadow, map, exclusion, .. } = self;
+        reference::ask(state, shadow, map, exclusion, page, frame)
+    }
+
+    pub fn commit(&mut self) -> Answer {
+        reference::commit(&mut self.state, &mut self.shadow, &mut self.map)
+    }
+
+    pub fn drop_pending(&mut self) -> Answer {
+        reference::drop(&mut self.state, &mut self.exclusion)
+    }
+
     /// A write of the first device.
     pub fn device_write(&self, address: u64, length: u64) -> Answer {
         self.write_of(0, address, length)
