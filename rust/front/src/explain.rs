@@ -1,6 +1,7 @@
-//! The lines that the drill prints, in words: the start, each call, the shadow entries and the share.
+//! The lines that the drill prints, in words: the start, each call, the shadow entries and the share; and the words for the library's.
 //! One line of words for each line of the drill, in the same order; with the script at hand, an answer begins with the line that it answers.
 
+use crate::call::Call;
 use crate::refusals::refusal;
 use crate::text::shown;
 use crate::{DrillInput, LineError};
@@ -34,19 +35,16 @@ impl Explainer<'_> {
         match fields[..] {
             [kind, number, first, second, mode, running] => {
                 let (number, first, second) = (decimal(number)?, decimal(first)?, decimal(second)?);
-                let place = format!("{} mode, page {}", mode_word(mode)?, decimal(running)?);
-                let (name, outcome) = explain_call(kind, number, (first, second))?;
-                let Told { line, by, cause } = self.told_by_script(kind, number)?;
+                let (mode, running) = (mode_word(mode)?, decimal(running)?);
+                let of = Kind::of_drill(kind)?;
+                let outcome = explain_outcome(of, number, (first, second))?;
+                let told = self.told_by_script(kind, number)?;
                 self.answers += 1;
-                let is_refused_start = kind == "S" && number != 0;
-                let ending = if is_refused_start { "; no guard was started" } else { "" };
-                Ok(format!("{line}{name}{by}{outcome}{cause}; {place}{ending}"))
+                Ok(told.words(of, &outcome, number, mode, running))
             }
-            ["share", share] => {
-                Ok(format!("share: {} percent of the frames are excluded", decimal(share)?))
-            }
+            ["share", share] => Ok(explain_share(decimal(share)?)),
             [entry] => {
-                let explained = explain_entry(self.entries, hexadecimal(entry)?);
+                let explained = explain_entry(self.entries, hexadecimal(entry)?, None);
                 self.entries += 1;
                 Ok(explained)
             }
@@ -91,22 +89,37 @@ impl Explainer<'_> {
 
 /// What the script tells about an answer; nothing without it.
 #[derive(Default)]
-struct Told {
+pub(crate) struct Told {
     /// The line that the answer belongs to, as a beginning.
-    line: String,
-    /// The device of a device write.
-    by: String,
+    pub line: String,
+    /// The device of a device write; the page and the frame of an ask.
+    pub by: String,
     /// What made a call refused, or what an edited entry is.
-    cause: String,
+    pub cause: String,
 }
 
 impl Told {
-    fn at(line: usize) -> Told {
+    pub fn at(line: usize) -> Told {
         Told { line: format!("line {line}: "), ..Told::default() }
+    }
+
+    /// An answer as a whole line of words.
+    pub fn words(
+        &self,
+        kind: Kind,
+        outcome: &str,
+        number: u64,
+        mode: &str,
+        running: u64,
+    ) -> String {
+        let Told { line, by, cause } = self;
+        let is_refused_start = kind == Kind::Start && number != 0;
+        let ending = if is_refused_start { "; no guard was started" } else { "" };
+        format!("{line}{}{by}{outcome}{cause}; {mode} mode, page {running}{ending}", kind.name())
     }
 }
 
-fn in_brackets(cause: Option<String>) -> String {
+pub(crate) fn in_brackets(cause: Option<String>) -> String {
     cause.map_or(String::new(), |cause| format!(" ({cause})"))
 }
 
@@ -114,51 +127,110 @@ fn no_line(line: &str) -> String {
     format!("'{}' is no line of the drill", shown(line))
 }
 
-/// The name of a call, and what came of it.
-fn explain_call(
-    kind: &str,
+/// What an answer answers.
+#[derive(Clone, Copy, PartialEq, Eq)]
+pub(crate) enum Kind {
+    Start,
+    /// The end of the drill's calls.
+    End,
+    Edit,
+    SynchronisePage,
+    SynchroniseAll,
+    Fetch,
+    Write,
+    Enter,
+    Leave,
+    DeviceWrite,
+    Ask,
+    Commit,
+    Drop,
+}
+
+impl Kind {
+    /// The kind that a line of the drill begins with.
+    fn of_drill(word: &str) -> Result<Kind, String> {
+        Ok(match word {
+            "S" => Kind::Start,
+            "X" => Kind::End,
+            "0" => Kind::Edit,
+            "1" => Kind::SynchronisePage,
+            "2" => Kind::SynchroniseAll,
+            "3" => Kind::Fetch,
+            "4" => Kind::Write,
+            "5" => Kind::Enter,
+            "6" => Kind::Leave,
+            "7" => Kind::DeviceWrite,
+            _ => return Err(format!("'{}' is no kind of call", shown(word))),
+        })
+    }
+
+    pub fn of_call(call: Call) -> Kind {
+        match call {
+            Call::Edit { .. } => Kind::Edit,
+            Call::SynchronisePage { .. } => Kind::SynchronisePage,
+            Call::SynchroniseAll => Kind::SynchroniseAll,
+            Call::Fetch { .. } => Kind::Fetch,
+            Call::Write { .. } => Kind::Write,
+            Call::Enter { .. } => Kind::Enter,
+            Call::Leave { .. } => Kind::Leave,
+            Call::DeviceWrite { .. } => Kind::DeviceWrite,
+            Call::Ask { .. } => Kind::Ask,
+            Call::Commit => Kind::Commit,
+            Call::Drop => Kind::Drop,
+        }
+    }
+
+    fn name(self) -> &'static str {
+        match self {
+            Kind::Start => "start",
+            Kind::End => "calls ended",
+            Kind::Edit => "edit",
+            Kind::SynchronisePage => "synchronise page",
+            Kind::SynchroniseAll => "synchronise all",
+            Kind::Fetch => "fetch",
+            Kind::Write => "write",
+            Kind::Enter => "enter",
+            Kind::Leave => "leave",
+            Kind::DeviceWrite => "device write",
+            Kind::Ask => "ask",
+            Kind::Commit => "commit",
+            Kind::Drop => "drop",
+        }
+    }
+}
+
+/// What came of a call.
+pub(crate) fn explain_outcome(
+    kind: Kind,
     number: u64,
     numbers: (u64, u64),
-) -> Result<(&'static str, String), String> {
-    let name = match kind {
-        "S" => "start",
-        "X" => "calls ended",
-        "0" => "edit",
-        "1" => "synchronise page",
-        "2" => "synchronise all",
-        "3" => "fetch",
-        "4" => "write",
-        "5" => "enter",
-        "6" => "leave",
-        "7" => "device write",
-        _ => return Err(format!("'{}' is no kind of call", shown(kind))),
-    };
+) -> Result<String, String> {
     if number == 0 {
         return match kind {
-            "X" => Err("an X line carries a refusal number".into()),
-            _ => Ok((name, format!(" accepted{}", explain_numbers(kind, numbers)))),
+            Kind::End => Err("an X line carries a refusal number".into()),
+            _ => Ok(format!(" accepted{}", explain_numbers(kind, numbers))),
         };
     }
     let refusal = refusal(number).ok_or(format!("{number} is no refusal number"))?;
-    let verb = if kind == "X" { "" } else { " refused" };
-    Ok((name, format!("{verb}: {number}, {}", refusal.words)))
+    let verb = if kind == Kind::End { "" } else { " refused" };
+    Ok(format!("{verb}: {number}, {}", refusal.words))
 }
 
 /// What the two numbers of an accepted call say.
-fn explain_numbers(kind: &str, (first, second): (u64, u64)) -> String {
+fn explain_numbers(kind: Kind, (first, second): (u64, u64)) -> String {
     match kind {
-        "S" => {
+        Kind::Start => {
             let pages = counted(first, "page listed", "pages listed");
             format!(": {pages}, {}", counted(second, "entry page", "entry pages"))
         }
-        "1" | "2" => {
+        Kind::SynchronisePage | Kind::SynchroniseAll | Kind::Commit => {
             let joined = counted(second, "page joined the map", "pages joined the map");
             format!(": {}, {joined}", changed(first))
         }
-        "3" => format!(": frame {first}"),
-        "4" | "7" => format!(": first frame {first}, last frame {second}"),
-        "5" | "6" => format!(": {}", changed(first)),
-        _ => String::new(),
+        Kind::Fetch => format!(": frame {first}"),
+        Kind::Write | Kind::DeviceWrite => format!(": first frame {first}, last frame {second}"),
+        Kind::Enter | Kind::Leave => format!(": {}", changed(first)),
+        Kind::End | Kind::Edit | Kind::Ask | Kind::Drop => String::new(),
     }
 }
 
@@ -171,7 +243,7 @@ pub(crate) fn counted(count: u64, one: &str, many: &str) -> String {
 }
 
 /// A kernel entry that says present and is absent all the same: the processor would fault on it.
-fn explain_edited(entry: u64) -> &'static str {
+pub(crate) fn explain_edited(entry: u64) -> &'static str {
     const RESERVED: u64 = ((1 << 11) - 1) << 52;
     if entry & 1 == 1 && entry & RESERVED != 0 {
         " (an entry with any of bits 52 to 62 set is absent)"
@@ -180,8 +252,12 @@ fn explain_edited(entry: u64) -> &'static str {
     }
 }
 
-/// A shadow entry by its bits; bits without a name are shown as a number.
-fn explain_entry(page: u64, entry: u64) -> String {
+pub(crate) fn explain_share(share: u64) -> String {
+    format!("share: {share} percent of the frames are excluded")
+}
+
+/// A shadow entry by its bits; bits without a name are shown as a number. Bit 9 has another reason while the frame is pending.
+pub(crate) fn explain_entry(page: u64, entry: u64, pending_frame: Option<u64>) -> String {
     const FRAME: u64 = ((1 << 40) - 1) << 12;
     const NAMES: [(u32, &str); 8] = [
         (0, "present"),
@@ -196,12 +272,18 @@ fn explain_entry(page: u64, entry: u64) -> String {
     if entry == 0 {
         return format!("page {page}: absent");
     }
+    let frame = (entry & FRAME) >> 12;
+    let is_pending = pending_frame == Some(frame);
     let named = NAMES.iter().filter(|(bit, _)| entry >> bit & 1 == 1);
-    let mut words: Vec<_> = named.map(|&(_, name)| name.to_string()).collect();
+    let name_of = |&(bit, name): &(u32, &str)| match bit {
+        9 if is_pending => "no-execute while pending".to_string(),
+        _ => name.to_string(),
+    };
+    let mut words: Vec<_> = named.map(name_of).collect();
     if entry & 1 == 0 {
         words.insert(0, "absent".into());
     }
-    words.push(format!("frame {}", (entry & FRAME) >> 12));
+    words.push(format!("frame {frame}"));
     let other = NAMES.iter().fold(entry & !FRAME, |rest, (bit, _)| rest & !(1 << bit));
     if other != 0 {
         words.push(format!("other bits 0x{other:x}"));

@@ -1,11 +1,13 @@
-//! The readable front of the page guard: scripts become drill input, policies sizes and arrays, drill output words.
+//! The readable front of the page guard: scripts become drill input or calls of the library, policies sizes and arrays, answers words.
 //! The words of the refusal numbers come from docs/refusals.txt alone.
 #![forbid(unsafe_code)]
 
+mod call;
 mod cause;
 pub mod console;
 mod explain;
 mod input;
+mod library;
 mod policy;
 mod refusals;
 mod run;
@@ -15,8 +17,10 @@ mod words;
 
 use std::fmt;
 
+pub use call::Call;
 pub use explain::explain;
 pub use input::DrillInput;
+pub use library::{explain_end, Answer, Script, ScriptCall};
 pub use policy::{Number, Policy};
 pub use refusals::{refusals, refusals_page, RefusalWords};
 pub use run::{run, Explained, RunError};

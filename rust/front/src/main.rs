@@ -29,7 +29,8 @@ A script has one item a line; # begins a comment; numbers are decimal, or hexade
                                    0 to 63, and all frames are the window of each
   call kind K index I length L value X     any call, also one of an unknown kind
   bytes [B ..]                             bytes as they are, also in place of the policy
-At most 1024 calls follow the policy.
+At most 1024 calls follow the policy. The drill has no ask, commit and drop: guard-script runs a
+script with them through the library.
 ";
 
 fn main() -> ExitCode {

@@ -1,18 +1,14 @@
 //! A readable script of a policy and calls becomes the bytes that the drill reads.
 //! Only what the binary form asks is checked, that each number fits its field, so refused calls can be written too.
 
+use crate::call::{bytes_of, Call, INDEX, LENGTH};
 use crate::input::DrillInput;
 use crate::policy::PolicyLines;
 use crate::text::shown;
-use crate::words::{field16, items, last_line, Field, Words, PAGE};
+use crate::words::{field64, items, last_line, Field, Words};
 use crate::LineError;
 
-const INDEX: Field = field16("index");
-const DEVICE: Field = field16("device");
-const LENGTH: Field = Field { name: "length", largest: u32::MAX as u64 };
-const ADDRESS: Field = Field { name: "address", largest: u64::MAX };
-const ENTRY: Field = Field { name: "entry", largest: u64::MAX };
-const VALUE: Field = Field { name: "value", largest: u64::MAX };
+const VALUE: Field = field64("value");
 const BYTE: Field = Field { name: "byte", largest: u8::MAX as u64 };
 const KIND: Field = Field { name: "kind", largest: u8::MAX as u64 };
 
@@ -27,16 +23,6 @@ pub fn encode(script: &str) -> Result<DrillInput, LineError> {
         words.end()?;
     }
     encoder.finish(last_line(script))
-}
-
-/// The 16 bytes of a call.
-fn call(kind: u8, index: u16, length: u64, value: u64) -> [u8; 16] {
-    let mut bytes = [0; 16];
-    bytes[0] = kind;
-    bytes[2..4].copy_from_slice(&index.to_le_bytes());
-    bytes[4..8].copy_from_slice(&(length as u32).to_le_bytes());
-    bytes[8..].copy_from_slice(&value.to_le_bytes());
-    bytes
 }
 
 #[derive(Default)]
@@ -110,33 +96,22 @@ fn read_bytes(words: &mut Words) -> Result<Vec<u8>, LineError> {
     Ok(bytes)
 }
 
+/// A call that the drill makes, or one of any kind.
 fn read_call(name: &str, words: &mut Words) -> Result<[u8; 16], LineError> {
-    Ok(match name {
-        "edit" => {
-            let page = words.named16("page", PAGE)?;
-            call(0, page, 0, words.named("entry", ENTRY)?)
-        }
-        "synchronise" if words.has_name("all") => call(2, 0, 0, 0),
-        "synchronise" => call(1, words.named16("page", PAGE)?, 0, 0),
-        "fetch" => call(3, words.named16("page", PAGE)?, 0, 0),
-        "write" => read_access(4, 0, words)?,
-        "enter" => call(5, words.named16("index", INDEX)?, 0, 0),
-        "leave" => call(6, words.named16("page", PAGE)?, 0, 0),
-        "device-write" => {
-            let device = if words.has_name("device") { words.number(DEVICE)? as u16 } else { 0 };
-            read_access(7, device, words)?
-        }
+    match name {
         "call" => {
             let kind = words.named("kind", KIND)? as u8;
             let index = words.named16("index", INDEX)?;
-            let length = words.named("length", LENGTH)?;
-            call(kind, index, length, words.named("value", VALUE)?)
+            let length = words.named("length", LENGTH)? as u32;
+            Ok(bytes_of(kind, index, length, words.named("value", VALUE)?))
         }
-        _ => return words.error(format!("'{}' is no item; an item is {ITEMS}", shown(name))),
-    })
-}
-
-fn read_access(kind: u8, index: u16, words: &mut Words) -> Result<[u8; 16], LineError> {
-    let address = words.named("address", ADDRESS)?;
-    Ok(call(kind, index, words.named("length", LENGTH)?, address))
+        "ask" | "commit" | "drop" => {
+            let other = "guard-script runs a script with it through the library";
+            words.error(format!("'{name}' is no call of the drill; {other}"))
+        }
+        _ => match Call::read(name, words)?.and_then(Call::bytes) {
+            Some(bytes) => Ok(bytes),
+            None => words.error(format!("'{}' is no item; an item is {ITEMS}", shown(name))),
+        },
+    }
 }

@@ -4,7 +4,7 @@
 use crate::text::shown;
 use crate::LineError;
 
-/// The field of the binary form that a number goes to.
+/// The field that a number goes to.
 #[derive(Clone, Copy)]
 pub(crate) struct Field {
     pub name: &'static str,
@@ -13,6 +13,10 @@ pub(crate) struct Field {
 
 pub(crate) const fn field16(name: &'static str) -> Field {
     Field { name, largest: u16::MAX as u64 }
+}
+
+pub(crate) const fn field64(name: &'static str) -> Field {
+    Field { name, largest: u64::MAX }
 }
 
 pub(crate) const PAGE: Field = field16("page");

@@ -112,6 +112,17 @@ fn bad_input_gives_a_line_and_nothing_else() {
     assert_eq!(message(&["explain"], b"S 0 1 1 K 1\nT\n"), "line 2: 'T' is no line of the drill\n");
 }
 
+/// The drill has no ask, commit and drop: a script with one is refused by the line of the first.
+#[test]
+fn scripts_for_the_library() {
+    let script = common::read("examples/driver.script");
+    let told = "line 21: 'ask' is no call of the drill; guard-script runs a script with it through the library\n";
+    assert_eq!(message(&["encode"], script.as_bytes()), told);
+    assert_eq!(message(&["run", "cat"], script.as_bytes()), told);
+    let path = path("examples/driver.script");
+    assert_eq!(message(&["explain", &path], b"S 0 1 1 K 1\n"), format!("{path}, {told}"));
+}
+
 #[test]
 fn wrong_use_gives_the_usage() {
     let uses = [

@@ -189,6 +189,10 @@ fn bad_items() {
         ("leave index 0", "'page' is expected, not 'index'"),
         ("call kind 256 index 0 length 0 value 0", "the kind 256 does not fit its field, at most 255"),
         ("bytes 1 256", "the byte 256 does not fit its field, at most 255"),
+        ("ask page 3 frame 7", "'ask' is no call of the drill; guard-script runs a script with it through the library"),
+        ("ask", "'ask' is no call of the drill; guard-script runs a script with it through the library"),
+        ("commit", "'commit' is no call of the drill; guard-script runs a script with it through the library"),
+        ("drop", "'drop' is no call of the drill; guard-script runs a script with it through the library"),
     ];
     for (item, message) in items {
         let script = format!("# first\npolicy pages 4 frames 4\n\n{item}\nfetch page nowhere\n");

@@ -1,48 +1,23 @@
 //! The program `guard-record` as a person runs it: records, refusals with their lines, messages and exit status.
 //! Expected bytes are written out; beside them, the front's own encoder makes the same of each policy.
 
-use std::ffi::OsStr;
-use std::fs;
-use std::io::Write;
-use std::os::unix::ffi::OsStrExt;
-use std::path::Path;
-use std::process::{Child, Command, Output, Stdio};
+mod common;
 
+use common::{assert_closed_pipes, assert_usage, example, finished, started};
 use front::encode;
 
+const PROGRAM: &str = env!("CARGO_BIN_EXE_guard-record");
 const POLICY: &str = "policy pages 4 frames 4\napprove page 1 frame 2 entry\n";
-
-/// The program, started, with pipes for its input, output and messages.
-fn started(arguments: &[&OsStr]) -> Child {
-    let mut command = Command::new(env!("CARGO_BIN_EXE_guard-record"));
-    let piped = command.stdin(Stdio::piped()).stdout(Stdio::piped()).stderr(Stdio::piped());
-    piped.args(arguments).spawn().unwrap()
-}
-
-/// Gives the program its input, and waits for its end.
-fn finished(mut child: Child, input: &[u8]) -> Output {
-    // A program that ends before it reads closes the pipe.
-    let _ = child.stdin.take().unwrap().write_all(input);
-    child.wait_with_output().unwrap()
-}
 
 /// The record of a policy, where nothing is told.
 fn record(policy: impl AsRef<[u8]>) -> Vec<u8> {
-    let output = finished(started(&[]), policy.as_ref());
+    let output = finished(started(PROGRAM, &[]), policy.as_ref());
     assert_eq!((output.status.code(), &*output.stderr), (Some(0), &b""[..]));
     output.stdout
 }
 
-/// The message on standard error, where the status is 1 and nothing is printed.
 fn message(policy: impl AsRef<[u8]>) -> String {
-    let output = finished(started(&[]), policy.as_ref());
-    assert_eq!((output.status.code(), &*output.stdout), (Some(1), &b""[..]));
-    String::from_utf8(output.stderr).unwrap()
-}
-
-fn example(name: &str) -> String {
-    let path = Path::new(env!("CARGO_MANIFEST_DIR")).join("../../examples").join(name);
-    fs::read_to_string(&path).unwrap_or_else(|error| panic!("{}: {error}", path.display()))
+    common::message(PROGRAM, policy.as_ref())
 }
 
 /// A policy line of these sizes after a comment, and an approval for each part of a list: lines 2, 3 and so on.
@@ -208,29 +183,10 @@ fn bad_input_gives_a_line_and_nothing_else() {
 
 #[test]
 fn wrong_use_gives_the_usage() {
-    let odd = OsStr::from_bytes(b"\xff\x1b");
-    for arguments in [&["file".as_ref()][..], &["help".as_ref(), "help".as_ref()], &[odd]] {
-        let output = finished(started(arguments), POLICY.as_bytes());
-        assert_eq!(output.status.code(), Some(2), "{arguments:?}");
-        assert!(output.stdout.is_empty() && output.stderr.starts_with(b"usage: guard-record < "));
-    }
-    for help in ["help", "--help", "-h"] {
-        let output = finished(started(&[help.as_ref()]), b"");
-        assert_eq!(output.status.code(), Some(0), "{help}");
-        assert!(output.stderr.is_empty() && output.stdout.starts_with(b"usage: guard-record < "));
-    }
+    assert_usage(PROGRAM, "usage: guard-record < ", POLICY.as_bytes());
 }
 
-/// No panic, which would end with 101, where nobody reads what the program writes.
 #[test]
 fn closed_pipes() {
-    let mut child = started(&[]);
-    drop(child.stdout.take());
-    let output = finished(child, POLICY.as_bytes());
-    assert_eq!(output.status.code(), Some(1));
-    let told = String::from_utf8(output.stderr).unwrap();
-    assert!(told.starts_with("standard output cannot be written: "), "{told}");
-    let mut child = started(&[]);
-    drop(child.stderr.take());
-    assert_eq!(finished(child, b"no policy").status.code(), Some(1));
+    assert_closed_pipes(PROGRAM, POLICY.as_bytes());
 }
