@@ -301,16 +301,7 @@ module _ (run : List ℕ) where
   word at = getD run at 0
 
   abbrev pairAsked : Bool
-  pairAsked = cond (eqb (word pendingAt) 1) (both (ltb (word pendingPageAt) (word pagesAt)) (ltb (word pendingFrameAt) (word framesAt))) true
-
-  pair-narrow : word pagesAt ≤ widest → word framesAt ≤ widest → pairAsked ≡ pendingInRange (field run pagesAt) (field run framesAt) (pendingIn run)
-  unfolding pendingIn pendingInRange field
-  pair-narrow p f = by (eqb (word pendingAt) 1)
-    where
-      by : (b : Bool) → cond b (both (ltb (word pendingPageAt) (word pagesAt)) (ltb (word pendingFrameAt) (word framesAt))) true
-          ≡ pendingInRange (field run pagesAt) (field run framesAt) (cond b (Pair (field run pendingPageAt) (field run pendingFrameAt)) Nothing)
-      by true = rw (narrow-ltb (word pendingPageAt) (word pagesAt) p, narrow-ltb (word pendingFrameAt) (word framesAt) f) refl
-      by false = refl
+  pairAsked = pendingInRange (field run pagesAt) (field run framesAt) (pendingIn run)
 
   words-asked : both (pagesInRange (word pagesAt)) (both (framesInRange (word framesAt)) (both (within 1 16 (word entryCountAt))
       (both (ltb (word runningAt) (word pagesAt)) (both (devicesInRange (word devicesAt)) pairAsked))))
@@ -324,26 +315,31 @@ module _ (run : List ℕ) where
         narrow-within 1 16 (word entryCountAt) (omega arith),
         narrow-within 1 64 (word devicesAt) (omega arith),
       )
-      (by (within 1 2048 (word pagesAt)) (within 1 4096 (word framesAt)) refl refl)
+      (by (within 1 2048 (word pagesAt)) refl)
     where
-      by : (a b : Bool) → within 1 2048 (word pagesAt) ≡ a → within 1 4096 (word framesAt) ≡ b
-          → both a (both b (both (within 1 16 (word entryCountAt)) (both (ltb (word runningAt) (word pagesAt)) (both (within 1 64 (word devicesAt)) pairAsked))))
-          ≡ both a (both b (both (within 1 16 (word entryCountAt)) (both (ltb (narrow (word runningAt)) (narrow (word pagesAt)))
-          (both (within 1 64 (word devicesAt)) (pendingInRange (field run pagesAt) (field run framesAt) (pendingIn run))))))
-      by false b h i = refl
-      by true false h i = refl
-      by true true h i =
+      rest : Bool → Bool
+      rest below =
+          both (within 1 4096 (word framesAt)) (both (within 1 16 (word entryCountAt)) (both below (both (within 1 64 (word devicesAt)) pairAsked)))
+
+      by : (a : Bool) → within 1 2048 (word pagesAt) ≡ a
+          → both a (rest (ltb (word runningAt) (word pagesAt))) ≡ both a (rest (ltb (narrow (word runningAt)) (narrow (word pagesAt))))
+      by false h = refl
+      by true h =
           let few : word pagesAt ≤ 2048 = within-high 1 2048 (word pagesAt) h in
-          let fewer : word framesAt ≤ 4096 = within-high 1 4096 (word framesAt) i in
-          rw (narrow-ltb (word runningAt) (word pagesAt) (omega arith), pair-narrow (omega arith) (omega arith)) refl
+          rw (narrow-ltb (word runningAt) (word pagesAt) (omega arith)) refl
 
   module _ (a : Bool) (asked : a ≡ pagesInRange (word pagesAt)) where
     pub pages-wrong : not a ≡ true → false ≡ stateInOrder (stateIn run)
     unfolding both
     pages-wrong n = rw (sym asked ∙ not-true a n) at words-asked
 
-    pub words-in-order : (b d k w v x y z : Bool) → not a ≡ false → z ≡ both b y → y ≡ both d x → x ≡ both (ltb (word runningAt) (word pagesAt)) v
-        → v ≡ both k w → b ≡ framesInRange (word framesAt) → d ≡ within 1 16 (word entryCountAt) → k ≡ devicesInRange (word devicesAt) → w ≡ pairAsked
-        → z ≡ stateInOrder (stateIn run)
+    pub frames-wrong : (b : Bool) → not a ≡ false → b ≡ framesInRange (word framesAt) → not b ≡ true → false ≡ stateInOrder (stateIn run)
     unfolding both
-    words-in-order b d k w v x y z n e1 e2 e3 e4 e5 e6 e7 e8 = rw (e1, e2, e3, e4, e5, e6, e7, e8) (rw (sym asked ∙ not-false a n) at words-asked)
+    frames-wrong b m then n = rw (sym asked ∙ not-false a m, sym then ∙ not-true b n) at words-asked
+
+    pub words-in-order : (b d k w v x z : Bool) → not a ≡ false → not b ≡ false → b ≡ framesInRange (word framesAt) → z ≡ both d x
+        → x ≡ both (ltb (word runningAt) (word pagesAt)) v → v ≡ both k w → d ≡ within 1 16 (word entryCountAt) → k ≡ devicesInRange (word devicesAt)
+        → w ≡ pairAsked → z ≡ stateInOrder (stateIn run)
+    unfolding both
+    words-in-order b d k w v x z m n then e1 e2 e3 e4 e5 e6 =
+        rw (e1, e2, e3, e4, e5, e6) (rw (sym asked ∙ not-false a m, sym then ∙ not-false b n) at words-asked)

@@ -50,13 +50,6 @@ pub nothing-read : (run : List ℕ) → (getD run pendingAt 0 ≡ 1 → ⊥) →
 unfolding pendingIn
 nothing-read run w = rw (ne-eqb (getD run pendingAt 0) 1 w) refl
 
--- A pair is asked where one is pending.
-pub pair-asked : (word : ℕ) (r asked : Bool) → word ≡ 1 → r ≡ asked → r ≡ cond (eqb word 1) asked true
-pair-asked word r asked w e = rw (eq-eqb word 1 w) e
-
-pub nothing-asked : (word : ℕ) (asked : Bool) → (word ≡ 1 → ⊥) → true ≡ cond (eqb word 1) asked true
-nothing-asked word asked w = rw (ne-eqb word 1 w) refl
-
 -- The entry pages, read place by place: those below i have been read.
 pub entries-more : (run t : List ℕ) (i v : ℕ) → length t ≡ entryWords → i < entryWords → ((k : ℕ) → k < i → getD t k 0 ≡ field run (entryPagesAt + k))
     → v ≡ field run (entryPagesAt + i) → (k : ℕ) → k < i + 1 → getD (set t i v) k 0 ≡ field run (entryPagesAt + k)

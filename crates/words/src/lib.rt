@@ -3,17 +3,17 @@
 
 ghost use mathlib.Core.Path.{_≡_};
 ghost use mathlib.Core.List.{[], _∷_, _++_};
-ghost use mathlib.Core.Bool.{true, cond};
+ghost use mathlib.Core.Bool.{true};
 ghost use Prim.Native.Nat.{_<_};
-ghost use lib.ListN.{length, getD, take};
+ghost use lib.ListN.{length, take};
 ghost use lib.Seq.{paste};
-ghost use lib.Dec.{ltb, eqb};
+ghost use lib.Dec.{eqb};
 ghost use Rattle.model.specs.Basics;
 ghost use Rattle.model.specs.Keeps.{modeOf, running};
 ghost use Rattle.model.specs.Questions.{pendingInRange, stateInOrder};
 ghost use Rattle.model.specs.Calls.{replyOf};
 ghost use Rattle.words.specs.Words;
-ghost use Rattle.words.specs.Words.{stateWords, entryPagesAt, modeAt, pendingAt, pendingPageAt, pendingFrameAt, entryWords, answerNumbers, entryPagesIn, pendingIn, stateIn, modeWord, lastWords, wordsOf, withWords, pagePlaces, modePlaces, pendingPlaces, overwritten, withNumbers, runsFit, runAfter, runStarted, WideRefused, WidePairRefused};
+ghost use Rattle.words.specs.Words.{stateWords, pagesAt, framesAt, entryPagesAt, modeAt, entryWords, answerNumbers, entryPagesIn, pendingIn, stateIn, modeWord, lastWords, wordsOf, withWords, pagePlaces, modePlaces, pendingPlaces, overwritten, withNumbers, runsFit, runAfter, runStarted, WideRefused, WidePairRefused};
 use model::Answer;
 use model::Called;
 use model::ENTRY_PAGES;
@@ -113,16 +113,16 @@ fn entry_pages(run: &[u64]) -> [u16; ENTRY_PAGES]
     entry
 }
 
-// What is pending. Where no pair is, its words are not read.
+// What is pending. Where no pair is, its words say nothing. They are loaded before that is asked: decoding then has no branch, and the compiler takes a
+// state apart in each call.
 fn pending_in(run: &[u64]) -> Pending
     requires { ⌜ length (now run) ≡ stateWords ⌝ }
     ensures { λ r. ⌜ r ≡ pendingIn (now (run .entry)) ⌝ }
 {
+    let page = field(run, STATE_PENDING_PAGE);
+    let frame = field(run, STATE_PENDING_FRAME);
     if run[STATE_PENDING] == PENDING {
-        Pending::Pair(
-            field(run, STATE_PENDING_PAGE),
-            field(run, STATE_PENDING_FRAME),
-        )
+        Pending::Pair(page, frame)
     } else {
         Pending::Nothing
     }
@@ -252,22 +252,18 @@ fn lendable(run: &[u64], numbers: &[u64], count: usize) -> bool
     questions::both(run[STATE_MODE] <= MODE_USER, run[STATE_PENDING] <= PENDING)
 }
 
-// The words of a pair, where one is pending: the page is below V and the frame below F.
-fn pair_in_order(run: &[u64], pages: u64, frames: u64) -> bool
+// The pair, where one is pending: its page is below V and its frame below F. It is asked of the fields, as the calls below ask it: the compiler asks it once.
+fn pair_in_order(run: &[u64]) -> bool
     requires { ⌜ length (now run) ≡ stateWords ⌝ }
-    ensures { λ r. ⌜ r ≡ cond (eqb (getD (now (run .entry)) pendingAt 0) 1) (Basics.both (ltb (getD (now (run .entry)) pendingPageAt 0) pages) (ltb (getD (now (run .entry)) pendingFrameAt 0) frames)) true ⌝ }
+    ensures { λ r. ⌜ r ≡ pendingInRange (Words.field (now (run .entry)) pagesAt) (Words.field (now (run .entry)) framesAt) (pendingIn (now (run .entry))) ⌝ }
 {
-    if run[STATE_PENDING] != PENDING {
-        return true;
-    }
-    questions::both(
-        run[STATE_PENDING_PAGE] < pages,
-        run[STATE_PENDING_FRAME] < frames,
-    )
+    let pages = field(run, STATE_PAGES);
+    let frames = field(run, STATE_FRAMES);
+    questions::pending_in_range(pages, frames, pending_in(run))
 }
 
-// The state's part of question 7, on the words of a run. The compiler then drops what the calls below ask of the fields. V is asked first: the
-// compiler then knows that a running page below V has 16 bits.
+// The state's part of question 7, on the words of a run. The compiler then drops what the calls below ask of the fields. V and F are asked first: the
+// compiler then knows that a running page below V, and a pair below V and F, have 16 bits.
 fn words_in_order(run: &[u64]) -> bool
     requires { ⌜ length (now run) ≡ stateWords ⌝ }
     ensures { λ r. ⌜ r ≡ stateInOrder (stateIn (now (run .entry))) ⌝ }
@@ -276,15 +272,14 @@ fn words_in_order(run: &[u64]) -> bool
     if !questions::pages_in_range(pages) {
         return false;
     }
-    let frames = run[STATE_FRAMES];
-    let pair = pair_in_order(run, pages, frames);
+    if !questions::frames_in_range(run[STATE_FRAMES]) {
+        return false;
+    }
     let entries = questions::entry_count_in_range(run[STATE_ENTRIES]);
     let devices = questions::devices_in_range(run[STATE_DEVICES]);
+    let pair = pair_in_order(run);
     let running = questions::both(run[STATE_RUNNING] < pages, questions::both(devices, pair));
-    questions::both(
-        questions::frames_in_range(frames),
-        questions::both(entries, running),
-    )
+    questions::both(entries, running)
 }
 
 // Both runs can be lent, and the state is in order.

@@ -1,5 +1,5 @@
--- V is out of range, or the rest is asked.
-use Rattle.words.proofs.StateLaws.{pages-wrong, words-in-order}
+-- V or F is out of range, or the rest is asked.
+use Rattle.words.proofs.StateLaws.{pages-wrong, frames-wrong, words-in-order}
 use borrow.Author.Needs.{needs}
 use Rattle.words.proofs.words_in_order.Statement.{statement}
 use Rattle.words.proofs.words_in_order.Tie as tie
@@ -8,12 +8,14 @@ returns : tie.Need-returns
 returns c = search (needs, pages-wrong)
 
 returns-2 : tie.Need-returns-2
-returns-2 c = search (needs, words-in-order)
+returns-2 c = search (needs, frames-wrong)
+
+returns-3 : tie.Need-returns-3
+returns-3 c = search (needs, words-in-order)
 
 pub words-in-order-spec : {M : Type 1} → statement M
 words-in-order-spec =
     tie.close
-    (tie.spec (λ c. search needs) (λ c κs. search needs) returns (λ c. search needs) (λ c κs. search needs)
-    (λ c. search needs) (λ c κs. search needs) (λ c. search needs) (λ c κs. search needs) (λ c. search needs)
-    (λ c κs. search needs) (λ c κs. search needs) (λ c κs. search needs) (λ c κs. search needs) (λ c κs. search needs)
-    returns-2)
+    (tie.spec (λ c. search needs) (λ c κs. search needs) returns (λ c. search needs) (λ c κs. search needs) returns-2
+    (λ c. search needs) (λ c κs. search needs) (λ c. search needs) (λ c κs. search needs) (λ c κs. search needs)
+    (λ c. search needs) (λ c κs. search needs) (λ c κs. search needs) (λ c κs. search needs) returns-3)
