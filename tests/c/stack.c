@@ -117,7 +117,7 @@ static uint64_t depth(struct call call, uint8_t pattern)
     return end - low;
 }
 
-/* Everything that a call may change, so that it can be made twice on the same. */
+/* Everything that a call may change, so that it can be made again on the same. */
 struct runs {
     uint64_t state[GUARD_STATE_WORDS];
     uint64_t shadow[PAGES];
@@ -143,16 +143,30 @@ static void put_back(void)
     memcpy(exclusion, kept.exclusion, sizeof exclusion);
 }
 
-/* Makes a call twice, with two patterns: a byte that a call overwrote with the one pattern differs from the other. */
+/* The last page is pending with the last frame. */
+static void put_pair(void)
+{
+    state[GUARD_STATE_PENDING] = 1;
+    state[GUARD_STATE_PENDING_PAGE] = PAGES - 1;
+    state[GUARD_STATE_PENDING_FRAME] = FRAMES - 1;
+    exclusion[VECTOR - 1] |= 128;
+}
+
+/* Makes a call where a pair is pending, since question 7 asks more there, and then as things stand. Each time it is made with two
+ * patterns: a byte that a call overwrote with the one pattern differs from the other. */
 static void measure(struct call call)
 {
+    static const uint8_t patterns[] = {0xa5, 0x5a};
     keep();
-    uint64_t one = depth(call, 0xa5);
-    put_back();
-    uint64_t other = depth(call, 0x5a);
-    uint64_t bytes = one > other ? one : other;
-    if (bytes > deepest)
-        deepest = bytes;
+    for (int pending = 1; pending >= 0; pending--)
+        for (size_t i = 0; i < sizeof patterns; i++) {
+            put_back();
+            if (pending)
+                put_pair();
+            uint64_t bytes = depth(call, patterns[i]);
+            if (bytes > deepest)
+                deepest = bytes;
+        }
 }
 
 /* A pointer as an argument, and the arguments of a call. */
