@@ -15,15 +15,15 @@ use Rattle.model.specs.declared.Called.{Called}
 use Rattle.model.specs.Basics.{both, everyFrom}
 use Rattle.model.specs.Keeps.{none, Tables, withShadow, withMap, withExclusion, withThree, Guard, guardOf, vectorBytes, excludedIn, withBit, inUser, isPending, pendingFrame, isAsked, withPending}
 use Rattle.model.specs.Approvals.{mapsWritable, committedSlot}
-use Rattle.model.specs.Sync.{Slot, Sweep, sweep, sweepFrom}
-use Rattle.model.specs.Questions.{Question, question, firstNo, stateInOrder, inOrder, askQuestions, pageUnapproved, commitQuestions, dropQuestions}
+use Rattle.model.specs.Sync.{Sweep, sweep, sweepFrom}
+use Rattle.model.specs.Questions.{Question, question, firstNo, pendingInRange, stateInOrder, inOrder, askQuestions, pageUnapproved, commitQuestions, dropQuestions}
 use Rattle.model.specs.Calls.{Outcome, outcome, accepted, replyOf, outcomeBy, ask, commit, drop, questionsOf, bitPut, pairCommitted, effectOf, answer}
 use Rattle.model.proofs.QuestionLaws.{both-first, both-second, firstNo-yes, firstNo-no}
-use Rattle.model.proofs.StateLaws.{pages-few, frames-few, in-order}
+use Rattle.model.proofs.StateLaws.{pages-few, frames-few, in-order, state-parts}
 use Rattle.model.proofs.CallLaws.{passed, stopped, none-left, refused-by, accepted-by}
 use Rattle.model.proofs.TouchLaws.{every-no, every-yes}
-use Rattle.model.proofs.SweepLaws.{getD-inside, whole, whole-more, whole-over}
-use Rattle.step.specs.Steps.{stored}
+use Rattle.model.proofs.SweepLaws.{getD-inside}
+use Rattle.approvals.proofs.CommitLaws.{committing}
 
 -- A page's number in the map, and past its end.
 pub approval-in : (map : List ℕ) (page : ℕ) → page < length map → getD map page 0 ≡ getD map page none
@@ -130,23 +130,6 @@ module _ (s : State) (shadow map exclusion : List ℕ) (page frame : ℕ) (r7 : 
             (sym (passed 7 0 r7 _ _ e7 y7 (passed 9 0 r9 _ _ e9 y9 (passed 20 0 r20 _ _ e20-is y20 (passed 21 0 r21 _ _ e21-is y21 none-left)))))
             (rw (p, q, page-low, frame-low) refl)
 
--- A commit, page by page.
-abbrev pub committing : Bool → ℕ → ℕ → ℕ → ℕ → ℕ → Slot
-committing user page frame p entry approval = committedSlot user frame (eqb p page) entry approval
-
-pub commit-more : (user : Bool) (page frame i : ℕ) (b : Bool) (shadow map shadow′ map′ : List ℕ) (changed joined x y : ℕ) (all : Sweep)
-    → whole (committing user page frame) i (sweep shadow map changed joined) ≡ all → i < length shadow → length map ≡ length shadow → b ≡ eqb i page
-    → sweep shadow′ map′ x y ≡ stored i (sweep shadow map changed joined) (committedSlot user frame b (getD shadow i 0) (getD map i 0))
-    → whole (committing user page frame) (i + 1) (sweep shadow′ map′ x y) ≡ all
-unfolding stored
-commit-more user page frame i b shadow map shadow′ map′ changed joined x y all inv l lm e p =
-    let q : Slot = committedSlot user frame (eqb i page) (getD shadow i 0) (getD map i 0) in
-    rw (rw e at p) (whole-more (committing user page frame) i shadow map changed joined (q .entry) (q .approval) _ _ all inv l (omega arith) refl refl refl)
-
-pub commit-over : (user : Bool) (page frame i : ℕ) (shadow map : List ℕ) (changed joined : ℕ) (all : Sweep)
-    → whole (committing user page frame) i (sweep shadow map changed joined) ≡ all → length shadow ≤ i → sweep shadow map changed joined ≡ all
-commit-over user page frame i shadow map changed joined all inv past = whole-over (committing user page frame) i shadow map changed joined all inv past
-
 -- The commit as a call.
 module _ (s : State) (shadow map : List ℕ) (r7 : Bool)
     (e7 : r7 ≡ inOrder (stateInOrder s) (eqb (length shadow) (s .pages) ∷ eqb (length map) (s .pages) ∷ [])) where
@@ -165,6 +148,22 @@ module _ (s : State) (shadow map : List ℕ) (r7 : Bool)
     commit-same =
         let all = in-order _ _ (sym e7 ∙ not-false r7 y7) in
         eqb-true _ _ (all .1 .1 .0) ∙ sym (eqb-true _ _ (all .1 .0))
+
+    -- Question 7 has settled that the tables have V entries, and that the pair is below V and F.
+    pub commit-few : length shadow ≤ 2048
+    commit-few =
+        let all = in-order _ _ (sym e7 ∙ not-false r7 y7) in
+        rw (eqb-true (length shadow) (s .pages) (all .1 .0)) (pages-few s (all .0))
+
+    pub commit-below : (page frame : ℕ) → s .pending ≡ Pair page frame → (page < length shadow) × (frame < 4096)
+    unfolding pendingInRange
+    commit-below page frame is =
+        let all = in-order _ _ (sym e7 ∙ not-false r7 y7) in
+        let pair : both (ltb page (s .pages)) (ltb frame (s .frames)) ≡ true = rw is at (state-parts s (all .0) .pending) in
+        let below : frame < s .frames = ltb-true frame (s .frames) (both-second (ltb page (s .pages)) (ltb frame (s .frames)) pair) in (
+          rw (eqb-true (length shadow) (s .pages) (all .1 .0)) (ltb-true page (s .pages) (both-first _ _ pair)),
+          omega (arith, below, frames-few s (all .0)),
+        )
 
     pub commit-22 : (r : Called) → s .pending ≡ Nothing → r .answer ≡ Refused 22 → r .state ≡ s → CommitRefuses r
     unfolding questionsOf commitQuestions pageUnapproved isPending

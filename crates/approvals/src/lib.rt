@@ -7,7 +7,8 @@ use model::Pending;
 use model::State;
 use step::Counts;
 ghost use mathlib.Core.Path.{_≡_};
-ghost use mathlib.Core.Bool.{not};
+ghost use mathlib.Core.Bool.{false, not};
+ghost use Prim.Native.Nat.{_≤_, _<_};
 ghost use lib.Dec.{eqb};
 ghost use lib.ListN.{length, getD};
 ghost use Rattle.model.specs.Basics.{both, everyFrom};
@@ -90,11 +91,12 @@ pub fn ask(
     }
 }
 
-// What a commit makes of every page, in rising order. The tables have one length, which question 7 has settled.
-fn commit_pages(user: bool, page: u16, frame: u16, shadow: &mut [u64], map: &mut [u16]) -> Counts
+// What a commit makes of every page but the asked one, in rising order. The tables have one length, which question 7 has settled.
+fn commit_others(user: bool, frame: u16, shadow: &mut [u64], map: &mut [u16]) -> Counts
     requires { ⌜ length (now map) ≡ length (now shadow) ⌝ }
-    ensures { λ r. ⌜ sweep (now (shadow .exit)) (now (map .exit)) (r .changed) (r .joined)
-        ≡ sweepFrom (λ p entry approval. committedSlot user frame (eqb p page) entry approval) 0 (now (shadow .entry)) (now (map .entry)) ⌝ }
+    ensures { λ r. ⌜ (sweep (now (shadow .exit)) (now (map .exit)) (r .changed) (r .joined)
+        ≡ sweepFrom (λ p entry approval. committedSlot user frame false entry approval) 0 (now (shadow .entry)) (now (map .entry)))
+        × (r .changed ≤ length (now (shadow .entry))) × (r .joined ≤ length (now (shadow .entry))) ⌝ }
 {
     let mut counts = Counts {
         changed: 0,
@@ -102,10 +104,29 @@ fn commit_pages(user: bool, page: u16, frame: u16, shadow: &mut [u64], map: &mut
     };
     let mut i: usize = 0;
     while i < shadow.len() {
-        counts = step::commit_at(user, frame, i == page as usize, shadow, map, i, counts);
+        counts = step::commit_at(user, frame, shadow, map, i, counts);
         i += 1;
     }
     counts
+}
+
+// What a commit makes of every page. The asked page comes first: with its number in the map it is none of the others, so that the loop does not ask for it. The
+// tables have V entries, and the pair is below V and F, as question 7 has settled.
+fn commit_pages(user: bool, page: u16, frame: u16, shadow: &mut [u64], map: &mut [u16]) -> Counts
+    requires { ⌜ (length (now map) ≡ length (now shadow)) × (length (now shadow) ≤ 2048) × (page < length (now shadow)) × (frame < 4096) ⌝ }
+    ensures { λ r. ⌜ sweep (now (shadow .exit)) (now (map .exit)) (r .changed) (r .joined)
+        ≡ sweepFrom (λ p entry approval. committedSlot user frame (eqb p page) entry approval) 0 (now (shadow .entry)) (now (map .entry)) ⌝ }
+{
+    let none = Counts {
+        changed: 0,
+        joined: 0,
+    };
+    let asked = step::approve_at(user, frame, shadow, map, page as usize, none);
+    let others = commit_others(user, frame, shadow, map);
+    Counts {
+        changed: asked.changed + others.changed,
+        joined: asked.joined + others.joined,
+    }
 }
 
 // Commits what is pending: the asked page and every other that has the frame are approved with it. Where nothing is pending 20 is answered yes, so that 22 may be

@@ -15,7 +15,7 @@ use Rattle.model.specs.Basics.{both, either, differs}
 use Rattle.model.specs.Keeps.{none, vectorBytes}
 use Rattle.model.specs.Bits.{fieldsOf, valid, takenApart, approved, ordinaryNoExecute, ordinary, inspected}
 use Rattle.model.specs.Approvals.{maps, committedSlot}
-use Rattle.model.specs.Sync.{Rules, Slot, slot, stepOf, step, sweep}
+use Rattle.model.specs.Sync.{Rules, Slot, slot, stepOf, step, Sweep, sweep}
 use Rattle.model.proofs.BitLaws.{fields-apart, present-valid}
 use Rattle.step.specs.Steps.{stored}
 
@@ -84,34 +84,33 @@ pub stored-step : (p : Slot) (i e a changed joined x y : ℕ) (shadow map shadow
 unfolding stored
 stored-step p i e a changed joined x y shadow map shadow′ map′ q ps pm px py = rw (← q, ps, pm, px, py)
 
--- What a commit makes of a page (K6): each way in which it joins or does not, and its slot stored.
-module _ (asked : Bool) (frame entry approval : ℕ) where
-  pub joins-asked : asked ≡ true → true ≡ either asked (both (eqb approval none) (maps frame entry))
-  unfolding either
-  joins-asked p = rw p refl
-
-  pub joins-not : asked ≡ false → (approval ≡ 65535 → ⊥) → false ≡ either asked (both (eqb approval none) (maps frame entry))
-  unfolding either both
-  joins-not p q = rw (p, ne-eqb approval none q) refl
-
-  pub joins-maps : (b : Bool) → asked ≡ false → approval ≡ 65535 → b ≡ maps frame entry → b ≡ either asked (both (eqb approval none) (maps frame entry))
-  unfolding either both
-  joins-maps b p q e = rw (p, eq-eqb approval none q) e
-
-pub commit-left : (user asked b : Bool) (i frame changed joined : ℕ) (shadow map : List ℕ)
-    → b ≡ either asked (both (eqb (getD map i 0) none) (maps frame (getD shadow i 0))) → not b ≡ true
-    → sweep shadow map changed joined ≡ stored i (sweep shadow map changed joined) (committedSlot user frame asked (getD shadow i 0) (getD map i 0))
-unfolding stored committedSlot
-commit-left user asked b i frame changed joined shadow map e p =
-    rw (sym e ∙ not-true b p)
-    (stored-step (slot (getD shadow i 0) (getD map i 0)) i (getD shadow i 0) (getD map i 0) changed joined changed joined shadow map shadow map refl
-    (kept shadow i (getD shadow i 0) refl) (kept map i (getD map i 0) refl) (same-counts changed _ _ refl) (same-counts joined _ _ refl))
-
-pub commit-joins : (user asked b : Bool) (i frame e changed joined x y : ℕ) (shadow map shadow′ map′ : List ℕ)
-    → b ≡ either asked (both (eqb (getD map i 0) none) (maps frame (getD shadow i 0))) → not b ≡ false → e ≡ approved user frame
+-- What a commit makes of a page that is not the asked one (K6): it has a number, its entry has not the frame, or it is approved.
+pub approved-stored : (user : Bool) (i frame e changed joined x y : ℕ) (shadow map shadow′ map′ : List ℕ) → e ≡ approved user frame
     → shadow′ ≡ set shadow i e → map′ ≡ set map i frame → x ≡ changed + differs (getD shadow i 0) e → y ≡ joined + differs (getD map i 0) frame
-    → sweep shadow′ map′ x y ≡ stored i (sweep shadow map changed joined) (committedSlot user frame asked (getD shadow i 0) (getD map i 0))
-unfolding committedSlot
-commit-joins user asked b i frame e changed joined x y shadow map shadow′ map′ q p r ps pm px py =
-    rw (sym q ∙ not-false b p)
-    (stored-step (slot (approved user frame) frame) i e frame changed joined x y shadow map shadow′ map′ (rw r refl) ps pm px py)
+    → sweep shadow′ map′ x y ≡ stored i (sweep shadow map changed joined) (slot (approved user frame) frame)
+approved-stored user i frame e changed joined x y shadow map shadow′ map′ r ps pm px py =
+    stored-step (slot (approved user frame) frame) i e frame changed joined x y shadow map shadow′ map′ (rw r refl) ps pm px py
+
+module _ (user : Bool) (i frame changed joined : ℕ) (shadow map : List ℕ) where
+  abbrev committed : Sweep
+  committed = stored i (sweep shadow map changed joined) (committedSlot user frame false (getD shadow i 0) (getD map i 0))
+
+  left : both (eqb (getD map i 0) none) (maps frame (getD shadow i 0)) ≡ false → sweep shadow map changed joined ≡ committed
+  unfolding committedSlot either
+  left p =
+      rw p
+      (stored-step (slot (getD shadow i 0) (getD map i 0)) i (getD shadow i 0) (getD map i 0) changed joined changed joined shadow map shadow map refl
+      (kept shadow i (getD shadow i 0) refl) (kept map i (getD map i 0) refl) (same-counts changed _ _ refl) (same-counts joined _ _ refl))
+
+  pub commit-numbered : (getD map i 0 ≡ 65535 → ⊥) → sweep shadow map changed joined ≡ committed
+  unfolding both
+  commit-numbered p = left (rw (ne-eqb (getD map i 0) none p) refl)
+
+  module _ (b : Bool) (free : getD map i 0 ≡ 65535) (e : b ≡ maps frame (getD shadow i 0)) where
+    pub commit-left : not b ≡ true → sweep shadow map changed joined ≡ committed
+    unfolding both
+    commit-left p = left (rw (eq-eqb (getD map i 0) none free) (sym e ∙ not-true b p))
+
+    pub commit-joins : (s : Sweep) → not b ≡ false → s ≡ stored i (sweep shadow map changed joined) (slot (approved user frame) frame) → s ≡ committed
+    unfolding committedSlot either both
+    commit-joins s p q = rw (eq-eqb (getD map i 0) none free, sym e ∙ not-false b p) q

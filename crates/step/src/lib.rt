@@ -4,12 +4,13 @@
 use model::Entry;
 use model::NONE;
 ghost use mathlib.Core.Path.{_≡_};
+ghost use mathlib.Core.Bool.{false};
 ghost use Prim.Native.Nat.{_+_, _<_, _≤_};
 ghost use lib.ListN.{length, getD, set};
-ghost use lib.Dec.{eqb};
-ghost use Rattle.model.specs.Basics.{both, either, differs};
-ghost use Rattle.model.specs.Keeps.{none, vectorBytes};
-ghost use Rattle.model.specs.Approvals.{maps, committedSlot};
+ghost use Rattle.model.specs.Basics.{differs};
+ghost use Rattle.model.specs.Keeps.{vectorBytes};
+ghost use Rattle.model.specs.Bits.{approved};
+ghost use Rattle.model.specs.Approvals.{committedSlot};
 ghost use Rattle.model.specs.Sync;
 ghost use Rattle.model.specs.Sync.{slot, sweep};
 ghost use Rattle.step.specs.Steps.{rulesBy, stored};
@@ -117,25 +118,31 @@ pub fn sync_at(
     Counts { changed, joined }
 }
 
-// A page that a commit approves (K6): the asked one, and every page without a number in the map whose present shadow entry has the frame.
-fn joins(asked: bool, frame: u16, entry: u64, approval: u16) -> bool
-    ensures { λ r. ⌜ r ≡ either asked (both (eqb approval none) (maps frame entry)) ⌝ }
+// Approves page i with a frame, as a commit does (K6), stored in both tables and counted. It asks that both tables have the page, which question 7 and the
+// limit at V have settled in its callers, and that no more pages were counted than lie before it.
+pub fn approve_at(
+    user: bool,
+    frame: u16,
+    shadow: &mut [u64],
+    map: &mut [u16],
+    i: usize,
+    counts: Counts,
+) -> Counts
+    requires { ⌜ (i < length (now shadow)) × (i < length (now map)) × (counts .changed ≤ i) × (counts .joined ≤ i) ⌝ }
+    ensures { λ r. ⌜ (sweep (now (shadow .exit)) (now (map .exit)) (r .changed) (r .joined)
+        ≡ stored i (sweep (now (shadow .entry)) (now (map .entry)) (counts .changed) (counts .joined)) (slot (approved user frame) frame))
+        × (r .changed ≤ counts .changed + 1) × (r .joined ≤ counts .joined + 1) ⌝ }
 {
-    if asked {
-        return true;
-    }
-    if approval != NONE {
-        return false;
-    }
-    entry::maps(entry, frame)
+    let joined = put_approval(map, i, frame, counts.joined);
+    let changed = put_entry(shadow, i, entry::approved(user, frame), counts.changed);
+    Counts { changed, joined }
 }
 
-// What a commit makes of page i, stored in both tables and counted. It asks that both tables have the page, which question 7 and the limit at V have settled
-// in its caller, and that no more pages were counted than lie before it.
+// What a commit makes of page i where that is not the asked one: it is approved where it has no number in the map and its present shadow entry has the frame.
+// It asks for the same.
 pub fn commit_at(
     user: bool,
     frame: u16,
-    asked: bool,
     shadow: &mut [u64],
     map: &mut [u16],
     i: usize,
@@ -144,13 +151,14 @@ pub fn commit_at(
     requires { ⌜ (i < length (now shadow)) × (i < length (now map)) × (counts .changed ≤ i) × (counts .joined ≤ i) ⌝ }
     ensures { λ r. ⌜ (sweep (now (shadow .exit)) (now (map .exit)) (r .changed) (r .joined)
         ≡ stored i (sweep (now (shadow .entry)) (now (map .entry)) (counts .changed) (counts .joined))
-        (committedSlot user frame asked (getD (now (shadow .entry)) i 0) (getD (now (map .entry)) i 0)))
+        (committedSlot user frame false (getD (now (shadow .entry)) i 0) (getD (now (map .entry)) i 0)))
         × (r .changed ≤ counts .changed + 1) × (r .joined ≤ counts .joined + 1) ⌝ }
 {
-    if !joins(asked, frame, shadow[i], map[i]) {
+    if map[i] != NONE {
         return counts;
     }
-    let joined = put_approval(map, i, frame, counts.joined);
-    let changed = put_entry(shadow, i, entry::approved(user, frame), counts.changed);
-    Counts { changed, joined }
+    if !entry::maps(shadow[i], frame) {
+        return counts;
+    }
+    approve_at(user, frame, shadow, map, i, counts)
 }

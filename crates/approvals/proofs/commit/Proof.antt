@@ -1,5 +1,6 @@
 -- A law for each answer: questions 7, 22 and 20 refuse, or the commit is accepted.
-use Rattle.approvals.proofs.ApprovalLaws.{commit-7, commit-22, commit-20, commit-same, commit-accepted}
+use denote.Ref.{now}
+use Rattle.approvals.proofs.ApprovalLaws.{commit-7, commit-22, commit-20, commit-same, commit-few, commit-below, commit-accepted}
 use borrow.Author.Needs.{needs}
 use Rattle.approvals.proofs.commit.Statement.{statement}
 use Rattle.approvals.proofs.commit.Tie as tie
@@ -14,7 +15,13 @@ returns-3 : tie.Need-returns-3
 returns-3 c = search (needs, commit-20)
 
 commit-pages-requires : tie.Need-commit-pages-requires
-commit-pages-requires c κs = search (needs, commit-same)
+commit-pages-requires c κs =
+    let below =
+    commit-below _ (now (c .before .before .before .before .before .before .before .before .before .before .before .before .before .args .shadow)) (now (c .before .before .before .before .before .before .before .before .before .before .before .before .before .args .map)) _
+    (c .before .before .before .before .before .before .before .before .before .before .commit-in-order .ensures)
+    (c .before .before .before .before .before .before .before .before .before .if1 .left) _ _
+    (c .before .before .before .before .before .before .before .pending .given .1) in
+    (search (needs, commit-same), search (needs, commit-few), below .0, below .1)
 
 returns-4 : tie.Need-returns-4
 returns-4 c = search (needs, commit-accepted)
