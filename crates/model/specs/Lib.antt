@@ -27,5 +27,6 @@ pub mod Orders
 pub mod RecordCases
 pub mod TreeCases
 pub mod DeviceCases
+pub mod ApprovalCases
 pub mod Worked
 pub mod DrillCases

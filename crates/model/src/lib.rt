@@ -3,6 +3,7 @@
 
 ghost use mathlib.Core.Path.{_≡_};
 ghost use mathlib.Core.List.{_++_};
+ghost use Rattle.model.specs.ApprovalCases.{askCases, commitCases, dropCases, pendingCases};
 ghost use Rattle.model.specs.Cache.{ApartYields, OrdinaryCarries, StepCarries, StepWrites, SwitchKeeps};
 ghost use Rattle.model.specs.Cases.{cases, Hold};
 ghost use Rattle.model.specs.Claim.{Claim};
@@ -166,6 +167,11 @@ pub fn device_cases()
 // Document 02, K5: "Changing one device's window changes no answer given to another", and no call changes the number of devices.
 pub fn windows_apart()
     ensures { λ _. ⌜ WindowsApart × DevicesKept ⌝ }
+{}
+
+// Document 02, K6: what ask, commit and drop give, and what the other calls give while a pair is pending.
+pub fn approval_cases()
+    ensures { λ _. ⌜ Hold (askCases ++ commitCases ++ dropCases ++ pendingCases) ⌝ }
 {}
 
 // Document 01, the worked example: every byte of its output follows from the drill's definitions.
