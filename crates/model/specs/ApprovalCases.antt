@@ -169,6 +169,8 @@ commitCases =
     ∷ row (answer (asked6 (Kernel 1) inspected6) commit) (outcome (accepted 2 2) (committed6 (Kernel 1) (set (set shadow6 0 0x6401) 3 0x6401) (set (set map6 0 6) 3 6)))
     ∷ row (answer (asked6 (Kernel 1) (set readOnly6 5 0x8000000000006201)) commit)
     (outcome (accepted 3 3) (committed6 (Kernel 1) (0x6401 ∷ 0x5401 ∷ 0x3401 ∷ 0x6401 ∷ 0x5401 ∷ 0x6401 ∷ []) (6 ∷ 5 ∷ 3 ∷ 6 ∷ 5 ∷ 6 ∷ [])))
+    ∷ row (answer (asked6 (User 0) (set user6 0 0x6005)) commit)
+    (outcome (accepted 2 2) (committed6 (User 0) (set (set user6 0 0x8000000000006401) 3 0x8000000000006401) (set (set map6 0 6) 3 6)))
     ∷ row (answer (asked6 (User 5) (set (set user6 0 0x8000000000006205) 5 0x6005)) commit)
     (outcome (accepted 3 3)
     (committed6 (User 5)
@@ -207,11 +209,12 @@ commitCases =
     ∷ row (answer (lentWith (Pair 3 6) 6 6 0) commit)
     (outcome (accepted 1 1)
     (guardOf (stateOf 6 8 2 (1 ∷ 2 ∷ replicate 14 0) (Kernel 1) 3 Nothing) (tables (set (replicate 6 0) 3 0x6401) (set (replicate 6 65535) 3 6) [])))
-    -- The order of two questions: 7 and 20, 7 and 22. 20 and 22 cannot fail together
+    -- The order of two questions: 7 and 20 by the shadow and the running page; 7 and 22 by the map, the number of devices and e. 20 and 22 cannot fail together
     ∷ stays (pendingWith (Kernel 1) (Pair 3 6) (replicate 5 0) (set map6 3 5) 0x68) commit (refused 7)
     ∷ stays (pendingWith (Kernel 6) (Pair 3 6) shadow6 (set map6 3 5) 0x68) commit (refused 7)
     ∷ stays (lentWith Nothing 6 5 1) commit (refused 7)
     ∷ stays (ofDevices 0) commit (refused 7)
+    ∷ stays (inState 6 8 17 (replicate 16 0) (Kernel 1)) commit (refused 7)
     ∷ []
 
 unfoldable pub dropCases : List Case
@@ -242,9 +245,13 @@ dropCases =
     ∷ stays (lentWith (Pair 3 6) 6 6 0) drop (refused 7)
     ∷ stays (lentWith (Pair 3 6) 6 6 2) drop (refused 7)
     ∷ row (answer (lentWith (Pair 3 6) 7 0 1) drop) (outcome (accepted 0 0) (lentWith Nothing 7 0 1))
-    -- 7 and 22
+    -- 7 and 22: the vector, the running page, e, the number of devices and V, of which 2,048 is in order
     ∷ stays (lentWith Nothing 6 6 2) drop (refused 7)
     ∷ stays (with6 (Kernel 6) shadow6) drop (refused 7)
+    ∷ stays (inState 6 8 0 (replicate 16 0) (Kernel 1)) drop (refused 7)
+    ∷ stays (ofDevices 65) drop (refused 7)
+    ∷ stays (inState 2049 8 2 (replicate 16 0) (Kernel 1)) drop (refused 7)
+    ∷ stays (inState 2048 8 2 (replicate 16 0) (Kernel 1)) drop (refused 22)
     ∷ []
 
 unfoldable pub pendingCases : List Case
