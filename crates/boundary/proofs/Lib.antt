@@ -1,5 +1,2 @@
--- Laws that the proofs of this crate cite.
-mod BoundaryLaws
-mod StartLaws
-mod RecordLaws
-mod WalkLaws
+-- Laws that the proofs of this crate cite, and that of `stateless`.
+pub mod BoundaryLaws

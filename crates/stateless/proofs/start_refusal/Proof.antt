@@ -1,8 +1,8 @@
--- `boundary::start_refusal` meets its contract.
+-- `stateless::start_refusal` meets its contract.
 use borrow.Author.Needs.{needs}
 use Rattle.words.proofs.SettleLaws.{settled-accepted, settled-number}
-use Rattle.boundary.proofs.start_refusal.Statement.{statement}
-use Rattle.boundary.proofs.start_refusal.Tie as tie
+use Rattle.stateless.proofs.start_refusal.Statement.{statement}
+use Rattle.stateless.proofs.start_refusal.Tie as tie
 
 returns : tie.Need-returns
 returns c = search (needs, settled-accepted)

@@ -1,8 +1,8 @@
--- `boundary::walk` meets its contract.
+-- `stateless::walk` meets its contract.
 use borrow.Author.Needs.{needs}
-use Rattle.boundary.proofs.WalkLaws.{walk-replied}
-use Rattle.boundary.proofs.walk.Statement.{statement}
-use Rattle.boundary.proofs.walk.Tie as tie
+use Rattle.stateless.proofs.WalkLaws.{walk-replied}
+use Rattle.stateless.proofs.walk.Statement.{statement}
+use Rattle.stateless.proofs.walk.Tie as tie
 
 returns : tie.Need-returns
 returns c = search (needs, walk-replied)

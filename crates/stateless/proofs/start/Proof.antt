@@ -1,9 +1,9 @@
--- `boundary::start` meets its contract.
+-- `stateless::start` meets its contract.
 use borrow.Author.Needs.{needs}
 use Rattle.words.proofs.WordLaws.{run-fits}
-use Rattle.boundary.proofs.StartLaws.{start-unfit, started}
-use Rattle.boundary.proofs.start.Statement.{statement}
-use Rattle.boundary.proofs.start.Tie as tie
+use Rattle.stateless.proofs.StartLaws.{start-unfit, started}
+use Rattle.stateless.proofs.start.Statement.{statement}
+use Rattle.stateless.proofs.start.Tie as tie
 
 returns : tie.Need-returns
 returns c = search (needs, start-unfit)

@@ -1,8 +1,8 @@
--- `boundary::write_record` meets its contract.
+-- `stateless::write_record` meets its contract.
 use borrow.Author.Needs.{needs}
-use Rattle.boundary.proofs.RecordLaws.{record-replied}
-use Rattle.boundary.proofs.write_record.Statement.{statement}
-use Rattle.boundary.proofs.write_record.Tie as tie
+use Rattle.stateless.proofs.RecordLaws.{record-replied}
+use Rattle.stateless.proofs.write_record.Statement.{statement}
+use Rattle.stateless.proofs.write_record.Tie as tie
 
 returns : tie.Need-returns
 returns c = search (needs, record-replied)
