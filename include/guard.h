@@ -41,7 +41,7 @@ extern "C" {
 /*
  * The layout of a state run. V, F, e, the running page and the number of devices are 16-bit fields, each in a word of its own. An
  * entry page that is wider than 16 bits counts as one that is not below V. The pending page and frame are compared with V and F at
- * their full width, and are not read where none is pending. guard_start writes all words; guard_enter and guard_leave write
+ * their full width, and mean nothing where none is pending. guard_start writes all words; guard_enter and guard_leave write
  * GUARD_STATE_MODE and GUARD_STATE_RUNNING alone; guard_fetch writes GUARD_STATE_RUNNING alone; guard_ask, guard_commit and
  * guard_drop write the three words of what is pending alone; the other calls write none. A later version appends its fields.
  */
