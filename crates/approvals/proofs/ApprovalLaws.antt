@@ -1,11 +1,11 @@
 -- Laws of ask, commit and drop: a law for each answer, over what the code has in hand.
-use Prim.Native.Nat.{ℕ, zero, _+_, _-_, _%_, _≤_, _<_}
+use Prim.Native.Nat.{ℕ, _+_, _-_, _%_, _≤_, _<_}
 use mathlib.Core.Bool.{Bool, true, false, not}
 use mathlib.Core.List.{List, [], _∷_}
 use mathlib.Core.Path.{_≡_, refl, sym, ap, _∙_}
 use lib.ListN.{length, getD, List·getD-eq-default}
 use lib.Dec.{ltb, eqb}
-use borrow.Author.Tests.{not-true, not-false, eqb-true, eq-eqb, ne-eqb, ltb-true}
+use borrow.Author.Tests.{not-false, eqb-true, eq-eqb, ne-eqb, ltb-true}
 use native.Mathlib.Omega.{arith}
 use Rattle.model.specs.declared.Pending.{Pending}
 use Rattle.model.specs.declared.Pending.the-variants.{Nothing, Pair}
@@ -16,8 +16,8 @@ use Rattle.model.specs.Basics.{both, everyFrom}
 use Rattle.model.specs.Keeps.{none, Tables, withShadow, withMap, withExclusion, withThree, Guard, guardOf, vectorBytes, excludedIn, withBit, inUser, isPending, pendingFrame, isAsked, withPending}
 use Rattle.model.specs.Approvals.{mapsWritable, committedSlot}
 use Rattle.model.specs.Sync.{Sweep, sweep, sweepFrom}
-use Rattle.model.specs.Questions.{Question, question, firstNo, pendingInRange, stateInOrder, inOrder, askQuestions, pageUnapproved, commitQuestions, dropQuestions}
-use Rattle.model.specs.Calls.{Outcome, outcome, accepted, replyOf, outcomeBy, ask, commit, drop, questionsOf, bitPut, pairCommitted, effectOf, answer}
+use Rattle.model.specs.Questions.{Question, pendingInRange, stateInOrder, inOrder, askQuestions, pageUnapproved, commitQuestions, dropQuestions}
+use Rattle.model.specs.Calls.{outcome, accepted, replyOf, outcomeBy, ask, commit, drop, questionsOf, bitPut, pairCommitted, effectOf, answer}
 use Rattle.model.proofs.QuestionLaws.{both-first, both-second, firstNo-yes, firstNo-no}
 use Rattle.model.proofs.StateLaws.{pages-few, frames-few, in-order, state-parts}
 use Rattle.model.proofs.CallLaws.{passed, stopped, none-left, refused-by, accepted-by}

@@ -3,9 +3,9 @@ use Prim.Native.Nat.{ℕ, _+_, _*_, _/_, _%_, _^_, _<_}
 use mathlib.Core.Bool.{Bool, true, false}
 use mathlib.Core.Path.{_≡_, refl, sym, _∙_}
 use lib.Dec.{eqb}
-use borrow.Author.Tests.{eqb-true, eqb-false, eq-eqb, ne-eqb}
+use borrow.Author.Tests.{eqb-true, eq-eqb}
 use native.Mathlib.Omega.{arith}
-use Rattle.model.specs.Basics.{both, bit}
+use Rattle.model.specs.Basics.{bit}
 use Rattle.model.specs.Bits.{present, writable, frameOf}
 use Rattle.model.specs.Approvals.{maps, mapsWritable}
 use Rattle.model.proofs.QuestionLaws.{both-yes, both-first, both-second}

@@ -80,9 +80,6 @@ top-on false = refl
 bits-kept : (r w u t c : ℕ) → w ≤ 1 → r ≡ 1 + w * 2 + u * 4 + t * 8 + c * 16 → r / 4 * 4 ≡ u * 4 + t * 8 + c * 16
 bits-kept r w u t c h e = omega arith
 
-pub inspected-fits : (y r : ℕ) → y < 2 ^ 52 → r < 2 ^ 5 → y * 2 ^ 12 + r / 4 * 4 + 1 + 2 ^ 9 < 2 ^ 64
-inspected-fits y r a b = omega arith
-
 pub inspected-is : (entry : ℕ) → entry < 2 ^ 64 → valid entry ≡ true
     → bitOr (entry / 2 ^ 12 * 2 ^ 12 + entry % 2 ^ 5 / 2 ^ 2 * 2 ^ 2 + 2 ^ 0 + 2 ^ 9) (2 ^ 63) ≡ ordinary true (inspected (fieldsOf entry))
 unfolding ordinary inspected fieldsOf writable userBit writeThrough cacheDisable noExecute frameOf ordinaryNoExecute either flag

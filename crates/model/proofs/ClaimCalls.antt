@@ -15,7 +15,7 @@ use Rattle.model.specs.declared.Mode.{Mode}
 use Rattle.model.specs.declared.Mode.the-variants.{Kernel, User}
 use Rattle.model.specs.Basics.{bit, both, either}
 use Rattle.model.specs.Bits.{present}
-use Rattle.model.specs.Keeps.{none, Tables, withShadow, withMap, withExclusion, Guard, guardOf, vectorBytes, excludedIn, withBit, inUser, running, modeOf, isPending, pendingFrame, isAsked, inMode, withPending}
+use Rattle.model.specs.Keeps.{none, Tables, withShadow, withMap, Guard, guardOf, excludedIn, withBit, inUser, running, modeOf, isPending, pendingFrame, isAsked, inMode, withPending}
 use Rattle.model.specs.Policy.{Policy, named}
 use Rattle.model.specs.Tree.{flatAt}
 use Rattle.model.specs.Sync.{Slot, slot, step, entryIn, stepFrom, Sweep, sweepFrom}
@@ -32,7 +32,7 @@ use Rattle.model.proofs.SweepLaws.{sweep-shadow-length, sweep-map-lengt
 use Rattle.model.proofs.SwitchLaws.{length-switched, switched-at}
 use Rattle.model.proofs.AcceptedLaws.{syncPage-page, syncPageTree-page, fetch-page, enter-page, leave-page, ask-page, ask-frame, ask-first, ask-free, commit-pending, drop-pending}
 use Rattle.model.proofs.VectorLaws.{byte-below, withBit-length, excluded-withBit}
-use Rattle.model.proofs.TermLaws.{isWaiting, awaited, commit-in, commit-over, commit-code, drop-over, drop-in, drop-out, drop-code, term-code, code-term, term-named, term-none, awaited-none, awaited-is, awaited-other, awaited-below, pending-below, asked-below, waiting-in}
+use Rattle.model.proofs.TermLaws.{isWaiting, awaited, commit-in, commit-over, commit-code, drop-over, drop-in, drop-out, drop-code, term-code, code-term, term-named, awaited-none, awaited-is, awaited-other, awaited-below, pending-below, asked-below, waiting-in}
 use Rattle.model.proofs.ClaimKept.{Kept, pageOf}
 
 module _ (policy : Policy) (terms : Terms) (g : Guard) (h : Kept policy terms g) where

@@ -7,7 +7,6 @@ use lib.Dec.{eqb}
 use lib.ListN.{getD}
 use borrow.Author.Tests.{eqb-true, eq-eqb}
 use native.Mathlib.Omega.{arith}
-use Rattle.model.specs.Basics.{either}
 use Rattle.model.specs.Edges.{pageBytes}
 use Rattle.model.specs.Keeps.{Guard}
 use Rattle.model.specs.Policy.{Policy, policyOf, named, startGuard}
@@ -16,7 +15,7 @@ use Rattle.model.specs.Questions.{firstNo, lengthsOf, startQuestions}
 use Rattle.model.specs.Calls.{Outcome, settle, refusedOf, broughtBy, startOf, Call, syncPage, syncAll, syncPageTree, syncAllTree, fetch, write, enter, leave, deviceWrite, ask, commit, drop, questionsOf, effectOf, answer}
 use Rattle.model.specs.OnePage.{seenBy, settled}
 use Rattle.model.specs.Claim.{Safe, coveredBy}
-use Rattle.model.specs.Terms.{Term, pendingTerm, committedTerm, afterCommit, Terms, firstTerms, termAfter, termsAfter, inTerm, isCommitted, protected}
+use Rattle.model.specs.Terms.{Term, pendingTerm, Terms, firstTerms, termAfter, termsAfter, inTerm, isCommitted, protected}
 use Rattle.model.specs.Committing.{Accepts, guardAfter, EachAccepted, Avoids, NoDrop, CommittedKept}
 use Rattle.model.proofs.QuestionLaws.{settle-accepted, settle-refused, settle-number, either-second}
 use Rattle.model.proofs.CallLaws.{effect-reply}

@@ -86,13 +86,6 @@ unfolding either
 term-named true t p = p
 term-named false t p = refl
 
-pub term-none : (named : Bool) (t : Term) → either named (inTerm t) ≡ false → isCommitted t ≡ false
-unfolding either inTerm isCommitted
-term-none true t p = absurd (true≢false p)
-term-none false noTerm p = refl
-term-none false pendingTerm p = refl
-term-none false committedTerm p = p
-
 pub waiting-in : (t : Term) → isWaiting t ≡ true → inTerm t ≡ true
 unfolding isWaiting inTerm
 waiting-in noTerm p = p

@@ -8,7 +8,7 @@ use Rattle.model.specs.Edges.{pageBytes}
 use Rattle.model.specs.Keeps.{Tables, Guard}
 use Rattle.model.specs.Policy.{Givens}
 use Rattle.model.specs.Bits.{frameOf}
-use Rattle.model.specs.Calls.{Outcome, startOf, Call, syncPage, syncAll, syncPageTree, syncAllTree, fetch, write, enter, leave, deviceWrite, ask, commit, drop, answer}
+use Rattle.model.specs.Calls.{startOf, Call, syncPage, syncAll, syncPageTree, syncAllTree, fetch, write, enter, leave, deviceWrite, ask, commit, drop, answer}
 
 -- The guard accepts a call; the guard after a list of calls; and what holds of each accepted call of a list, with the guard that it reaches.
 abbrev pub Accepts : Guard → Call → Type 0

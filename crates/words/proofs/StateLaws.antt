@@ -1,6 +1,6 @@
 -- Laws of a state in a run: all words written, what was written decodes to the same state, and question 7 on the words.
 use Prim.Native.Nat.{ℕ, _+_, _-_, _≤_, _<_}
-use mathlib.Core.Bool.{Bool, true, false, not, cond}
+use mathlib.Core.Bool.{Bool, true, false, not}
 use mathlib.Core.List.{List, [], _∷_, _++_, append-nil}
 use mathlib.Core.Path.{_≡_, refl, sym, ap, _∙_}
 use lib.ListN.{length, getD, set, take, length-set, List·getD-append}
@@ -22,7 +22,7 @@ use Rattle.model.specs.Questions.{pendingInRange, stateInOrder}
 use Rattle.model.proofs.QuestionLaws.{both-yes, both-first, both-second, within-high}
 use Rattle.model.proofs.StateLaws.{running-modeOf}
 use Rattle.model.proofs.TableLaws.{is-table, table-same}
-use Rattle.words.specs.Words.{stateWords, pagesAt, framesAt, entryCountAt, entryPagesAt, entryWords, modeAt, runningAt, devicesAt, pendingAt, pendingPageAt, pendingFrameAt, widest}
+use Rattle.words.specs.Words.{stateWords, pagesAt, framesAt, entryCountAt, entryPagesAt, entryWords, modeAt, runningAt, devicesAt, pendingAt, pendingPageAt, pendingFrameAt}
 use Rattle.words.specs.Words.{narrow, field, entryPagesIn, pendingIn, pendingWords, stateIn, modeWord, lastWords, wordsOf, withWords, pagePlaces, modePlaces, pendingPlaces}
 use Rattle.words.proofs.WordLaws.{front-none, front-word, front-table, front-so-far, front-known, front-full, narrow-fits, narrow-within, narrow-ltb}
 
