@@ -9,7 +9,7 @@ use lib.Dec.{eqb}
 use Rattle.model.specs.Keeps.{Tables, guardOf}
 use Rattle.model.specs.Policy.{Givens, Policy}
 use Rattle.model.specs.Calls.{Reply, refused, settle, Outcome, startOf, Call, answer}
-use Rattle.model.specs.Record.{Written, writeRecordOf}
+use Rattle.record_model.specs.Record.{Written, writeRecordOf}
 use Rattle.model.specs.Tree.{Tree}
 use Rattle.model.specs.Walks.{walkReply}
 use Rattle.words.specs.Words.{stateIn, answerNumbers, numbersBy, changedBy, withNumbers, runsFit, lendable, runAfter, runStarted}

@@ -6,7 +6,7 @@ use lib.ListN.{replicate, set, take}
 use Rattle.model.specs.Keeps.{tables, withShadow, withMap, withExclusion}
 use Rattle.model.specs.Policy.{Policy, givenOf}
 use Rattle.model.specs.Calls.{fetch, deviceWrite, ask, commit, drop}
-use Rattle.model.specs.Record.{policyBy}
+use Rattle.record_model.specs.Record.{policyBy}
 use Rattle.model.specs.Cases.{Row, row}
 use Rattle.model.specs.Further.{twoEntries, threeDevices, shadow6, started6}
 use Rattle.model.specs.Tree.{Tree, treeOf}

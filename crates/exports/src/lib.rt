@@ -6,7 +6,7 @@ ghost use Rattle.model.specs.Keeps.{Tables, tables, withShadow, withMap, withEx
 ghost use Rattle.model.specs.Policy.{givenOf};
 ghost use Rattle.model.specs.Tree.{treeOf};
 ghost use Rattle.model.specs.Calls.{syncPage, syncAll, syncPageTree, syncAllTree, fetch, write, enter, leave, deviceWrite, ask, commit, drop};
-ghost use Rattle.model.specs.Record.{policyBy};
+ghost use Rattle.record_model.specs.Record.{policyBy};
 ghost use Rattle.boundary.specs.Boundary.{returned, startAt, callAt, recorded, recordAt, walked, walkAt};
 use model::Device;
 

@@ -7,7 +7,7 @@ use native.Mathlib.Nat.{zero-add, sub-zero, div-zero}
 use native.Mathlib.Numerals.{add-one}
 use native.Mathlib.Omega.{arith}
 use Rattle.model.specs.Keeps.{excludedIn}
-use Rattle.model.specs.Drill.{countFrom, share}
+use Rattle.drill_model.specs.Drill.{countFrom, share}
 
 pub count-begins : (test : ℕ → Bool) (n : ℕ) → 0 + countFrom test 0 (n - 0) ≡ countFrom test 0 n
 count-begins test n = rw (zero-add, sub-zero)

@@ -15,7 +15,7 @@ use Rattle.model.specs.declared.Answer.{Answer}
 use Rattle.model.specs.declared.Answer.the-variants.{Done, Refused}
 use Rattle.model.specs.Keeps.{inUser, running}
 use Rattle.model.specs.Calls.{replyOf}
-use Rattle.model.specs.Drill.{digits, decimal, line, hexDigit, share, shareLine}
+use Rattle.drill_model.specs.Drill.{digits, decimal, line, hexDigit, share, shareLine}
 
 -- A byte stored behind the first len ones.
 pub take-more : (bytes : List ℕ) (len b : ℕ) → len < length bytes → take (len + 1) (set bytes len b) ≡ take len bytes ++ (b ∷ [])

@@ -8,7 +8,7 @@ ghost use mathlib.Core.List.{[], _∷_, _++_};
 ghost use lib.ListN.{take};
 ghost use Rattle.model.specs.Keeps.{inUser, running, excludedIn};
 ghost use Rattle.model.specs.Calls.{replyOf};
-ghost use Rattle.model.specs.Drill.{digits, decimal, line, hexDigit, hexDigits, countFrom, share, shareLine};
+ghost use Rattle.drill_model.specs.Drill.{digits, decimal, line, hexDigit, hexDigits, countFrom, share, shareLine};
 ghost use Rattle.lines.specs.Text.{text};
 use model::Answer;
 use model::Mode;

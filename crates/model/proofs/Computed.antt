@@ -1,4 +1,4 @@
--- One name that opens every definition of the guard and of the drill, for the proofs that only compute.
+-- One name that opens every definition of the guard, for the proofs that only compute.
 use Rattle.model.specs.Basics.{both, either, within, everyFrom, tableFrom, table, member, bit, flag, differs}
 use Rattle.model.specs.Edges.{pagesInRange, framesInRange, devicesInRange, lastByte, lastPage, touched}
 use Rattle.model.specs.Keeps.{vectorBytes, excludedIn, byteOf, vectorOf, withBit, inUser, running, modeOf, isPending, pendingFrame, isAsked, inMode, withPending}
@@ -11,10 +11,8 @@ use Rattle.model.specs.Switch.{noExecuteIn, switched, switchedAll, chang
 use Rattle.model.specs.Approvals.{maps, mapsWritable, committedSlot}
 use Rattle.model.specs.Questions.{firstNo, pendingInRange, stateInOrder, sizesInRange, countsInRange, rising, allBelow, inOrder, policyQuestions, givensInRange, recordQuestions, lengthsFit, startQuestions, syncAllQuestions, syncPageQuestions, syncAllTreeQuestions, syncPageTreeQuestions, fetchPermitted, fetchQuestions, writePermitted, free, everyTouched, writeQuestions, enterQuestions, leavePermitted, leaveQuestions, deviceWriteQuestions, askQuestions, pageUnapproved, commitQuestions, dropQuestions}
 use Rattle.model.specs.Calls.{replyOf, outcomeBy, settle, startOf, broughtBy, questionsOf, pageSynced, allSynced, pageFrom, allFrom, switchTo, bitPut, pairCommitted, effectOf, answer}
-use Rattle.model.specs.Record.{numberBytes, numbersBytes, recordOf, arraysExact, writeRecordQuestions, writeRecordOf}
 use Rattle.model.specs.Walks.{walkQuestions, walkReply, flatTable}
-use Rattle.model.specs.Drill.{policyExtent, windowsOf, drillStart, begun, kindOf, indexOf, lengthOf, valueOf, withGuard, edited, callOf, performed, digits, decimal, line, startLine, turnOf, turn, hexDigit, hexDigits, entryLines, countFrom, share, shareLine, closing, callLimit, callLines, drillOutput}
 
 unfoldable pub computed : Unit {0}
-unfolding both either within pagesInRange framesInRange devicesInRange everyFrom tableFrom table member bit lastByte lastPage touched vectorBytes excludedIn flag byteOf vectorOf withBit inUser running modeOf isPending pendingFrame isAsked inMode withPending numberAt numbersAt policyOf frameFor approvalFor named firstEntry entryPages startState startTables startGuard zeroState present writable userBit writeThrough cacheDisable noExecute frameOf kernelNoExecute approvedMark fieldsOf reserved valid takenApart approvedNoExecute approved ordinaryNoExecute ordinary inspected tablesIn treeInOrder placeAbove gathered flatEntry largeEntry meeting onward walkFrom walkOf flatAt readsAt deviceAt inWindow noExecuteIn switched stepOf step differs before sweepFrom stepFrom switchedAll changes maps mapsWritable committedSlot firstNo pendingInRange stateInOrder sizesInRange countsInRange rising allBelow inOrder policyQuestions givensInRange recordQuestions lengthsFit startQuestions syncAllQuestions syncPageQuestions syncAllTreeQuestions syncPageTreeQuestions fetchPermitted fetchQuestions writePermitted free everyTouched writeQuestions enterQuestions leavePermitted leaveQuestions deviceWriteQuestions askQuestions pageUnapproved commitQuestions dropQuestions replyOf outcomeBy settle startOf broughtBy questionsOf pageSynced allSynced pageFrom allFrom switchTo bitPut pairCommitted effectOf answer numberBytes numbersBytes recordOf arraysExact writeRecordQuestions writeRecordOf walkQuestions walkReply flatTable policyExtent windowsOf drillStart begun kindOf indexOf lengthOf valueOf withGuard edited callOf performed digits decimal line startLine turnOf turn hexDigit hexDigits entryLines countFrom share shareLine closing callLimit callLines drillOutput
+unfolding both either within pagesInRange framesInRange devicesInRange everyFrom tableFrom table member bit lastByte lastPage touched vectorBytes excludedIn flag byteOf vectorOf withBit inUser running modeOf isPending pendingFrame isAsked inMode withPending numberAt numbersAt policyOf frameFor approvalFor named firstEntry entryPages startState startTables startGuard zeroState present writable userBit writeThrough cacheDisable noExecute frameOf kernelNoExecute approvedMark fieldsOf reserved valid takenApart approvedNoExecute approved ordinaryNoExecute ordinary inspected tablesIn treeInOrder placeAbove gathered flatEntry largeEntry meeting onward walkFrom walkOf flatAt readsAt deviceAt inWindow noExecuteIn switched stepOf step differs before sweepFrom stepFrom switchedAll changes maps mapsWritable committedSlot firstNo pendingInRange stateInOrder sizesInRange countsInRange rising allBelow inOrder policyQuestions givensInRange recordQuestions lengthsFit startQuestions syncAllQuestions syncPageQuestions syncAllTreeQuestions syncPageTreeQuestions fetchPermitted fetchQuestions writePermitted free everyTouched writeQuestions enterQuestions leavePermitted leaveQuestions deviceWriteQuestions askQuestions pageUnapproved commitQuestions dropQuestions replyOf outcomeBy settle startOf broughtBy questionsOf pageSynced allSynced pageFrom allFrom switchTo bitPut pairCommitted effectOf answer walkQuestions walkReply flatTable
 computed = tt

@@ -4,10 +4,8 @@ pub mod StateLaws
 pub mod BitLaws
 pub mod TableLaws
 pub mod PolicyLaws
-pub mod RecordLaws
 pub mod Computed
 pub mod CaseLaws
-mod LimitLaws
 pub mod VectorLaws
 pub mod CallLaws
 pub mod TouchLaws

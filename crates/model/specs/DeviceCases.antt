@@ -11,7 +11,6 @@ use Rattle.model.specs.Policy.{givenOf}
 use Rattle.model.specs.Devices.{deviceOf}
 use Rattle.model.specs.Tree.{treeOf}
 use Rattle.model.specs.Calls.{Outcome, outcome, accepted, refused, startOf, syncPage, syncAll, syncPageTree, syncAllTree, fetch, write, enter, leave, deviceWrite}
-use Rattle.model.specs.Drill.{windowsOf}
 use Rattle.model.specs.Cases.{Row, row, Case}
 use Rattle.model.specs.Further.{twoEntries, threeDevices, startRefused, with6, shadow6, started6, left6, leaving, stays}
 
@@ -142,14 +141,4 @@ deviceCases =
     ∷ stays started6 (deviceWrite (windowed 0 4) 1 20480 1) (refused 19)
     ∷ stays started6 (deviceWrite (windowed 0 5) 1 20480 1) (refused 13)
     ∷ stays started6 (deviceWrite (windowed 5 5) 1 20480 1) (refused 13)
-    ∷ []
-
--- The drill's windows.
-abbrev pub WindowCase : Type 0
-WindowCase = Row (List Device)
-
-unfoldable pub windowCases : List WindowCase
-windowCases =
-    row (windowsOf 4) (replicate 64 (deviceOf 0 3))
-    ∷ row (windowsOf 1) (replicate 64 (deviceOf 0 0))
     ∷ []

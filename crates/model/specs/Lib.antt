@@ -12,7 +12,6 @@ pub mod Switch
 pub mod Approvals
 pub mod Calls
 pub mod Questions
-pub mod Record
 pub mod Walks
 pub mod Cache
 pub mod Windows
@@ -20,13 +19,9 @@ pub mod OnePage
 pub mod Terms
 pub mod Claim
 pub mod Committing
-pub mod Drill
 pub mod Cases
 pub mod Further
 pub mod Orders
-pub mod RecordCases
 pub mod TreeCases
 pub mod DeviceCases
 pub mod ApprovalCases
-pub mod Worked
-pub mod DrillCases

@@ -1,24 +1,18 @@
 // The declared types of the guard, and the functions that carry the theorems about its definitions.
 // The definitions themselves stand in specs/, one file for each section of document 01 and for a request that adds to none.
 
-ghost use mathlib.Core.Path.{_≡_};
 ghost use mathlib.Core.List.{_++_};
 ghost use Rattle.model.specs.ApprovalCases.{askCases, commitCases, dropCases, pendingCases};
 ghost use Rattle.model.specs.Cache.{ApartYields, OrdinaryCarries, StepCarries, StepWrites, SwitchKeeps};
 ghost use Rattle.model.specs.Cases.{cases, Hold};
 ghost use Rattle.model.specs.Claim.{Claim};
 ghost use Rattle.model.specs.Committing.{CommittedKept};
-ghost use Rattle.model.specs.DeviceCases.{deviceCases, windowCases};
-ghost use Rattle.model.specs.Drill.{drillOutput};
-ghost use Rattle.model.specs.DrillCases.{drillCases, Limit};
+ghost use Rattle.model.specs.DeviceCases.{deviceCases};
 ghost use Rattle.model.specs.Further.{startCases, syncCases, orderCases, accessCases, switchCases, answerCases, apartCases, vectorCases};
 ghost use Rattle.model.specs.Orders.{startOrder, callOrder};
-ghost use Rattle.model.specs.Record.{WrittenStarts, WrittenAgain};
-ghost use Rattle.model.specs.RecordCases.{recordCases};
 ghost use Rattle.model.specs.TreeCases.{walkCases, walkRefusals, treeCases};
 ghost use Rattle.model.specs.Walks.{ReadsWithin, TreeAsFlat, TreeRefused};
 ghost use Rattle.model.specs.Windows.{WindowsApart, DevicesKept};
-ghost use Rattle.model.specs.Worked.{workedInput, workedOutput};
 
 // Document 01, "The guard and its edges": the size of a page in bytes, and the most that V and F may be.
 pub const PAGE_BYTES: u64 = 4096;
@@ -123,21 +117,6 @@ pub fn order_of_questions()
     ensures { λ _. ⌜ Hold (startOrder ++ callOrder) ⌝ }
 {}
 
-// Document 02, K2: the records that a call writes and the policies that it refuses.
-pub fn record_cases()
-    ensures { λ _. ⌜ Hold recordCases ⌝ }
-{}
-
-// Document 02, K2: "a written record starts a guard with those pages and frames".
-pub fn written_starts()
-    ensures { λ _. ⌜ WrittenStarts ⌝ }
-{}
-
-// Document 02, K2: "an accepted record read and written again is the same bytes".
-pub fn written_again()
-    ensures { λ _. ⌜ WrittenAgain ⌝ }
-{}
-
 // Document 02, K3: an entry taken apart yields the cache bits, "an ordinary shadow entry carries them", an approved entry does not, and a mode
 // switch keeps them.
 pub fn cache_bits()
@@ -161,7 +140,7 @@ pub fn tree_as_flat()
 
 // Document 02, K5: the number of devices, and what a device write answers by its list.
 pub fn device_cases()
-    ensures { λ _. ⌜ Hold deviceCases × Hold windowCases ⌝ }
+    ensures { λ _. ⌜ Hold deviceCases ⌝ }
 {}
 
 // Document 02, K5: "Changing one device's window changes no answer given to another", and no call changes the number of devices.
@@ -172,21 +151,6 @@ pub fn windows_apart()
 // Document 02, K6: what ask, commit and drop give, and what the other calls give while a pair is pending.
 pub fn approval_cases()
     ensures { λ _. ⌜ Hold (askCases ++ commitCases ++ dropCases ++ pendingCases) ⌝ }
-{}
-
-// Document 01, the worked example: every byte of its output follows from the drill's definitions.
-pub fn worked_example()
-    ensures { λ _. ⌜ drillOutput workedInput ≡ workedOutput ⌝ }
-{}
-
-// The drill beside the worked example: its output on small inputs, a call's fields, its numbers.
-pub fn drill_cases()
-    ensures { λ _. ⌜ Hold drillCases ⌝ }
-{}
-
-// The drill makes 1,024 calls and no more.
-pub fn limit_of_calls()
-    ensures { λ _. ⌜ Limit ⌝ }
 {}
 
 // Demand 3: one claim about every list of calls after an accepted start.

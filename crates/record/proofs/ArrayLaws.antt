@@ -16,7 +16,7 @@ use Rattle.model.specs.Basics.{both, within}
 use Rattle.model.specs.Edges.{pagesInRange, framesInRange}
 use Rattle.model.specs.Policy.{Policy}
 use Rattle.model.specs.Questions.{firstNo, sizesInRange, countsInRange, rising, allBelow, policyQuestions}
-use Rattle.model.specs.Record.{policyBy, arraysExact}
+use Rattle.record_model.specs.Record.{policyBy, arraysExact}
 use Rattle.model.proofs.QuestionLaws.{both-true, both-first, both-second, within-low, within-high}
 use Rattle.model.proofs.PolicyLaws.{rising-refuses}
 use Rattle.record.specs.Arrays.{highestOf}

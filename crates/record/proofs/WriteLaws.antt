@@ -16,11 +16,11 @@ use Rattle.model.specs.Basics.{both}
 use Rattle.model.specs.Policy.{Policy}
 use Rattle.model.specs.Questions.{question, firstNo, policyQuestions}
 use Rattle.model.specs.Calls.{replyOf}
-use Rattle.model.specs.Record.{policyBy, numberBytes, numbersBytes, recordOf, arraysExact, writeRecordQuestions, written, writeRecordOf}
+use Rattle.record_model.specs.Record.{policyBy, numberBytes, numbersBytes, recordOf, arraysExact, writeRecordQuestions, written, writeRecordOf}
 use Rattle.model.proofs.QuestionLaws.{firstNo-yes, firstNo-no, firstNo-front, firstNo-back, numbered}
 use Rattle.model.proofs.CallLaws.{passed, stopped, none-left, settle-refused-by}
 use Rattle.model.proofs.PolicyLaws.{Passed, policy-passed}
-use Rattle.model.proofs.RecordLaws.{length-numbersBytes, numbersBytes-append, written-length, write-passed, pages-exact, frames-exact, room-there, written-is}
+use Rattle.record_model.proofs.RecordLaws.{length-numbersBytes, numbersBytes-append, written-length, write-passed, pages-exact, frames-exact, room-there, written-is}
 use Rattle.record.proofs.ArrayLaws.{array-front, array-ends}
 
 -- Two stores put a number.

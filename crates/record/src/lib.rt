@@ -11,7 +11,7 @@ ghost use lib.Seq.{sets};
 ghost use Rattle.model.specs.Basics.{both};
 ghost use Rattle.model.specs.Questions.{firstNo, rising, allBelow, policyQuestions};
 ghost use Rattle.model.specs.Calls.{replyOf};
-ghost use Rattle.model.specs.Record.{policyBy, numberBytes, numbersBytes, recordOf, arraysExact, writeRecordQuestions, written, writeRecordOf};
+ghost use Rattle.record_model.specs.Record.{policyBy, numberBytes, numbersBytes, recordOf, arraysExact, writeRecordQuestions, written, writeRecordOf};
 ghost use Rattle.record.specs.Arrays.{highestOf};
 use model::Answer;
 

@@ -7,7 +7,7 @@ use lib.ListN.{length}
 use Rattle.model.specs.declared.Answer.{Answer}
 use Rattle.model.specs.Policy.{Policy}
 use Rattle.model.specs.Calls.{replyOf}
-use Rattle.model.specs.Record.{written, writeRecordOf}
+use Rattle.record_model.specs.Record.{written, writeRecordOf}
 use Rattle.words.specs.Words.{answerNumbers, withNumbers}
 use Rattle.boundary.specs.Boundary.{recorded, recordAt}
 

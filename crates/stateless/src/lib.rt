@@ -7,7 +7,7 @@ ghost use Rattle.model.specs.Policy.{givenOf, policyOf};
 ghost use Rattle.model.specs.Questions.{firstNo, recordQuestions};
 ghost use Rattle.model.specs.Tree.{treeOf};
 ghost use Rattle.model.specs.Calls.{settle};
-ghost use Rattle.model.specs.Record.{policyBy};
+ghost use Rattle.record_model.specs.Record.{policyBy};
 ghost use Rattle.boundary.specs.Boundary.{returned, startAt, recorded, recordAt, walked, walkAt};
 use model::Answer;
 

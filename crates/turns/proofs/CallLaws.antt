@@ -11,7 +11,7 @@ use Rattle.model.specs.declared.Device.{Device}
 use Rattle.model.specs.Keeps.{Tables, tables, withShadow, withMap, withExclusion, guardOf}
 use Rattle.model.specs.Devices.{deviceAt}
 use Rattle.model.specs.Calls.{outcomeBy, Call, syncPage, syncAll, fetch, write, enter, leave, deviceWrite, answer}
-use Rattle.model.specs.Drill.{callOf}
+use Rattle.drill_model.specs.Drill.{callOf}
 
 module _ (s : State) (kernel shadow map exclusion : List ℕ) (devices : List Device) (kind index length value : ℕ) where
   -- A call's promise: the tables before it and after it, with any others.

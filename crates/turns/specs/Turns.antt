@@ -12,7 +12,7 @@ use Rattle.model.specs.Edges.{pagesInRange, framesInRange}
 use Rattle.model.specs.Keeps.{Tables, tables, Guard, guardOf, vectorBytes}
 use Rattle.model.specs.Policy.{policyOf}
 use Rattle.model.specs.Calls.{Outcome, replyOf, startOf}
-use Rattle.model.specs.Drill.{drillGiven, Drill, Drilled, Turn, drillStart, startLine, turn, closing, callLines}
+use Rattle.drill_model.specs.Drill.{drillGiven, Drill, Drilled, Turn, drillStart, startLine, turn, closing, callLines}
 use Rattle.lines.specs.Text.{text}
 use Rattle.turns.specs.declared.TurnResult.{TurnResult}
 

@@ -4,7 +4,7 @@ use mathlib.Core.Path.{sym, ap}
 use lib.ListN.{length}
 use native.Mathlib.Omega.{arith}
 use borrow.Author.Needs.{needs}
-use Rattle.model.specs.Drill.{hexDigits}
+use Rattle.drill_model.specs.Drill.{hexDigits}
 use Rattle.drill.proofs.write_closing.Statement.{statement}
 use Rattle.drill.proofs.write_closing.Tie as tie
 

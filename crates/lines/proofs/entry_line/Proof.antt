@@ -1,7 +1,7 @@
 -- `lines::entry_line` meets its contract.
 use native.Mathlib.Nat.{div-one}
 use borrow.Author.Needs.{needs}
-use Rattle.model.specs.Drill.{hexDigits}
+use Rattle.drill_model.specs.Drill.{hexDigits}
 use Rattle.lines.proofs.entry_line.Statement.{statement}
 use Rattle.lines.proofs.entry_line.Tie as tie
 

@@ -4,7 +4,7 @@ use mathlib.Core.Path.{_≡_}
 use native.Mathlib.Omega.{arith}
 use borrow.Author.Needs.{needs}
 use Rattle.model.specs.Keeps.{excludedIn}
-use Rattle.model.specs.Drill.{countFrom}
+use Rattle.drill_model.specs.Drill.{countFrom}
 use Rattle.lines.proofs.CountLaws.{count-begins, count-more, count-over}
 use Rattle.lines.proofs.excluded_count.Statement.{statement}
 use Rattle.lines.proofs.excluded_count.Tie as tie

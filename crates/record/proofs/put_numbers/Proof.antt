@@ -4,7 +4,7 @@ use mathlib.Core.Path.{_≡_}
 use lib.ListN.{length, drop}
 use lib.Seq.{sets}
 use borrow.Author.Needs.{needs}
-use Rattle.model.specs.Record.{numbersBytes}
+use Rattle.record_model.specs.Record.{numbersBytes}
 use Rattle.record.proofs.WriteLaws.{put-length, numbers-end, numbers-more}
 use Rattle.record.proofs.put_numbers.Statement.{statement}
 use Rattle.record.proofs.put_numbers.Tie as tie

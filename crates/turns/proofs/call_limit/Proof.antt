@@ -1,6 +1,6 @@
 -- `turns::call_limit` meets its contract.
 use borrow.Author.Needs.{needs}
-use Rattle.model.specs.Drill.{callLimit}
+use Rattle.drill_model.specs.Drill.{callLimit}
 use Rattle.turns.proofs.call_limit.Statement.{statement}
 use Rattle.turns.proofs.call_limit.Tie as tie
 

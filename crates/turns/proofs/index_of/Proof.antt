@@ -1,6 +1,6 @@
 -- `turns::index_of` meets its contract.
 use borrow.Author.Needs.{needs}
-use Rattle.model.specs.Drill.{indexOf}
+use Rattle.drill_model.specs.Drill.{indexOf}
 use Rattle.turns.proofs.index_of.Statement.{statement}
 use Rattle.turns.proofs.index_of.Tie as tie
 

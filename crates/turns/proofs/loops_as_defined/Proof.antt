@@ -6,7 +6,7 @@ use mathlib.Core.Path.{_≡_, refl}
 use native.Mathlib.Numerals.{sub-one}
 use native.Mathlib.Omega.{arith}
 use borrow.Author.Tests.{lt-ltb}
-use Rattle.model.specs.Drill.{Drill, closing, callLines}
+use Rattle.drill_model.specs.Drill.{Drill, closing, callLines}
 use Rattle.turns.specs.Turns.{goesOn, leftAfter, LoopsAsDefined}
 use Rattle.turns.proofs.loops_as_defined.Statement.{statement}
 use Rattle.turns.proofs.loops_as_defined.Tie as tie

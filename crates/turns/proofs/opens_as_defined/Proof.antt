@@ -10,7 +10,7 @@ use Rattle.model.specs.Keeps.{Tables, guardOf}
 use Rattle.model.specs.Policy.{policyOf, zeroState}
 use Rattle.model.specs.Questions.{firstNo, sizesInRange, policyQuestions, recordQuestions, startQuestions}
 use Rattle.model.specs.Calls.{Outcome, nothingBrought, refusedOf, settle, startOf}
-use Rattle.model.specs.Drill.{drillGiven, drillStart, startLine}
+use Rattle.drill_model.specs.Drill.{drillGiven, drillStart, startLine}
 use Rattle.model.proofs.QuestionLaws.{both-no, both-no-after}
 use Rattle.turns.specs.Turns.{Opening, openingOf, pagesLent, bytesLent, lentStart, OpensAsDefined}
 use Rattle.turns.proofs.opens_as_defined.Statement.{statement}

@@ -1,12 +1,12 @@
 -- The drill makes 1,024 calls and no more.
 use mathlib.Core.List.{[], _∷_, _++_}
 use mathlib.Core.Path.{_∙_, ap}
-use Rattle.model.specs.Drill.{callLimit}
-use Rattle.model.specs.Worked.{linesOf}
-use Rattle.model.specs.DrillCases.{times}
-use Rattle.model.proofs.LimitLaws.{edit, editLine, closingLines, opening, edits}
-use Rattle.model.proofs.limit_of_calls.Statement.{statement}
-use Rattle.model.proofs.limit_of_calls.Tie as tie
+use Rattle.drill_model.specs.Drill.{callLimit}
+use Rattle.drill_model.specs.Worked.{linesOf}
+use Rattle.drill_model.specs.DrillCases.{times}
+use Rattle.drill_model.proofs.LimitLaws.{edit, editLine, closingLines, opening, edits}
+use Rattle.drill_model.proofs.limit_of_calls.Statement.{statement}
+use Rattle.drill_model.proofs.limit_of_calls.Tie as tie
 
 returns : tie.Need-returns
 unfolding callLimit edit editLine closingLines

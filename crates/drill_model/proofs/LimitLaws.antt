@@ -2,11 +2,11 @@
 use Prim.Native.Nat.{ℕ, zero, suc}
 use mathlib.Core.List.{List, [], _∷_, _++_}
 use mathlib.Core.Path.{_≡_, refl, ap}
 use Rattle.model.specs.Cases.{policyBytes}
-use Rattle.model.specs.Drill.{Drill, begun, drillStart, callLimit, callLines, drillOutput}
-use Rattle.model.specs.Worked.{bytesOf, linesOf}
-use Rattle.model.specs.DrillCases.{littleEndian, callBytes, times}
-use Rattle.model.proofs.Computed.{computed}
+use Rattle.drill_model.specs.Drill.{Drill, begun, drillStart, callLimit, callLines, drillOutput}
+use Rattle.drill_model.specs.Worked.{bytesOf, linesOf}
+use Rattle.drill_model.specs.DrillCases.{littleEndian, callBytes, times}
+use Rattle.drill_model.proofs.Computed.{computed}
 
 -- The drill after its start, an edit of page 4, its line, and the closing lines.
 unfoldable pub opened : Drill

@@ -4,12 +4,12 @@ use Prim.Native.Nat.{ℕ}
 use mathlib.Core.Bool.{true, false}
 use mathlib.Core.List.{List, [], _∷_, _++_}
 use lib.ListN.{replicate}
 use Rattle.model.specs.Basics.{table}
 use Rattle.model.specs.Policy.{Policy}
 use Rattle.model.specs.Calls.{accepted, refused}
-use Rattle.model.specs.Record.{policyBy, Written, written, writeRecordOf}
+use Rattle.record_model.specs.Record.{policyBy, Written, written, writeRecordOf}
 use Rattle.model.specs.Cases.{Row, row, policyBytes}
 use Rattle.model.specs.Further.{twoEntries}
 
 -- Its record written into a buffer of so many bytes, and the call refused there.
 unfoldable pub writtenInto : ℕ → Policy → Written

@@ -4,10 +4,12 @@ use Prim.Native.Nat.{ℕ, zero, suc, _+_, _/_, _%_}
 use mathlib.Core.List.{List, [], _∷_, _++_}
 use mathlib.Core.Path.{_≡_}
 use lib.ListN.{replicate}
+use Rattle.model.specs.declared.Device.{Device}
+use Rattle.model.specs.Devices.{deviceOf}
 use Rattle.model.specs.Cases.{Row, row, policyBytes}
 use Rattle.model.specs.Further.{twoEntries}
-use Rattle.model.specs.Drill.{policyExtent, kindOf, indexOf, lengthOf, valueOf, decimal, entryLines, shareLine, drillOutput}
-use Rattle.model.specs.Worked.{bytesOf, linesOf}
+use Rattle.drill_model.specs.Drill.{policyExtent, windowsOf, kindOf, indexOf, lengthOf, valueOf, decimal, entryLines, shareLine, drillOutput}
+use Rattle.drill_model.specs.Worked.{bytesOf, linesOf}
 
 -- So many bytes of a number, the lowest first.
 unfoldable pub littleEndian : ℕ → ℕ → List ℕ
@@ -142,6 +144,16 @@ drillCases =
     ∷ row (decimal 10 ++ decimal 0 ++ decimal 18446744073709551615) (bytesOf "10018446744073709551615")
     ∷ row (entryLines (0xfedcba9876543210 ∷ 0xf ∷ [])) (linesOf ("fedcba9876543210" ∷ "000000000000000f" ∷ []))
     ∷ row (shareLine 3 (5 ∷ []) ++ shareLine 4 (2 ∷ []) ++ shareLine 3 (255 ∷ [])) (linesOf ("share 66" ∷ "share 25" ∷ "share 100" ∷ []))
+    ∷ []
+
+-- The drill's windows.
+abbrev pub WindowCase : Type 0
+WindowCase = Row (List Device)
+
+unfoldable pub windowCases : List WindowCase
+windowCases =
+    row (windowsOf 4) (replicate 64 (deviceOf 0 3))
+    ∷ row (windowsOf 1) (replicate 64 (deviceOf 0 0))
     ∷ []
 
 -- A list so many times over.

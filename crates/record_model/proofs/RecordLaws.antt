@@ -11,15 +11,15 @@ use native.Mathlib.Nat.{zero-add, suc-add, le-of-suc-le-suc}
 use native.Mathlib.Numerals.{add-one}
 use native.Mathlib.Omega.{arith}
 use borrow.Author.Tests.{lt-ltb, le-leb, leb-true, eq-eqb, eqb-true}
 use Rattle.model.specs.Basics.{both, either}
 use Rattle.model.specs.Keeps.{Tables}
 use Rattle.model.specs.Policy.{Givens, Policy, numberAt, numbersAt, policyOf, startGuard}
 use Rattle.model.specs.Questions.{firstNo, allBelow, policyQuestions, givensInRange, recordQuestions, lengthsOf, lengthsFit, startQuestions}
 use Rattle.model.specs.Calls.{accepted, outcome, startOf}
-use Rattle.model.specs.Record.{numberBytes, numbersBytes, recordOf, arraysExact, writeRecordQuestions, Written, written, writeRecordOf, WrittenStarts, WrittenAgain}
+use Rattle.record_model.specs.Record.{numberBytes, numbersBytes, recordOf, arraysExact, writeRecordQuestions, Written, written, writeRecordOf, WrittenStarts, WrittenAgain}
 use Rattle.model.proofs.QuestionLaws.{both-first, both-second, asked, numbered, all-yes, firstNo-yes, firstNo-back, firstNo-both, settle-accepted, settle-number}
 use Rattle.model.proofs.CallLaws.{none-left}
 use Rattle.model.proofs.PolicyLaws.{length-numbersAt, getD-numbersAt, exact-yes, policy-asked, record-length, allBelow-more, allBelow-head, allBelow-tail, allBelow-wider, Passed, policy-passed}
 
 -- The bytes of numbers in a row: how many, those of two rows, and each number read back.
 pub length-numbersBytes : (numbers : List ℕ) → length (numbersBytes numbers) ≡ 2 * length numbers

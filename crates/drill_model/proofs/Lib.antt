@@ -1,0 +1,3 @@
+-- What the theorems about the drill's definitions cite.
+mod Computed
+mod LimitLaws

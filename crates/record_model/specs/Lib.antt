@@ -1,0 +1,3 @@
+-- The definitions of document 02, K2: the record that a call writes, and its rows.
+pub mod Record
+pub mod RecordCases
