@@ -1,3 +1,4 @@
 -- What the theorems about the drill's definitions cite.
 mod Computed
 mod LimitLaws
+mod ShareLaws

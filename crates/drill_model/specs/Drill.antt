@@ -151,9 +151,17 @@ unfoldable pub countFrom : (ℕ → Bool) → ℕ → ℕ → ℕ
 countFrom test first zero = 0
 countFrom test first (suc count) = cond (test first) 1 0 + countFrom test (suc first) count
 
--- "100 × excluded frames / F, rounded down"
+-- "to the nearest, an exact half to the even number" (K7): of a quotient rounded down and the next number. What the division leaves, twice, is
+-- below the divisor, above it, or at an exact half the divisor itself.
+unfoldable pub nearest : ℕ → ℕ → ℕ
+nearest n d =
+    let down : ℕ = n / d in
+    let twice : ℕ = 2 * (n % d) in
+    cond (ltb twice d) down (cond (ltb d twice) (down + 1) (down + down % 2))
+
+-- "100 × excluded frames / F", to the nearest (K7).
 unfoldable pub share : ℕ → List ℕ → ℕ
-share frames exclusion = 100 * countFrom (excludedIn exclusion) 0 frames / frames
+share frames exclusion = nearest (100 * countFrom (excludedIn exclusion) 0 frames) frames
 
 -- "and the word share with" that figure.
 unfoldable pub shareLine : ℕ → List ℕ → List ℕ

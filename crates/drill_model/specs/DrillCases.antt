@@ -140,10 +140,46 @@ drillCases =
     (0x10 ∷ 0x1312 ∷ 0x17161514 ∷ 0x1f1e1d1c1b1a1918 ∷ [])
     -- "8 bytes, and 4 × n more if n is 1 to 2,048": n 0, 1, 2,048 and 2,049
     ∷ row (extentOf 0 ∷ extentOf 1 ∷ extentOf 2048 ∷ extentOf 2049 ∷ []) (8 ∷ 12 ∷ 8200 ∷ 8 ∷ [])
-    -- Decimal numbers, hexadecimal digits, and the share, rounded down: 2 of 3 frames, 1 of 4, and all of 3, whatever the spare bits are
+    -- Decimal numbers and hexadecimal digits
     ∷ row (decimal 10 ++ decimal 0 ++ decimal 18446744073709551615) (bytesOf "10018446744073709551615")
     ∷ row (entryLines (0xfedcba9876543210 ∷ 0xf ∷ [])) (linesOf ("fedcba9876543210" ∷ "000000000000000f" ∷ []))
-    ∷ row (shareLine 3 (5 ∷ []) ++ shareLine 4 (2 ∷ []) ++ shareLine 3 (255 ∷ [])) (linesOf ("share 66" ∷ "share 25" ∷ "share 100" ∷ []))
+    ∷ []
+
+-- K7: "to the nearest, an exact half to the even number".
+unfoldable pub shareCases : List DrillCase
+shareCases =
+    -- "One excluded frame of eight prints 12, three of eight print 38": exact halves, between two numbers of which either is the even one
+    row (shareLine 8 (0x01 ∷ [])) (linesOf ("share 12" ∷ []))
+    ∷ row (shareLine 8 (0x07 ∷ [])) (linesOf ("share 38" ∷ []))
+    ∷ row (shareLine 8 (0x1f ∷ [])) (linesOf ("share 62" ∷ []))
+    ∷ row (shareLine 8 (0x7f ∷ [])) (linesOf ("share 88" ∷ []))
+    ∷ row (shareLine 200 (0x01 ∷ replicate 24 0)) (linesOf ("share 0" ∷ []))
+    ∷ row (shareLine 200 (0x07 ∷ replicate 24 0)) (linesOf ("share 2" ∷ []))
+    ∷ row (shareLine 200 (0x1f ∷ replicate 24 0)) (linesOf ("share 2" ∷ []))
+    ∷ row (shareLine 200 (0x7f ∷ replicate 24 0)) (linesOf ("share 4" ∷ []))
+    -- 199 of 200, the greatest exact half; all of F
+    ∷ row (shareLine 200 (0xfe ∷ replicate 24 0xff)) (linesOf ("share 100" ∷ []))
+    ∷ row (shareLine 200 (replicate 25 0xff)) (linesOf ("share 100" ∷ []))
+    ∷ row (shareLine 8 (0xff ∷ [])) (linesOf ("share 100" ∷ []))
+    ∷ row (shareLine 1 (0x01 ∷ [])) (linesOf ("share 100" ∷ []))
+    -- Below a half and above it: 1 and 2 of 3, 2 and 5 of 7; and no rest: 2 and 6 of 8
+    ∷ row (shareLine 3 (0x04 ∷ [])) (linesOf ("share 33" ∷ []))
+    ∷ row (shareLine 3 (0x05 ∷ [])) (linesOf ("share 67" ∷ []))
+    ∷ row (shareLine 7 (0x41 ∷ [])) (linesOf ("share 29" ∷ []))
+    ∷ row (shareLine 7 (0x1f ∷ [])) (linesOf ("share 71" ∷ []))
+    ∷ row (shareLine 8 (0x84 ∷ [])) (linesOf ("share 25" ∷ []))
+    ∷ row (shareLine 8 (0x7e ∷ [])) (linesOf ("share 75" ∷ []))
+    -- The bits past frame F - 1 do not count: all of 3, 1 of 4, and 1 of 9
+    ∷ row (shareLine 3 (0xff ∷ [])) (linesOf ("share 100" ∷ []))
+    ∷ row (shareLine 4 (0xf2 ∷ [])) (linesOf ("share 25" ∷ []))
+    ∷ row (shareLine 9 (0x00 ∷ 0xff ∷ [])) (linesOf ("share 11" ∷ []))
+    -- A drill of F 8 whose three pages list two frames, one of them twice; one whose three pages list three
+    ∷ row (drillOutput (3 ∷ 0 ∷ 8 ∷ 0 ∷ 3 ∷ 0 ∷ 1 ∷ 0 ∷ 0 ∷ 0 ∷ 1 ∷ 0 ∷ 2 ∷ 0 ∷ 5 ∷ 0 ∷ 7 ∷ 0 ∷ 5 ∷ 0 ∷ []))
+    (linesOf ("S 0 3 1 K 0\n0000000000005401\n0000000000007401\n0000000000005401\nshare 25" ∷ []))
+    ∷ row (drillOutput (3 ∷ 0 ∷ 8 ∷ 0 ∷ 3 ∷ 0 ∷ 1 ∷ 0 ∷ 0 ∷ 0 ∷ 1 ∷ 0 ∷ 2 ∷ 0 ∷ 5 ∷ 0 ∷ 7 ∷ 0 ∷ 0 ∷ 0 ∷ []))
+    (linesOf ("S 0 3 1 K 0\n0000000000005401\n0000000000007401\n0000000000000401\nshare 38" ∷ []))
+    -- 0 of F cannot happen: n 0 is refused, and prints no share
+    ∷ row (drillOutput (3 ∷ 0 ∷ 8 ∷ 0 ∷ 0 ∷ 0 ∷ 0 ∷ 0 ∷ [])) (linesOf ("S 3 0 0 U 0" ∷ []))
     ∷ []
 
 -- The drill's windows.
