@@ -1,3 +1,2 @@
 -- Laws that the proofs of several functions cite.
 mod LineLaws
-mod CountLaws

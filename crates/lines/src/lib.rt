@@ -6,9 +6,9 @@ ghost use mathlib.Core.Bool.{cond};
 ghost use mathlib.Core.Path.{_≡_};
 ghost use mathlib.Core.List.{[], _∷_, _++_};
 ghost use lib.ListN.{take};
-ghost use Rattle.model.specs.Keeps.{inUser, running, excludedIn};
+ghost use Rattle.model.specs.Keeps.{inUser, running};
 ghost use Rattle.model.specs.Calls.{replyOf};
-ghost use Rattle.drill_model.specs.Drill.{digits, decimal, line, hexDigit, hexDigits, countFrom, share, shareLine};
+ghost use Rattle.drill_model.specs.Drill.{digits, decimal, line, hexDigit, hexDigits, shareLine};
 ghost use Rattle.lines.specs.Text.{text};
 use model::Answer;
 use model::Mode;
@@ -150,37 +150,6 @@ pub fn entry_line(entry: u64) -> [u8; 17]
     ]
 }
 
-// 1 where b holds, and else 0.
-fn one(b: bool) -> u64
-    ensures { λ r. ⌜ (r ≡ cond b 1 0) × (r ≤ 1) ⌝ }
-{
-    if b { 1 } else { 0 }
-}
-
-// How many of the frames are excluded.
-fn excluded_count(frames: u16, exclusion: &[u8]) -> u64
-    ensures { λ r. ⌜ (r ≡ countFrom (excludedIn (now (exclusion .entry))) 0 frames) × (r ≤ frames) ⌝ }
-{
-    let mut count: u64 = 0;
-    let mut frame: u64 = 0;
-    let end = frames as u64;
-    while frame < end {
-        count += one(bitmap::excluded(exclusion, frame));
-        frame += 1;
-    }
-    count
-}
-
-// The share of excluded frames in percent, rounded down. Of no frames it is 0.
-fn share_of(frames: u16, exclusion: &[u8]) -> u64
-    ensures { λ r. ⌜ r ≡ share frames (now (exclusion .entry)) ⌝ }
-{
-    if frames == 0 {
-        return 0;
-    }
-    100 * excluded_count(frames, exclusion) / frames as u64
-}
-
 // The word share and a space.
 fn share_word() -> Line
     ensures { λ r. ⌜ (text r ≡ 115 ∷ 104 ∷ 97 ∷ 114 ∷ 101 ∷ 32 ∷ []) × (r .len ≡ 6) ⌝ }
@@ -198,6 +167,6 @@ fn share_word() -> Line
 pub fn share_line(frames: u16, exclusion: &[u8]) -> Line
     ensures { λ r. ⌜ text r ≡ shareLine frames (now (exclusion .entry)) ⌝ }
 {
-    let l = with_digits(share_word(), 20, share_of(frames, exclusion));
+    let l = with_digits(share_word(), 20, share::share_of(frames, exclusion));
     with_byte(l, b'\n')
 }

@@ -1,13 +1,13 @@
--- `lines::excluded_count` meets its contract.
+-- `share::excluded_count` meets its contract.
 use Prim.Native.Nat.{_+_, _-_, _≤_}
 use mathlib.Core.Path.{_≡_}
 use native.Mathlib.Omega.{arith}
 use borrow.Author.Needs.{needs}
 use Rattle.model.specs.Keeps.{excludedIn}
 use Rattle.drill_model.specs.Drill.{countFrom}
-use Rattle.lines.proofs.CountLaws.{count-begins, count-more, count-over}
-use Rattle.lines.proofs.excluded_count.Statement.{statement}
-use Rattle.lines.proofs.excluded_count.Tie as tie
+use Rattle.share.proofs.CountLaws.{count-begins, count-more, count-over}
+use Rattle.share.proofs.excluded_count.Statement.{statement}
+use Rattle.share.proofs.excluded_count.Tie as tie
 
 abbrev Inv-loop : tie.InvT-loop
 Inv-loop frames exclusion count₀ frame₀ end count frame =
