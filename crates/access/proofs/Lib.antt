@@ -2,5 +2,4 @@
 pub mod UserLaws
 pub mod FetchLaws
 pub mod WriteLaws
-pub mod TransferLaws
 mod CommonLaws

@@ -11,7 +11,8 @@ use Rattle.model.specs.Keeps.{none, excludedIn}
 use Rattle.model.specs.Bits.{present, frameOf}
 use Rattle.model.specs.Questions.{Question, question, View, writePermitted}
 
-abbrev lentView : ℕ → Bool → ℕ → ℕ → List ℕ → List ℕ → View
+-- Of any access: `transfer` has its view of this too.
+abbrev pub lentView : ℕ → Bool → ℕ → ℕ → List ℕ → List ℕ → View
 lentView devices user pages frames shadow exclusion =
     record {
       pages = pages;
@@ -32,10 +33,6 @@ lentView devices user pages frames shadow exclusion =
 
 abbrev pub accessView : Bool → ℕ → ℕ → List ℕ → List ℕ → View
 accessView user pages frames shadow exclusion = lentView 0 user pages frames shadow exclusion
-
--- Of a device write: F, the exclusion vector, and a list with a record for each device (K5).
-abbrev pub transferView : ℕ → ℕ → List ℕ → View
-transferView devices frames exclusion = lentView devices true 0 frames [] exclusion
 
 -- Question 13 of one frame.
 unfoldable pub freeIn : ℕ → List ℕ → ℕ → Bool

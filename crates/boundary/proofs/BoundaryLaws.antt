@@ -11,7 +11,7 @@ use Rattle.model.specs.declared.Called.{Called}
 use Rattle.model.specs.declared.State.{State}
 use Rattle.model.specs.declared.Device.{Device}
 use Rattle.model.specs.Basics.{both}
-use Rattle.model.specs.Keeps.{Tables, withShadow, withMap, withExclusion, withThree, guardOf}
+use Rattle.model.specs.Keeps.{Tables, withShadow, withExclusion, guardOf}
 use Rattle.model.specs.Devices.{deviceAt}
 use Rattle.model.specs.Questions.{stateInOrder}
 use Rattle.model.specs.Calls.{replyOf, settle, outcomeBy, keptBy, Call, deviceWrite, answer}
@@ -55,43 +55,24 @@ module _ (run numbers : List ℕ) (b : Bool) (call : Call) (asks : b ≡ usable 
 
   -- The call's own answer, of a call that may change the state and of one that keeps it. What it is lent and what it leaves, of any tables.
   module _ (s : State) (in-run : s ≡ stateIn run) (after : List ℕ) (r : ℕ) (before after′ : Tables → Tables) where
-    called : (run′ : List ℕ) (c : Called) → ((t : Tables) → outcomeBy c (after′ t) ≡ answer (guardOf s (before t)) call)
+    pub called : (run′ : List ℕ) (c : Called) → ((t : Tables) → outcomeBy c (after′ t) ≡ answer (guardOf s (before t)) call)
         → Says (numbersBy call) (c .answer) r numbers after → run′ ≡ runAfter run (changedBy call) (replyOf (c .answer)) (c .state)
         → (t : Tables) → returned r run′ after (after′ t) ≡ callAt run numbers (before t) call
     unfolding callAt replied outcomeBy
     called run′ c e says put t = rw (lends, sym (rw in-run at (e t)), says .0, says .1, put) refl
 
-    kept : changedBy call ≡ [] → (a : Answer) → ((t : Tables) → keptBy a s (after′ t) ≡ answer (guardOf s (before t)) call)
+    pub kept : changedBy call ≡ [] → (a : Answer) → ((t : Tables) → keptBy a s (after′ t) ≡ answer (guardOf s (before t)) call)
         → Says (numbersBy call) a r numbers after → (t : Tables) → returned r run after (after′ t) ≡ callAt run numbers (before t) call
     unfolding runAfter
     kept none a e says = called run (record { answer = a; state = s }) e says (rw none (none-changed run s (replyOf a .number)))
 
-  -- The same by the tables that a call is lent: the shadow table; shadow and vector; the vector; all three.
+  -- The same by the tables that a call is lent: the shadow table; shadow and vector; the vector.
   module _ (s : State) (in-run : s ≡ stateIn run) (after : List ℕ) (r : ℕ) where
     pub shadow-called : (shadow shadow′ run′ : List ℕ) (c : Called)
         → ((t : Tables) → outcomeBy c (withShadow shadow′ t) ≡ answer (guardOf s (withShadow shadow t)) call)
         → Says (numbersBy call) (c .answer) r numbers after → run′ ≡ runAfter run (changedBy call) (replyOf (c .answer)) (c .state)
         → (t : Tables) → returned r run′ after (withShadow shadow′ t) ≡ callAt run numbers (withShadow shadow t) call
     shadow-called shadow shadow′ = called s in-run after r (withShadow shadow) (withShadow shadow′)
-
-    -- Of what is pending: all three tables, shadow and map, the vector (K6).
-    pub ask-called : (shadow map exclusion exclusion′ run′ : List ℕ) (c : Called)
-        → ((t : Tables) → outcomeBy c (withThree shadow map exclusion′ t) ≡ answer (guardOf s (withThree shadow map exclusion t)) call)
-        → Says (numbersBy call) (c .answer) r numbers after → run′ ≡ runAfter run (changedBy call) (replyOf (c .answer)) (c .state)
-        → (t : Tables) → returned r run′ after (withThree shadow map exclusion′ t) ≡ callAt run numbers (withThree shadow map exclusion t) call
-    ask-called shadow map exclusion exclusion′ = called s in-run after r (withThree shadow map exclusion) (withThree shadow map exclusion′)
-
-    pub commit-called : (shadow map shadow′ map′ run′ : List ℕ) (c : Called)
-        → ((t : Tables) → outcomeBy c (withShadow shadow′ (withMap map′ t)) ≡ answer (guardOf s (withShadow shadow (withMap map t))) call)
-        → Says (numbersBy call) (c .answer) r numbers after → run′ ≡ runAfter run (changedBy call) (replyOf (c .answer)) (c .state)
-        → (t : Tables) → returned r run′ after (withShadow shadow′ (withMap map′ t)) ≡ callAt run numbers (withShadow shadow (withMap map t)) call
-    commit-called shadow map shadow′ map′ = called s in-run after r (λ t. withShadow shadow (withMap map t)) (λ t. withShadow shadow′ (withMap map′ t))
-
-    pub vector-called : (exclusion exclusion′ run′ : List ℕ) (c : Called)
-        → ((t : Tables) → outcomeBy c (withExclusion exclusion′ t) ≡ answer (guardOf s (withExclusion exclusion t)) call)
-        → Says (numbersBy call) (c .answer) r numbers after → run′ ≡ runAfter run (changedBy call) (replyOf (c .answer)) (c .state)
-        → (t : Tables) → returned r run′ after (withExclusion exclusion′ t) ≡ callAt run numbers (withExclusion exclusion t) call
-    vector-called exclusion exclusion′ = called s in-run after r (withExclusion exclusion) (withExclusion exclusion′)
 
     pub write-kept : (shadow exclusion shadow′ exclusion′ : List ℕ) (a : Answer) → changedBy call ≡ []
         → ((t : Tables) → keptBy a s (withShadow shadow′ (withExclusion exclusion′ t)) ≡ answer (guardOf s (withShadow shadow (withExclusion exclusion t))) call)
@@ -105,13 +86,6 @@ module _ (run numbers : List ℕ) (b : Bool) (call : Call) (asks : b ≡ usable 
         → r ≡ replyOf a .number → after ≡ withNumbers (numbersBy call) numbers (replyOf a)
         → (t : Tables) → returned r run after (withExclusion exclusion′ t) ≡ callAt run numbers (withExclusion exclusion t) call
     vector-kept exclusion exclusion′ a none e n w = kept s in-run after r (withExclusion exclusion) (withExclusion exclusion′) none a e (n, w)
-
-    pub sync-kept : (shadow map exclusion shadow′ map′ exclusion′ : List ℕ) (a : Answer) → changedBy call ≡ []
-        → ((t : Tables) → keptBy a s (withThree shadow′ map′ exclusion′ t) ≡ answer (guardOf s (withThree shadow map exclusion t)) call)
-        → r ≡ replyOf a .number → after ≡ withNumbers (numbersBy call) numbers (replyOf a)
-        → (t : Tables) → returned r run after (withThree shadow′ map′ exclusion′ t) ≡ callAt run numbers (withThree shadow map exclusion t) call
-    sync-kept shadow map exclusion shadow′ map′ exclusion′ a none e n w =
-        kept s in-run after r (withThree shadow map exclusion) (withThree shadow′ map′ exclusion′) none a e (n, w)
 
 -- A device write, of every list so long and with this record for its device (K5).
 module _ (run numbers : List ℕ) (b : Bool) (asks : b ≡ usable answerNumbers run numbers) (used : not b ≡ false) (s : State) (in-run : s ≡ stateIn run)

@@ -1,2 +1,2 @@
--- Laws that the proofs of this crate cite, and that of `stateless`.
+-- Laws that the proofs of this crate cite, and those of `boundary_sync` and `stateless`.
 pub mod BoundaryLaws

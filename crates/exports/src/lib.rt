@@ -67,7 +67,7 @@ pub extern "C" fn guard_sync_page(
     ensures { λ r. ⌜ ((t : Tables) → returned r (now (state .entry)) (now (numbers .exit)) (withThree (now (shadow .exit)) (now (map .exit)) (now (exclusion .entry)) t)
         ≡ callAt (now (state .entry)) (now (numbers .entry)) (withThree (now (shadow .entry)) (now (map .entry)) (now (exclusion .entry)) t) (syncPage (now (kernel .entry)) page)) ⌝ }
 {
-    boundary::sync_page(state, kernel, shadow, map, exclusion, page, numbers)
+    boundary_sync::sync_page(state, kernel, shadow, map, exclusion, page, numbers)
 }
 
 // Synchronise all pages.
@@ -83,7 +83,7 @@ pub extern "C" fn guard_sync_all(
     ensures { λ r. ⌜ ((t : Tables) → returned r (now (state .entry)) (now (numbers .exit)) (withThree (now (shadow .exit)) (now (map .exit)) (now (exclusion .entry)) t)
         ≡ callAt (now (state .entry)) (now (numbers .entry)) (withThree (now (shadow .entry)) (now (map .entry)) (now (exclusion .entry)) t) (syncAll (now (kernel .entry)))) ⌝ }
 {
-    boundary::sync_all(state, kernel, shadow, map, exclusion, numbers)
+    boundary_sync::sync_all(state, kernel, shadow, map, exclusion, numbers)
 }
 
 // Walks a page down a tree.
@@ -117,7 +117,7 @@ pub extern "C" fn guard_sync_page_tree(
         ≡ callAt (now (state .entry)) (now (numbers .entry)) (withThree (now (shadow .entry)) (now (map .entry)) (now (exclusion .entry)) t)
         (syncPageTree (treeOf (now (tables .entry)) root depth) page)) ⌝ }
 {
-    boundary::sync_page_tree(
+    boundary_sync::sync_page_tree(
         state,
         tables,
         root,
@@ -146,7 +146,7 @@ pub extern "C" fn guard_sync_all_tree(
         ≡ callAt (now (state .entry)) (now (numbers .entry)) (withThree (now (shadow .entry)) (now (map .entry)) (now (exclusion .entry)) t)
         (syncAllTree (treeOf (now (tables .entry)) root depth))) ⌝ }
 {
-    boundary::sync_all_tree(state, tables, root, depth, shadow, map, exclusion, numbers)
+    boundary_sync::sync_all_tree(state, tables, root, depth, shadow, map, exclusion, numbers)
 }
 
 #[no_mangle]
@@ -244,7 +244,7 @@ pub extern "C" fn guard_ask(
     ensures { λ r. ⌜ ((t : Tables) → returned r (now (state .exit)) (now (numbers .exit)) (withThree (now (shadow .entry)) (now (map .entry)) (now (exclusion .exit)) t)
         ≡ callAt (now (state .entry)) (now (numbers .entry)) (withThree (now (shadow .entry)) (now (map .entry)) (now (exclusion .entry)) t) (ask page frame)) ⌝ }
 {
-    boundary::ask(state, shadow, map, exclusion, page, frame, numbers)
+    boundary_sync::ask(state, shadow, map, exclusion, page, frame, numbers)
 }
 
 // Commits what is pending (K6).
@@ -258,7 +258,7 @@ pub extern "C" fn guard_commit(
     ensures { λ r. ⌜ ((t : Tables) → returned r (now (state .exit)) (now (numbers .exit)) (withShadow (now (shadow .exit)) (withMap (now (map .exit)) t))
         ≡ callAt (now (state .entry)) (now (numbers .entry)) (withShadow (now (shadow .entry)) (withMap (now (map .entry)) t)) commit) ⌝ }
 {
-    boundary::commit(state, shadow, map, numbers)
+    boundary_sync::commit(state, shadow, map, numbers)
 }
 
 // Drops what is pending (K6).
@@ -267,5 +267,5 @@ pub extern "C" fn guard_drop(state: &mut [u64], exclusion: &mut [u8], numbers: &
     ensures { λ r. ⌜ ((t : Tables) → returned r (now (state .exit)) (now (numbers .exit)) (withExclusion (now (exclusion .exit)) t)
         ≡ callAt (now (state .entry)) (now (numbers .entry)) (withExclusion (now (exclusion .entry)) t) drop) ⌝ }
 {
-    boundary::drop_pending(state, exclusion, numbers)
+    boundary_sync::drop_pending(state, exclusion, numbers)
 }

@@ -230,7 +230,7 @@ fn call(
         return modes::leave(s, shadow, index);
     }
     let window = devices::look_up_in(devices, index);
-    let answer = access::device_write(s, exclusion, MOST_DEVICES, window, index, value, length);
+    let answer = transfer::device_write(s, exclusion, MOST_DEVICES, window, index, value, length);
     Called { answer, state: s }
 }
 

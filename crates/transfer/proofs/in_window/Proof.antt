@@ -1,8 +1,8 @@
--- `access::in_window` meets its contract.
+-- `transfer::in_window` meets its contract.
 use borrow.Author.Needs.{needs}
-use Rattle.access.proofs.TransferLaws.{window-asked}
-use Rattle.access.proofs.in_window.Statement.{statement}
-use Rattle.access.proofs.in_window.Tie as tie
+use Rattle.transfer.proofs.TransferLaws.{window-asked}
+use Rattle.transfer.proofs.in_window.Statement.{statement}
+use Rattle.transfer.proofs.in_window.Tie as tie
 
 returns : tie.Need-returns
 returns c = search (needs, window-asked)

@@ -1,8 +1,9 @@
--- `boundary::sync_all_tree` meets its contract.
+-- `boundary_sync::sync_all` meets its contract.
 use borrow.Author.Needs.{needs}
-use Rattle.boundary.proofs.BoundaryLaws.{unused, run-used, sync-kept}
-use Rattle.boundary.proofs.sync_all_tree.Statement.{statement}
-use Rattle.boundary.proofs.sync_all_tree.Tie as tie
+use Rattle.boundary.proofs.BoundaryLaws.{unused, run-used}
+use Rattle.boundary_sync.proofs.SyncLaws.{sync-kept}
+use Rattle.boundary_sync.proofs.sync_all.Statement.{statement}
+use Rattle.boundary_sync.proofs.sync_all.Tie as tie
 
 returns : tie.Need-returns
 returns c = search (needs, unused)
@@ -13,8 +14,8 @@ state-in-requires c κs = search (needs, run-used)
 returns-2 : tie.Need-returns-2
 returns-2 c = search (needs, sync-kept)
 
-pub sync-all-tree-spec : {M : Type 1} → statement M
-sync-all-tree-spec =
+pub sync-all-spec : {M : Type 1} → statement M
+sync-all-spec =
     tie.close
     (tie.spec (λ c κs. search needs) (λ c κs. search needs) (λ c. search needs) returns state-in-requires
     (λ c κs. search needs) (λ c κs. search needs) (λ c. search needs) (λ c. search needs) (λ c. search needs) returns-2)

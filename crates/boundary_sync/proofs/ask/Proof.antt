@@ -1,8 +1,9 @@
--- `boundary::ask` meets its contract.
-use Rattle.boundary.proofs.BoundaryLaws.{unused, run-used, ask-called}
+-- `boundary_sync::ask` meets its contract.
+use Rattle.boundary.proofs.BoundaryLaws.{unused, run-used}
+use Rattle.boundary_sync.proofs.SyncLaws.{ask-called}
 use borrow.Author.Needs.{needs}
-use Rattle.boundary.proofs.ask.Statement.{statement}
-use Rattle.boundary.proofs.ask.Tie as tie
+use Rattle.boundary_sync.proofs.ask.Statement.{statement}
+use Rattle.boundary_sync.proofs.ask.Tie as tie
 
 returns : tie.Need-returns
 returns c = search (needs, unused)

@@ -1,8 +1,8 @@
--- `access::device_write_refusal` meets its contract.
+-- `transfer::device_write_refusal` meets its contract.
 use borrow.Author.Needs.{needs}
-use Rattle.access.proofs.TransferLaws.{transfer-unlike, transfer-unlisted, transfer-absent, transfer-last, transfer-rises, transfer-frames, transfer-outside, transfer-excluded, transfer-fits}
-use Rattle.access.proofs.device_write_refusal.Statement.{statement}
-use Rattle.access.proofs.device_write_refusal.Tie as tie
+use Rattle.transfer.proofs.TransferLaws.{transfer-unlike, transfer-unlisted, transfer-absent, transfer-last, transfer-rises, transfer-frames, transfer-outside, transfer-excluded, transfer-fits}
+use Rattle.transfer.proofs.device_write_refusal.Statement.{statement}
+use Rattle.transfer.proofs.device_write_refusal.Tie as tie
 
 returns : tie.Need-returns
 returns c = search (needs, transfer-unlike)

@@ -24,7 +24,7 @@ use Rattle.model.proofs.AcceptedLaws.{deviceWrite-some, deviceWrite-byte}
 use Rattle.model.proofs.StateLaws.{frames-few, in-order}
 use Rattle.model.proofs.CallLaws.{passed, stopped, none-left, refused-by, accepted-by}
 use Rattle.model.proofs.TouchLaws.{last-page-below, first-up-to-last, every-same}
-use Rattle.access.specs.AccessView.{transferView}
+use Rattle.transfer.specs.TransferView.{transferView}
 
 abbrev pub freeFrom : List ℕ → ℕ → ℕ → Bool
 freeFrom exclusion frame left = everyFrom (λ f. not (excludedIn exclusion f)) frame left

@@ -1,8 +1,8 @@
--- `access::device_write` meets its contract.
-use Rattle.access.proofs.TransferLaws.{transfer-unfit, transfer-vector, transfer-refused, transferred-last, transfer-accepted}
+-- `transfer::device_write` meets its contract.
+use Rattle.transfer.proofs.TransferLaws.{transfer-unfit, transfer-vector, transfer-refused, transferred-last, transfer-accepted}
 use borrow.Author.Needs.{needs}
-use Rattle.access.proofs.device_write.Statement.{statement}
-use Rattle.access.proofs.device_write.Tie as tie
+use Rattle.transfer.proofs.device_write.Statement.{statement}
+use Rattle.transfer.proofs.device_write.Tie as tie
 
 returns : tie.Need-returns
 returns c =

@@ -1,8 +1,9 @@
--- `boundary::commit` meets its contract.
-use Rattle.boundary.proofs.BoundaryLaws.{unused, run-used, commit-called}
+-- `boundary_sync::commit` meets its contract.
+use Rattle.boundary.proofs.BoundaryLaws.{unused, run-used}
+use Rattle.boundary_sync.proofs.SyncLaws.{commit-called}
 use borrow.Author.Needs.{needs}
-use Rattle.boundary.proofs.commit.Statement.{statement}
-use Rattle.boundary.proofs.commit.Tie as tie
+use Rattle.boundary_sync.proofs.commit.Statement.{statement}
+use Rattle.boundary_sync.proofs.commit.Tie as tie
 
 returns : tie.Need-returns
 returns c = search (needs, unused)

@@ -1,8 +1,9 @@
--- `boundary::drop_pending` meets its contract.
-use Rattle.boundary.proofs.BoundaryLaws.{unused, run-used, vector-called}
+-- `boundary_sync::drop_pending` meets its contract.
+use Rattle.boundary.proofs.BoundaryLaws.{unused, run-used}
+use Rattle.boundary_sync.proofs.SyncLaws.{vector-called}
 use borrow.Author.Needs.{needs}
-use Rattle.boundary.proofs.drop_pending.Statement.{statement}
-use Rattle.boundary.proofs.drop_pending.Tie as tie
+use Rattle.boundary_sync.proofs.drop_pending.Statement.{statement}
+use Rattle.boundary_sync.proofs.drop_pending.Tie as tie
 
 returns : tie.Need-returns
 returns c = search (needs, unused)

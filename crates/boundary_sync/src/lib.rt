@@ -1,0 +1,155 @@
+// The calls on a lent state that synchronise or approve, on numbers and lent runs: a number out. The crate `exports` hands them to C beside those of `boundary`,
+// whose definitions and laws they share; they are a crate of their own so that an edit of either is checked in less time.
+
+ghost use mathlib.Core.Path.{_≡_};
+ghost use Rattle.model.specs.Keeps.{Tables, withShadow, withMap, withExclusion, withThree};
+ghost use Rattle.model.specs.Calls;
+ghost use Rattle.model.specs.Tree.{treeOf};
+ghost use Rattle.model.specs.Calls.{syncPage, syncAll, syncPageTree, syncAllTree};
+ghost use Rattle.boundary.specs.Boundary.{returned, callAt};
+use model::Answer;
+
+// Synchronise one page.
+pub fn sync_page(
+    state: &[u64],
+    kernel: &[u64],
+    shadow: &mut [u64],
+    map: &mut [u16],
+    exclusion: &[u8],
+    page: u64,
+    numbers: &mut [u64],
+) -> u64
+    ensures { λ r. ⌜ ((t : Tables) → returned r (now (state .entry)) (now (numbers .exit)) (withThree (now (shadow .exit)) (now (map .exit)) (now (exclusion .entry)) t)
+        ≡ callAt (now (state .entry)) (now (numbers .entry)) (withThree (now (shadow .entry)) (now (map .entry)) (now (exclusion .entry)) t) (syncPage (now (kernel .entry)) page)) ⌝ }
+{
+    if !words::usable(state, numbers, words::NUMBERS) {
+        return words::reply(numbers, Answer::Refused(7));
+    }
+    let answer = sync::sync_page(words::state_in(state), kernel, shadow, map, exclusion, page);
+    words::reply(numbers, answer)
+}
+
+// Synchronise all pages.
+pub fn sync_all(
+    state: &[u64],
+    kernel: &[u64],
+    shadow: &mut [u64],
+    map: &mut [u16],
+    exclusion: &[u8],
+    numbers: &mut [u64],
+) -> u64
+    ensures { λ r. ⌜ ((t : Tables) → returned r (now (state .entry)) (now (numbers .exit)) (withThree (now (shadow .exit)) (now (map .exit)) (now (exclusion .entry)) t)
+        ≡ callAt (now (state .entry)) (now (numbers .entry)) (withThree (now (shadow .entry)) (now (map .entry)) (now (exclusion .entry)) t) (syncAll (now (kernel .entry)))) ⌝ }
+{
+    if !words::usable(state, numbers, words::NUMBERS) {
+        return words::reply(numbers, Answer::Refused(7));
+    }
+    let answer = sync::sync_all(words::state_in(state), kernel, shadow, map, exclusion);
+    words::reply(numbers, answer)
+}
+
+// Synchronise one page from a tree.
+pub fn sync_page_tree(
+    state: &[u64],
+    tables: &[u64],
+    root: u64,
+    depth: u64,
+    shadow: &mut [u64],
+    map: &mut [u16],
+    exclusion: &[u8],
+    page: u64,
+    numbers: &mut [u64],
+) -> u64
+    ensures { λ r. ⌜ ((t : Tables) → returned r (now (state .entry)) (now (numbers .exit)) (withThree (now (shadow .exit)) (now (map .exit)) (now (exclusion .entry)) t)
+        ≡ callAt (now (state .entry)) (now (numbers .entry)) (withThree (now (shadow .entry)) (now (map .entry)) (now (exclusion .entry)) t)
+        (syncPageTree (treeOf (now (tables .entry)) root depth) page)) ⌝ }
+{
+    if !words::usable(state, numbers, words::NUMBERS) {
+        return words::reply(numbers, Answer::Refused(7));
+    }
+    let answer = sync::sync_page_tree(
+        words::state_in(state),
+        tables,
+        root,
+        depth,
+        shadow,
+        map,
+        exclusion,
+        page,
+    );
+    words::reply(numbers, answer)
+}
+
+// Synchronise all pages from a tree.
+pub fn sync_all_tree(
+    state: &[u64],
+    tables: &[u64],
+    root: u64,
+    depth: u64,
+    shadow: &mut [u64],
+    map: &mut [u16],
+    exclusion: &[u8],
+    numbers: &mut [u64],
+) -> u64
+    ensures { λ r. ⌜ ((t : Tables) → returned r (now (state .entry)) (now (numbers .exit)) (withThree (now (shadow .exit)) (now (map .exit)) (now (exclusion .entry)) t)
+        ≡ callAt (now (state .entry)) (now (numbers .entry)) (withThree (now (shadow .entry)) (now (map .entry)) (now (exclusion .entry)) t)
+        (syncAllTree (treeOf (now (tables .entry)) root depth))) ⌝ }
+{
+    if !words::usable(state, numbers, words::NUMBERS) {
+        return words::reply(numbers, Answer::Refused(7));
+    }
+    let answer = sync::sync_all_tree(
+        words::state_in(state),
+        tables,
+        root,
+        depth,
+        shadow,
+        map,
+        exclusion,
+    );
+    words::reply(numbers, answer)
+}
+
+// Asks for the approval of a frame for a page (K6).
+pub fn ask(
+    state: &mut [u64],
+    shadow: &[u64],
+    map: &[u16],
+    exclusion: &mut [u8],
+    page: u64,
+    frame: u64,
+    numbers: &mut [u64],
+) -> u64
+    ensures { λ r. ⌜ ((t : Tables) → returned r (now (state .exit)) (now (numbers .exit)) (withThree (now (shadow .entry)) (now (map .entry)) (now (exclusion .exit)) t)
+        ≡ callAt (now (state .entry)) (now (numbers .entry)) (withThree (now (shadow .entry)) (now (map .entry)) (now (exclusion .entry)) t) (Calls.ask page frame)) ⌝ }
+{
+    if !words::usable(state, numbers, words::NUMBERS) {
+        return words::reply(numbers, Answer::Refused(7));
+    }
+    let called = approvals::ask(words::state_in(state), shadow, map, exclusion, page, frame);
+    words::put_paired(state, numbers, called)
+}
+
+// Commits what is pending (K6).
+pub fn commit(state: &mut [u64], shadow: &mut [u64], map: &mut [u16], numbers: &mut [u64]) -> u64
+    ensures { λ r. ⌜ ((t : Tables) → returned r (now (state .exit)) (now (numbers .exit)) (withShadow (now (shadow .exit)) (withMap (now (map .exit)) t))
+        ≡ callAt (now (state .entry)) (now (numbers .entry)) (withShadow (now (shadow .entry)) (withMap (now (map .entry)) t)) Calls.commit) ⌝ }
+{
+    if !words::usable(state, numbers, words::NUMBERS) {
+        return words::reply(numbers, Answer::Refused(7));
+    }
+    let called = approvals::commit(words::state_in(state), shadow, map);
+    words::put_paired(state, numbers, called)
+}
+
+// Drops what is pending (K6).
+pub fn drop_pending(state: &mut [u64], exclusion: &mut [u8], numbers: &mut [u64]) -> u64
+    ensures { λ r. ⌜ ((t : Tables) → returned r (now (state .exit)) (now (numbers .exit)) (withExclusion (now (exclusion .exit)) t)
+        ≡ callAt (now (state .entry)) (now (numbers .entry)) (withExclusion (now (exclusion .entry)) t) Calls.drop) ⌝ }
+{
+    if !words::usable(state, numbers, words::NUMBERS) {
+        return words::reply(numbers, Answer::Refused(7));
+    }
+    let called = approvals::drop_pending(words::state_in(state), exclusion);
+    words::put_paired(state, numbers, called)
+}
