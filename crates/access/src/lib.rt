@@ -4,10 +4,8 @@
 ghost use mathlib.Core.Path.{_≡_};
 ghost use mathlib.Core.Bool.{true, not};
 ghost use mathlib.Core.List.{[]};
-ghost use Prim.Native.Nat.{_≤_, _<_};
 ghost use lib.ListN.{length};
 ghost use Rattle.model.specs.Basics.{either};
-ghost use Rattle.model.specs.Edges.{lastPage};
 ghost use Rattle.model.specs.Keeps.{Tables, withShadow, withExclusion, guardOf, vectorBytes};
 ghost use Rattle.model.specs.Bits.{userBit};
 ghost use Rattle.model.specs.Questions.{firstNo, fetchPermitted, writePermitted, fetchQuestions, writeQuestions};
@@ -42,7 +40,7 @@ fn fetch_refusal(user: bool, pages: u16, shadow: &[u64], page: u64) -> u64
     requires { ⌜ length (now shadow) ≡ pages ⌝ }
     ensures { λ r. ⌜ r ≡ firstNo (fetchQuestions (accessView user pages 0 (now (shadow .entry)) []) page) ⌝ }
 {
-    if !questions::page_exists(page, pages) {
+    if !edges::page_exists(page, pages) {
         return 9;
     }
     let entry = shadow[page as usize];
@@ -60,16 +58,16 @@ pub fn fetch(s: State, shadow: &[u64], page: u64) -> Called
         ≡ answer (guardOf s (withShadow (now (shadow .entry)) t)) (Calls.fetch page)) ⌝ }
 {
     if !questions::shadow_in_order(s, shadow.len()) {
-        return questions::refused_call(s, 7);
+        return state::refused_call(s, 7);
     }
     let mode = s.mode;
-    let number = fetch_refusal(questions::in_user(mode), s.pages, shadow, page);
+    let number = fetch_refusal(state::in_user(mode), s.pages, shadow, page);
     if number != 0 {
-        return questions::refused_call(s, number);
+        return state::refused_call(s, number);
     }
     let frame = entry::frame_of(shadow[page as usize]);
-    let running = questions::on_page(mode, (page % 65536) as u16);
-    let state = questions::in_mode(s, running);
+    let running = state::on_page(mode, (page % 65536) as u16);
+    let state = state::in_mode(s, running);
     Called {
         answer: Answer::Done(frame, frame),
         state,
@@ -121,14 +119,6 @@ fn entries_refusal(user: bool, frames: u16, exclusion: &[u8], first: u64, last: 
     0
 }
 
-// The page of a write's last byte. It asks for what questions 8 and 9 have settled, so that the sum does not wrap.
-fn last_page(address: u64, length: u64) -> u64
-    requires { ⌜ (1 ≤ length) × (lastPage address length < 65536) ⌝ }
-    ensures { λ r. ⌜ r ≡ lastPage address length ⌝ }
-{
-    (address + length - 1) / PAGE_BYTES
-}
-
 // The number of the question that refuses a write, or 0. Question 7 is answered yes, so that the tables have their lengths.
 // At most 16 bytes touch no page but the first and the last, which may be one.
 fn write_refusal(
@@ -143,14 +133,14 @@ fn write_refusal(
     requires { ⌜ (lib.ListN.length (now shadow) ≡ pages) × (lib.ListN.length (now exclusion) ≡ vectorBytes frames) ⌝ }
     ensures { λ r. ⌜ r ≡ firstNo (writeQuestions (accessView user pages frames (now (shadow .entry)) (now (exclusion .entry))) address length) ⌝ }
 {
-    if !questions::write_length(length) {
+    if !edges::write_length(length) {
         return 8;
     }
-    if !questions::write_exists(address, length, pages) {
+    if !edges::write_exists(address, length, pages) {
         return 9;
     }
     let first = shadow[(address / PAGE_BYTES) as usize];
-    let page = last_page(address, length);
+    let page = edges::last_page(address, length);
     let last = shadow[page as usize];
     entries_refusal(user, frames, exclusion, first, last)
 }
@@ -163,13 +153,13 @@ pub fn write(s: State, shadow: &[u64], exclusion: &[u8], address: u64, length: u
         return Answer::Refused(7);
     }
     let mode = s.mode;
-    let user = questions::in_user(mode);
+    let user = state::in_user(mode);
     let number = write_refusal(user, s.pages, s.frames, shadow, exclusion, address, length);
     if number != 0 {
         return Answer::Refused(number);
     }
     let first = shadow[(address / PAGE_BYTES) as usize];
-    let page = last_page(address, length);
+    let page = edges::last_page(address, length);
     let last = shadow[page as usize];
     Answer::Done(entry::frame_of(first), entry::frame_of(last))
 }

@@ -34,7 +34,7 @@ fn may_ask(pending: Pending, approval: u16, excluded: bool) -> bool
     ensures { λ r. ⌜ r ≡ both (not (isPending pending)) (both (eqb approval none) (not excluded)) ⌝ }
 {
     questions::both(
-        !questions::is_pending(pending),
+        !state::is_pending(pending),
         questions::both(approval == NONE, !excluded),
     )
 }
@@ -67,10 +67,10 @@ pub fn ask(
         ≡ answer (guardOf s (withThree (now (shadow .entry)) (now (map .entry)) (now (exclusion .entry)) t)) (Calls.ask page frame)) ⌝ }
 {
     if !questions::tree_sync_in_order(s, shadow.len(), map.len(), exclusion.len()) {
-        return questions::refused_call(s, 7);
+        return state::refused_call(s, 7);
     }
-    if !questions::pair_exists(page, frame, s.pages, s.frames) {
-        return questions::refused_call(s, 9);
+    if !edges::pair_exists(page, frame, s.pages, s.frames) {
+        return state::refused_call(s, 9);
     }
     let pending = s.pending;
     if !may_ask(
@@ -78,16 +78,16 @@ pub fn ask(
         approval_of(map, page),
         bitmap::excluded(exclusion, frame),
     ) {
-        return questions::refused_call(s, 20);
+        return state::refused_call(s, 20);
     }
     let asked = (frame % 65536) as u16;
     if !none_writable(shadow, asked) {
-        return questions::refused_call(s, 21);
+        return state::refused_call(s, 21);
     }
     bitmap::exclude(exclusion, frame);
     Called {
         answer: Answer::Done(0, 0),
-        state: questions::with_pending(s, Pending::Pair((page % 65536) as u16, asked)),
+        state: state::with_pending(s, Pending::Pair((page % 65536) as u16, asked)),
     }
 }
 
@@ -136,20 +136,20 @@ pub fn commit(s: State, shadow: &mut [u64], map: &mut [u16]) -> Called
         ≡ answer (guardOf s (withShadow (now (shadow .entry)) (withMap (now (map .entry)) t))) Calls.commit) ⌝ }
 {
     if !questions::commit_in_order(s, shadow.len(), map.len()) {
-        return questions::refused_call(s, 7);
+        return state::refused_call(s, 7);
     }
     let pending = s.pending;
     let Pending::Pair(page, frame) = pending else {
-        return questions::refused_call(s, 22);
+        return state::refused_call(s, 22);
     };
     if approval_of(map, page as u64) != NONE {
-        return questions::refused_call(s, 20);
+        return state::refused_call(s, 20);
     }
     let mode = s.mode;
-    let all = commit_pages(questions::in_user(mode), page, frame, shadow, map);
+    let all = commit_pages(state::in_user(mode), page, frame, shadow, map);
     Called {
         answer: Answer::Done(all.changed, all.joined),
-        state: questions::with_pending(s, Pending::Nothing),
+        state: state::with_pending(s, Pending::Nothing),
     }
 }
 
@@ -159,15 +159,15 @@ pub fn drop_pending(s: State, exclusion: &mut [u8]) -> Called
         ≡ answer (guardOf s (withExclusion (now (exclusion .entry)) t)) Calls.drop) ⌝ }
 {
     if !questions::drop_in_order(s, exclusion.len()) {
-        return questions::refused_call(s, 7);
+        return state::refused_call(s, 7);
     }
     let pending = s.pending;
     let Pending::Pair(_, frame) = pending else {
-        return questions::refused_call(s, 22);
+        return state::refused_call(s, 22);
     };
     bitmap::release(exclusion, frame as u64);
     Called {
         answer: Answer::Done(0, 0),
-        state: questions::with_pending(s, Pending::Nothing),
+        state: state::with_pending(s, Pending::Nothing),
     }
 }

@@ -76,7 +76,7 @@ walkAt tree page numbers =
     walked (reply .number) (withNumbers answerNumbers numbers reply)
 
 -- Where both runs can be lent, the state run holds after every call the state that the call's definition answers. An accepted start's words
--- decode to its state by `words::put_state`.
+-- decode to its state by `encode::put_state`.
 unfoldable pub StateHeld : Type 0
 StateHeld =
     (run numbers : List ℕ) (t : Tables) (call : Call) → lendable (numbersBy call) run numbers ≡ true

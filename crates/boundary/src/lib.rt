@@ -22,10 +22,10 @@ pub fn fetch(state: &mut [u64], shadow: &[u64], page: u64, numbers: &mut [u64]) 
         ≡ callAt (now (state .entry)) (now (numbers .entry)) (withShadow (now (shadow .entry)) t) (Calls.fetch page)) ⌝ }
 {
     if !words::usable(state, numbers, words::NUMBERS) {
-        return words::reply(numbers, Answer::Refused(7));
+        return encode::reply(numbers, Answer::Refused(7));
     }
     let called = access::fetch(words::state_in(state), shadow, page);
-    words::put_fetched(state, numbers, called)
+    encode::put_fetched(state, numbers, called)
 }
 
 pub fn write(
@@ -40,10 +40,10 @@ pub fn write(
         ≡ callAt (now (state .entry)) (now (numbers .entry)) (withShadow (now (shadow .entry)) (withExclusion (now (exclusion .entry)) t)) (Calls.write address length)) ⌝ }
 {
     if !words::usable(state, numbers, words::NUMBERS) {
-        return words::reply(numbers, Answer::Refused(7));
+        return encode::reply(numbers, Answer::Refused(7));
     }
     let answer = access::write(words::state_in(state), shadow, exclusion, address, length);
-    words::reply(numbers, answer)
+    encode::reply(numbers, answer)
 }
 
 pub fn enter(state: &mut [u64], shadow: &mut [u64], index: u64, numbers: &mut [u64]) -> u64
@@ -51,10 +51,10 @@ pub fn enter(state: &mut [u64], shadow: &mut [u64], index: u64, numbers: &mut [u
         ≡ callAt (now (state .entry)) (now (numbers .entry)) (withShadow (now (shadow .entry)) t) (Calls.enter index)) ⌝ }
 {
     if !words::usable(state, numbers, words::NUMBERS) {
-        return words::reply(numbers, Answer::Refused(7));
+        return encode::reply(numbers, Answer::Refused(7));
     }
     let called = modes::enter(words::state_in(state), shadow, index);
-    words::put_switched(state, numbers, called)
+    encode::put_switched(state, numbers, called)
 }
 
 pub fn leave(state: &mut [u64], shadow: &mut [u64], page: u64, numbers: &mut [u64]) -> u64
@@ -62,10 +62,10 @@ pub fn leave(state: &mut [u64], shadow: &mut [u64], page: u64, numbers: &mut [u6
         ≡ callAt (now (state .entry)) (now (numbers .entry)) (withShadow (now (shadow .entry)) t) (Calls.leave page)) ⌝ }
 {
     if !words::usable(state, numbers, words::NUMBERS) {
-        return words::reply(numbers, Answer::Refused(7));
+        return encode::reply(numbers, Answer::Refused(7));
     }
     let called = modes::leave(words::state_in(state), shadow, page);
-    words::put_switched(state, numbers, called)
+    encode::put_switched(state, numbers, called)
 }
 
 // A device write, by how long the list of devices is and the device's record in it, if it has one (K5).
@@ -84,7 +84,7 @@ pub fn device_write(
         ≡ callAt (now (state .entry)) (now (numbers .entry)) (withExclusion (now (exclusion .entry)) t) (deviceWrite devices device address length)) ⌝ }
 {
     if !words::usable(state, numbers, words::NUMBERS) {
-        return words::reply(numbers, Answer::Refused(7));
+        return encode::reply(numbers, Answer::Refused(7));
     }
     let answer = transfer::device_write(
         words::state_in(state),
@@ -95,7 +95,7 @@ pub fn device_write(
         address,
         length,
     );
-    words::reply(numbers, answer)
+    encode::reply(numbers, answer)
 }
 
 // What writing a record and walking a page return and leave, by their numbers run, and the words of a state run.

@@ -23,10 +23,10 @@ pub fn sync_page(
         ≡ callAt (now (state .entry)) (now (numbers .entry)) (withThree (now (shadow .entry)) (now (map .entry)) (now (exclusion .entry)) t) (syncPage (now (kernel .entry)) page)) ⌝ }
 {
     if !words::usable(state, numbers, words::NUMBERS) {
-        return words::reply(numbers, Answer::Refused(7));
+        return encode::reply(numbers, Answer::Refused(7));
     }
     let answer = sync::sync_page(words::state_in(state), kernel, shadow, map, exclusion, page);
-    words::reply(numbers, answer)
+    encode::reply(numbers, answer)
 }
 
 // Synchronise all pages.
@@ -42,10 +42,10 @@ pub fn sync_all(
         ≡ callAt (now (state .entry)) (now (numbers .entry)) (withThree (now (shadow .entry)) (now (map .entry)) (now (exclusion .entry)) t) (syncAll (now (kernel .entry)))) ⌝ }
 {
     if !words::usable(state, numbers, words::NUMBERS) {
-        return words::reply(numbers, Answer::Refused(7));
+        return encode::reply(numbers, Answer::Refused(7));
     }
     let answer = sync::sync_all(words::state_in(state), kernel, shadow, map, exclusion);
-    words::reply(numbers, answer)
+    encode::reply(numbers, answer)
 }
 
 // Synchronise one page from a tree.
@@ -65,7 +65,7 @@ pub fn sync_page_tree(
         (syncPageTree (treeOf (now (tables .entry)) root depth) page)) ⌝ }
 {
     if !words::usable(state, numbers, words::NUMBERS) {
-        return words::reply(numbers, Answer::Refused(7));
+        return encode::reply(numbers, Answer::Refused(7));
     }
     let answer = sync::sync_page_tree(
         words::state_in(state),
@@ -77,7 +77,7 @@ pub fn sync_page_tree(
         exclusion,
         page,
     );
-    words::reply(numbers, answer)
+    encode::reply(numbers, answer)
 }
 
 // Synchronise all pages from a tree.
@@ -96,7 +96,7 @@ pub fn sync_all_tree(
         (syncAllTree (treeOf (now (tables .entry)) root depth))) ⌝ }
 {
     if !words::usable(state, numbers, words::NUMBERS) {
-        return words::reply(numbers, Answer::Refused(7));
+        return encode::reply(numbers, Answer::Refused(7));
     }
     let answer = sync::sync_all_tree(
         words::state_in(state),
@@ -107,7 +107,7 @@ pub fn sync_all_tree(
         map,
         exclusion,
     );
-    words::reply(numbers, answer)
+    encode::reply(numbers, answer)
 }
 
 // Asks for the approval of a frame for a page (K6).
@@ -124,10 +124,10 @@ pub fn ask(
         ≡ callAt (now (state .entry)) (now (numbers .entry)) (withThree (now (shadow .entry)) (now (map .entry)) (now (exclusion .entry)) t) (Calls.ask page frame)) ⌝ }
 {
     if !words::usable(state, numbers, words::NUMBERS) {
-        return words::reply(numbers, Answer::Refused(7));
+        return encode::reply(numbers, Answer::Refused(7));
     }
     let called = approvals::ask(words::state_in(state), shadow, map, exclusion, page, frame);
-    words::put_paired(state, numbers, called)
+    encode::put_paired(state, numbers, called)
 }
 
 // Commits what is pending (K6).
@@ -136,10 +136,10 @@ pub fn commit(state: &mut [u64], shadow: &mut [u64], map: &mut [u16], numbers: &
         ≡ callAt (now (state .entry)) (now (numbers .entry)) (withShadow (now (shadow .entry)) (withMap (now (map .entry)) t)) Calls.commit) ⌝ }
 {
     if !words::usable(state, numbers, words::NUMBERS) {
-        return words::reply(numbers, Answer::Refused(7));
+        return encode::reply(numbers, Answer::Refused(7));
     }
     let called = approvals::commit(words::state_in(state), shadow, map);
-    words::put_paired(state, numbers, called)
+    encode::put_paired(state, numbers, called)
 }
 
 // Drops what is pending (K6).
@@ -148,8 +148,8 @@ pub fn drop_pending(state: &mut [u64], exclusion: &mut [u8], numbers: &mut [u64]
         ≡ callAt (now (state .entry)) (now (numbers .entry)) (withExclusion (now (exclusion .entry)) t) Calls.drop) ⌝ }
 {
     if !words::usable(state, numbers, words::NUMBERS) {
-        return words::reply(numbers, Answer::Refused(7));
+        return encode::reply(numbers, Answer::Refused(7));
     }
     let called = approvals::drop_pending(words::state_in(state), exclusion);
-    words::put_paired(state, numbers, called)
+    encode::put_paired(state, numbers, called)
 }

@@ -39,8 +39,8 @@ fn switch_to(s: State, shadow: &mut [u64], mode: Mode) -> Called
     ensures { λ r. ⌜ ((t : Tables) → outcomeBy r (withShadow (now (shadow .exit)) t)
         ≡ switchTo (guardOf s (withShadow (now (shadow .entry)) t)) mode) ⌝ }
 {
-    let changed = switch_table(questions::in_user(mode), shadow);
-    let state = questions::in_mode(s, mode);
+    let changed = switch_table(state::in_user(mode), shadow);
+    let state = state::in_mode(s, mode);
     Called {
         answer: Answer::Done(changed, 0),
         state,
@@ -92,15 +92,15 @@ pub fn enter(s: State, shadow: &mut [u64], index: u64) -> Called
         ≡ answer (guardOf s (withShadow (now (shadow .entry)) t)) (Calls.enter index)) ⌝ }
 {
     if !questions::shadow_in_order(s, shadow.len()) {
-        return questions::refused_call(s, 7);
+        return state::refused_call(s, 7);
     }
     let mode = s.mode;
-    let user = questions::in_user(mode);
-    let exists = questions::entry_exists(s, index);
-    let page = questions::entry_page(s, index);
+    let user = state::in_user(mode);
+    let exists = edges::entry_exists(s, index);
+    let page = edges::entry_page(s, index);
     let number = refusal(exists, user, true, shadow, page as u64);
     if number != 0 {
-        return questions::refused_call(s, number);
+        return state::refused_call(s, number);
     }
     switch_to(s, shadow, Mode::Kernel(page))
 }
@@ -110,14 +110,14 @@ pub fn leave(s: State, shadow: &mut [u64], page: u64) -> Called
         ≡ answer (guardOf s (withShadow (now (shadow .entry)) t)) (Calls.leave page)) ⌝ }
 {
     if !questions::shadow_in_order(s, shadow.len()) {
-        return questions::refused_call(s, 7);
+        return state::refused_call(s, 7);
     }
     let mode = s.mode;
-    let user = questions::in_user(mode);
-    let exists = questions::page_exists(page, s.pages);
+    let user = state::in_user(mode);
+    let exists = edges::page_exists(page, s.pages);
     let number = refusal(exists, !user, false, shadow, page);
     if number != 0 {
-        return questions::refused_call(s, number);
+        return state::refused_call(s, number);
     }
     switch_to(s, shadow, Mode::User((page % 65536) as u16))
 }

@@ -33,10 +33,10 @@ pub fn start(
 {
     if !words::runs_fit(state, numbers, words::NUMBERS) {
         let number = start_refusal(policy, devices);
-        return words::reply(numbers, Answer::Refused(number));
+        return encode::reply(numbers, Answer::Refused(number));
     }
     let called = start::start(policy, devices, shadow, map, exclusion);
-    words::put_started(state, numbers, called)
+    encode::put_started(state, numbers, called)
 }
 
 // Writes a policy record.
@@ -64,7 +64,7 @@ pub fn write_record(
         buffer,
         fits,
     );
-    words::reply(numbers, answer)
+    encode::reply(numbers, answer)
 }
 
 // Walks a page down a tree.
@@ -73,5 +73,5 @@ pub fn walk(tables: &[u64], root: u64, depth: u64, page: u64, numbers: &mut [u64
 {
     let numbers_fit = numbers.len() == words::NUMBERS;
     let answer = tree::walk(tables, root, depth, page, numbers_fit);
-    words::reply(numbers, answer)
+    encode::reply(numbers, answer)
 }

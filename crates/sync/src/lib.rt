@@ -302,7 +302,7 @@ pub fn sync_page(
     if !questions::sync_in_order(s, kernel.len(), shadow.len(), map.len(), exclusion.len()) {
         return Answer::Refused(7);
     }
-    if !questions::page_exists(page, s.pages) {
+    if !edges::page_exists(page, s.pages) {
         return Answer::Refused(9);
     }
     let i = page as usize;
@@ -313,9 +313,9 @@ pub fn sync_page(
         joined: 0,
     };
     let one = step::sync_at(
-        questions::in_user(mode),
+        state::in_user(mode),
         s.frames,
-        questions::pending_frame(pending),
+        state::pending_frame(pending),
         exclusion,
         kernel[i],
         shadow,
@@ -343,9 +343,9 @@ pub fn sync_all(
     }
     let mode = s.mode;
     let pending = s.pending;
-    let frame = questions::pending_frame(pending);
+    let frame = state::pending_frame(pending);
     // Each mode has its own loop, which then asks nothing of the mode.
-    if questions::in_user(mode) {
+    if state::in_user(mode) {
         let all = sync_pages(true, s.frames, frame, exclusion, kernel, shadow, map);
         return Answer::Done(all.changed, all.joined);
     }
@@ -374,7 +374,7 @@ pub fn sync_page_tree(
     if !tree::in_order(words, root, depth) {
         return Answer::Refused(17);
     }
-    if !questions::page_exists(page, s.pages) {
+    if !edges::page_exists(page, s.pages) {
         return Answer::Refused(9);
     }
     let part = tree::part_of(words, root, depth, page);
@@ -387,9 +387,9 @@ pub fn sync_page_tree(
         joined: 0,
     };
     let one = step::sync_at(
-        questions::in_user(mode),
+        state::in_user(mode),
         s.frames,
-        questions::pending_frame(pending),
+        state::pending_frame(pending),
         exclusion,
         tree::narrow(part.all, part.any, last),
         shadow,
@@ -423,9 +423,9 @@ pub fn sync_all_tree(
     let mode = s.mode;
     let pending = s.pending;
     let all = sync_parts(
-        questions::in_user(mode),
+        state::in_user(mode),
         s.frames,
-        questions::pending_frame(pending),
+        state::pending_frame(pending),
         exclusion,
         words,
         root,

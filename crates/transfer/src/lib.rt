@@ -1,12 +1,10 @@
 // Document 01, "Calls and their two numbers": device write (K5). It goes down its questions in order, and answers where it lies where none refuses it.
-// It is a crate of its own, beside `access`, so that an edit of either is checked in less time.
 
 ghost use mathlib.Core.Path.{_≡_};
 ghost use mathlib.Core.List.{List};
 ghost use Prim.Native.Nat.{_≤_, _<_};
 ghost use lib.ListN.{length};
 ghost use Rattle.model.specs.Basics;
-ghost use Rattle.model.specs.Edges.{lastPage};
 ghost use Rattle.model.specs.Keeps.{Tables, withExclusion, guardOf, vectorBytes};
 ghost use Rattle.model.specs.declared.Device.{Device};
 ghost use Rattle.model.specs.Devices.{deviceAt, inWindow};
@@ -18,15 +16,6 @@ use model::Device;
 use model::PAGE_BYTES;
 use model::State;
 use questions::both;
-
-// The frame of a transfer's last byte. It asks for what questions 8 and 9 have settled, so that the sum does not wrap. `access` has the same of a write: a
-// function that asks for something stays private, and each of the two is asked for by its own crate alone.
-fn last_page(address: u64, length: u64) -> u64
-    requires { ⌜ (1 ≤ length) × (lastPage address length < 65536) ⌝ }
-    ensures { λ r. ⌜ r ≡ lastPage address length ⌝ }
-{
-    (address + length - 1) / PAGE_BYTES
-}
 
 // Question 19 of a transfer from one frame to another: both ends of it lie in the device's window.
 fn in_window(window: Device, first: u64, last: u64) -> bool
@@ -50,17 +39,17 @@ fn device_write_refusal(
     requires { ⌜ lib.ListN.length (now exclusion) ≡ vectorBytes frames ⌝ }
     ensures { λ r. ⌜ r ≡ firstNo (deviceWriteQuestions (transferView listed frames (now (exclusion .entry))) listed window device address length) ⌝ }
 {
-    if !questions::device_length(length) {
+    if !edges::device_length(length) {
         return 8;
     }
     if listed as u64 <= device {
         return 18;
     }
-    if !questions::transfer_exists(address, length, frames) {
+    if !edges::transfer_exists(address, length, frames) {
         return 9;
     }
     let first = address / PAGE_BYTES;
-    let last = last_page(address, length);
+    let last = edges::last_page(address, length);
     if !in_window(window, first, last) {
         return 19;
     }
@@ -92,6 +81,6 @@ pub fn device_write(
     if number != 0 {
         return Answer::Refused(number);
     }
-    let last = last_page(address, length);
+    let last = edges::last_page(address, length);
     Answer::Done(address / PAGE_BYTES, last)
 }

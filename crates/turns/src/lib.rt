@@ -182,7 +182,7 @@ fn edit(pages: u16, kernel: &mut [u64], page: u64, value: u64) -> Answer
     ensures { λ r. ⌜ ((g : Guard) (devices : List Device) → g .state .pages ≡ pages
         → editedBy r (drillOf g (now (kernel .exit)) devices) ≡ edited (drillOf g (now (kernel .entry)) devices) page value) ⌝ }
 {
-    if !questions::page_exists(page, pages) {
+    if !edges::page_exists(page, pages) {
         return Answer::Refused(9);
     }
     if page < kernel.len() as u64 {

@@ -1,4 +1,3 @@
 -- Laws of the runs. The exported calls cite them.
 pub mod WordLaws
-pub mod StateLaws
-pub mod SettleLaws
+pub mod OrderLaws

@@ -20,7 +20,7 @@ use Rattle.model.proofs.QuestionLaws.{both-yes}
 use Rattle.model.proofs.TableLaws.{length-table}
 use Rattle.words.specs.Words.{stateWords, pagesAt, framesAt, entryWords, modeAt, runningAt, entryPagesIn, stateIn, field, numbersBy, modePlaces, pendingPlaces, changedBy, withWords, lendable, runAfter}
 use Rattle.words.proofs.WordLaws.{narrow-below, run-lent}
-use Rattle.words.proofs.StateLaws.{mode-decoded, page-decoded, pending-decoded}
+use Rattle.encode.proofs.StateLaws.{mode-decoded, page-decoded, pending-decoded}
 use Rattle.boundary.specs.Boundary.{replied, callAt, StateHeld}
 use Rattle.boundary.proofs.state_held.Statement.{statement}
 use Rattle.boundary.proofs.state_held.Tie as tie

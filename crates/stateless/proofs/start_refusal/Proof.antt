@@ -1,6 +1,6 @@
 -- `stateless::start_refusal` meets its contract.
 use borrow.Author.Needs.{needs}
-use Rattle.words.proofs.SettleLaws.{settled-accepted, settled-number}
+use Rattle.encode.proofs.SettleLaws.{settled-accepted, settled-number}
 use Rattle.stateless.proofs.start_refusal.Statement.{statement}
 use Rattle.stateless.proofs.start_refusal.Tie as tie
 

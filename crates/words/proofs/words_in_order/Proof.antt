@@ -1,5 +1,5 @@
 -- V or F is out of range, or the rest is asked.
-use Rattle.words.proofs.StateLaws.{pages-wrong, frames-wrong, words-in-order}
+use Rattle.words.proofs.OrderLaws.{pages-wrong, frames-wrong, words-in-order}
 use borrow.Author.Needs.{needs}
 use Rattle.words.proofs.words_in_order.Statement.{statement}
 use Rattle.words.proofs.words_in_order.Tie as tie

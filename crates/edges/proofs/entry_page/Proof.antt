@@ -1,0 +1,13 @@
+-- `edges::entry_page` meets its contract.
+use Rattle.edges.proofs.EntryLaws.{past-end}
+use borrow.Author.Needs.{needs}
+use Rattle.edges.proofs.entry_page.Statement.{statement}
+use Rattle.edges.proofs.entry_page.Tie as tie
+
+returns-2 : tie.Need-returns-2
+returns-2 c = search (needs, past-end)
+
+pub entry-page-spec : {M : Type 1} → statement M
+entry-page-spec =
+    tie.close
+    (tie.spec (λ c. search needs) (λ c. search needs) (λ c. search needs) returns-2)
