@@ -1,4 +1,4 @@
-//! The drill: numbers 14 and 15, edit, what it takes of its input, the limit of 1,024 calls, and its devices.
+//! The drill: numbers 14 and 15, edit, what it takes of its input, the limit of 1,024 calls, its devices, and the share.
 //! Every byte that it writes is compared, and it has to end with exit status 0.
 
 use crate::tally::Tally;
@@ -154,6 +154,75 @@ fn devices(t: Tally) -> Tally {
     t
 }
 
+/// A policy of F frames that lists each of its pages, page 0 as its entry page, with these frames, and no call: the line of the start, an
+/// approved entry for each page, and this share.
+fn listed(
+    t: Tally,
+    name: &str,
+    f: u16,
+    frames: impl IntoIterator<Item = u16>,
+    share: &str,
+) -> Tally {
+    let frames: Vec<u16> = frames.into_iter().collect();
+    let n = frames.len() as u16;
+    let numbers = [n, f, n, 1].into_iter().chain(0..n).chain(frames.iter().copied());
+    let input: Vec<u8> = numbers.flat_map(u16::to_le_bytes).collect();
+    let entries: String = frames.iter().map(|frame| format!("{frame:013x}401\n")).collect();
+    drill(t, name, &input, &format!("S 0 {n} 1 K 0\n{entries}share {share}\n"))
+}
+
+/// K7: "Campus reports round to the nearest, an exact half to the even number, and ours shall too."
+fn shares(t: Tally) -> Tally {
+    let mut t = t;
+    let rows = [
+        // Exact halves.
+        (1, 8, "12"),
+        (3, 8, "38"),
+        (5, 8, "62"),
+        (7, 8, "88"),
+        (1, 40, "2"),
+        (3, 40, "8"),
+        (39, 40, "98"),
+        (1, 200, "0"),
+        (3, 200, "2"),
+        (5, 200, "2"),
+        (197, 200, "98"),
+        (199, 200, "100"),
+        (2, 400, "0"),
+        (6, 400, "2"),
+        (512, 4096, "12"),
+        (1536, 4096, "38"),
+        // The nearest below and above, and none to round.
+        (1, 3, "33"),
+        (2, 3, "67"),
+        (1, 7, "14"),
+        (3, 7, "43"),
+        (2, 8, "25"),
+        (1, 16, "6"),
+        (3, 16, "19"),
+        (2, 200, "1"),
+        (1, 400, "0"),
+        (3, 400, "1"),
+        (399, 400, "100"),
+        (20, 4096, "0"),
+        (21, 4096, "1"),
+        (2048, 4096, "50"),
+        // All of F.
+        (1, 1, "100"),
+        (3, 3, "100"),
+        (8, 8, "100"),
+        (200, 200, "100"),
+        (2048, 2048, "100"),
+    ];
+    for (excluded, f, share) in rows {
+        // The last frames of memory.
+        t = listed(t, &format!("the share of {excluded} of {f}"), f, f - excluded..f, share);
+    }
+    let t = listed(t, "a frame of two pages counts once", 8, [5, 5], "12");
+    let t = listed(t, "a frame of all pages counts once", 8, [7; 8], "12");
+    listed(t, "three frames of five pages", 8, [6, 0, 6, 3, 0], "38")
+}
+
 pub fn all(t: Tally) -> Tally {
-    devices(edits(ends(starts(t))))
+    shares(devices(edits(ends(starts(t)))))
 }

@@ -1,6 +1,8 @@
 //! The lines that the drill prints, in words: the start, each call, the shadow entries and the share; and the words for the library's.
 //! One line of words for each line of the drill, in the same order; with the script at hand, an answer begins with the line that it answers.
 
+use std::cmp::Ordering;
+
 use crate::call::Call;
 use crate::refusals::refusal;
 use crate::text::shown;
@@ -252,8 +254,22 @@ pub(crate) fn explain_edited(entry: u64) -> &'static str {
     }
 }
 
+/// The excluded frames in percent of all, as the drill prints them: to the nearest percent, an exact half to the even number (K7). There
+/// is a frame at least.
+pub fn share(excluded: u64, frames: u64) -> u64 {
+    let (whole, rest) = (100 * excluded / frames, 100 * excluded % frames);
+    let is_up = match (2 * rest).cmp(&frames) {
+        Ordering::Less => false,
+        Ordering::Equal => whole % 2 == 1,
+        Ordering::Greater => true,
+    };
+    whole + u64::from(is_up)
+}
+
+/// A policy lists a page at least, and nothing opens its frame again, so that a share of 0 is not none.
 pub(crate) fn explain_share(share: u64) -> String {
-    format!("share: {share} percent of the frames are excluded")
+    let at_least = if share == 0 { " (at least one is)" } else { "" };
+    format!("share: {share} percent of the frames are excluded, to the nearest percent{at_least}")
 }
 
 /// A shadow entry by its bits; bits without a name are shown as a number. Bit 9 has another reason while the frame is pending.

@@ -18,7 +18,7 @@ mod words;
 use std::fmt;
 
 pub use call::Call;
-pub use explain::explain;
+pub use explain::{explain, share};
 pub use input::DrillInput;
 pub use library::{explain_end, Answer, Script, ScriptCall};
 pub use policy::{Number, Policy};

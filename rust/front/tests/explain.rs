@@ -3,7 +3,7 @@
 
 mod common;
 
-use front::{encode, explain, refusals};
+use front::{encode, explain, refusals, share};
 
 /// The words of one line.
 fn words(line: &str) -> String {
@@ -93,8 +93,46 @@ fn shadow_entries_and_share() {
                     page 11: present, user, write-through, frame 1, other bits 0x80\n\
                     page 12: present, cache disable, approved, frame 2\n\
                     page 13: absent, write-through, cache disable, frame 1\n\
-                    share: 25 percent of the frames are excluded\n";
+                    share: 25 percent of the frames are excluded, to the nearest percent\n";
     assert_eq!(explain(lines, None).unwrap(), expected);
+}
+
+/// A share of 0 is no less than a frame; one of 100 may be less than all.
+#[test]
+fn shares_in_words() {
+    let nearest = "percent of the frames are excluded, to the nearest percent";
+    assert_eq!(words("share 0"), format!("share: 0 {nearest} (at least one is)"));
+    for share in [1, 12, 50, 99, 100] {
+        assert_eq!(words(&format!("share {share}")), format!("share: {share} {nearest}"));
+    }
+}
+
+/// K7's rows, and the reference's share for each number of frames that a policy can have.
+#[test]
+fn shares() {
+    let rows = [
+        (1, 8, 12),
+        (3, 8, 38),
+        (5, 8, 62),
+        (7, 8, 88),
+        (8, 8, 100),
+        (1, 200, 0),
+        (3, 200, 2),
+        (199, 200, 100),
+        (1, 3, 33),
+        (2, 3, 67),
+        (3, 16, 19),
+    ];
+    for (excluded, frames, expected) in rows {
+        assert_eq!(share(excluded, frames), expected, "{excluded} of {frames}");
+    }
+    for frames in 1..=4096 {
+        for excluded in 0..=frames {
+            let expected = reference::share(excluded, frames);
+            let found = share(excluded.into(), frames.into());
+            assert_eq!(found, expected.into(), "{excluded} of {frames}");
+        }
+    }
 }
 
 /// With the script, an accepted edit says where its entry is absent for a reserved bit; without it, nothing is known of the entry.
@@ -215,7 +253,7 @@ line 6: write refused: 11, a touched page is not present; kernel mode, page 1
 line 6: synchronise all accepted: 1 shadow entry changed, 0 pages joined the map; kernel mode, page 1
 line 7: calls ended: 15, the kind of call is unknown; kernel mode, page 1
 page 0: absent
-share: 25 percent of the frames are excluded
+share: 25 percent of the frames are excluded, to the nearest percent
 ";
     assert_eq!(explain(lines, Some(&script)).unwrap(), expected);
 }

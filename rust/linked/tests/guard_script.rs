@@ -85,7 +85,7 @@ page 0: present, no-execute, frame 3
 page 1: present, approved, frame 2
 page 2: absent
 page 3: present, user, write-through, cache disable, no-execute while pending, no-execute, frame 3
-share: 50 percent of the frames are excluded
+share: 50 percent of the frames are excluded, to the nearest percent
 pending: page 3 with frame 3
 ";
     assert_eq!(explained(&script), expected);
@@ -94,7 +94,37 @@ pending: page 3 with frame 3
     let entry = "page 3: present, user, write-through, cache disable, \
                  no-execute in the kernel entry, no-execute, frame 3\n";
     assert!(dropped.contains(entry), "{dropped}");
-    assert!(dropped.ends_with("share: 25 percent of the frames are excluded\n"), "{dropped}");
+    assert_eq!(dropped.lines().last(), Some(&*share_line(25)));
+}
+
+fn share_line(share: u64) -> String {
+    format!("share: {share} percent of the frames are excluded, to the nearest percent")
+}
+
+/// "To the nearest, an exact half to the even number": 1 to 8 frames of 8, of which the policy lists one and each commit adds one.
+#[test]
+fn the_share_of_eight_frames() {
+    let mut script = "policy pages 8 frames 8\napprove page 0 frame 0 entry\n".to_string();
+    for (frame, share) in (1..).zip([12, 25, 38, 50, 62, 75, 88]) {
+        assert_eq!(explained(&script).lines().last(), Some(&*share_line(share)));
+        script += &format!("ask page {frame} frame {frame}\ncommit\n");
+    }
+    assert_eq!(explained(&script).lines().last(), Some(&*share_line(100)));
+}
+
+/// A pending frame counts as well, and one that is dropped no longer.
+#[test]
+fn the_share_of_two_hundred_frames() {
+    let mut script = "policy pages 4 frames 200\napprove page 0 frame 7 entry\n".to_string();
+    let last = |script: &str, back| explained(script).lines().nth_back(back).map(str::to_string);
+    let of_one = share_line(0) + " (at least one is)";
+    assert_eq!(last(&script, 0), Some(of_one));
+    script += "ask page 1 frame 199\ncommit\n";
+    assert_eq!(last(&script, 0), Some(share_line(1)));
+    script += "ask page 2 frame 0\n";
+    assert_eq!(last(&script, 1), Some(share_line(2)));
+    assert_eq!(last(&script, 0).as_deref(), Some("pending: page 2 with frame 0"));
+    assert_eq!(last(&(script + "drop\n"), 0), Some(share_line(1)));
 }
 
 /// Each number that an ask, a commit and a drop are refused with, and which of its reasons it was.

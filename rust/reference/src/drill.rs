@@ -31,7 +31,7 @@ pub fn drill_with_fault(fault: Fault, mut input: impl Read, out: impl Write) -> 
     drill.line(&mut out, 'S', answer)?;
     if answer.is_ok() {
         drill.calls(&mut input, &mut out)?;
-        drill.tables.print(&mut out)?;
+        drill.tables.print(fault, &mut out)?;
     }
     out.flush()
 }
@@ -110,12 +110,24 @@ impl Tables {
     }
 
     /// The shadow entries in rising order, and the share of excluded frames.
-    fn print(&self, out: &mut impl Write) -> io::Result<()> {
+    fn print(&self, fault: Fault, out: &mut impl Write) -> io::Result<()> {
         for entry in &self.shadow[..self.v] {
             writeln!(out, "{entry:016x}")?;
         }
         let excluded: u32 = self.exclusion().iter().map(|byte| byte.count_ones()).sum();
-        writeln!(out, "share {}", 100 * excluded / u32::from(self.f))
+        writeln!(out, "share {}", fault::share(fault, excluded, self.f.into()))
+    }
+}
+
+/// 100 × excluded frames / F, "to the nearest, an exact half to the even number" (K7). F is 1 at least.
+pub fn share(excluded: u32, f: u32) -> u32 {
+    // A half more, rounded down, is the nearest. An exact half becomes the whole number above it, and goes one back from an odd one.
+    let (with_half, one) = (200 * excluded + f, 2 * f);
+    let nearest = with_half / one;
+    if with_half.is_multiple_of(one) {
+        nearest & !1
+    } else {
+        nearest
     }
 }
 

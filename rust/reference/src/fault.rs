@@ -8,6 +8,7 @@ use crate::boundary;
 use crate::claim::Call;
 use crate::device::Device;
 use crate::device_fault;
+use crate::drill;
 use crate::pending_fault;
 use crate::state::{Answer, State};
 use crate::switch;
@@ -289,6 +290,14 @@ pub enum Fault {
     DropLeavesWords = 134,
     /// K6: leaving what the run has of a pair at the start.
     StartLeavesPair = 135,
+    /// K7: the share rounded down, as before.
+    ShareRoundedDown = 136,
+    /// K7: the share rounded up.
+    ShareRoundedUp = 137,
+    /// K7: an exact half to the number above.
+    ShareHalfUp = 138,
+    /// K7: an exact half to the number below.
+    ShareHalfDown = 139,
 }
 
 pub(crate) const NONE: u8 = Fault::None as u8;
@@ -492,14 +501,18 @@ impl Fault {
         Fault::StartLeavesPair,
     ];
 
+    /// The mistakes of the share, which no call gives: the drill alone prints it.
+    pub const OF_SHARES: [Fault; 4] =
+        [Fault::ShareRoundedDown, Fault::ShareRoundedUp, Fault::ShareHalfUp, Fault::ShareHalfDown];
+
     /// Whether it is one of K6's.
     fn is_of_pending(self) -> bool {
-        self as u8 >= Fault::AskDoesNotExclude as u8
+        (Fault::AskDoesNotExclude as u8..=Fault::StartLeavesPair as u8).contains(&(self as u8))
     }
 }
 
-/// The variant of a call for a mistake. Where the call cannot make it, the variant does what the plain call does. The mistakes of K5 and
-/// K6 are none of these: device_fault.rs has those of K5, the start and [`seen`], and pending_fault.rs those of K6.
+/// The variant of a call for a mistake. Where the call cannot make it, the variant does what the plain call does. The mistakes of K5 to
+/// K7 are none of these: device_fault.rs has those of K5, the start and [`seen`], pending_fault.rs those of K6, and [`share`] those of K7.
 macro_rules! variant {
     ($module:ident::$call:ident, $fault:expr) => {
         match $fault {
@@ -752,4 +765,16 @@ pub fn write_record(
 /// [`boundary::walk`] with a mistake.
 pub fn walk(fault: Fault, tree: Tree, page: u64, numbers: &mut [u64]) -> u64 {
     variant!(boundary::walk_variant, fault)(tree, page, numbers)
+}
+
+/// [`crate::share`] with a mistake.
+pub fn share(fault: Fault, excluded: u32, f: u32) -> u32 {
+    let hundredfold = 100 * excluded;
+    match fault {
+        Fault::ShareRoundedDown => hundredfold / f,
+        Fault::ShareRoundedUp => hundredfold.div_ceil(f),
+        Fault::ShareHalfUp => (2 * hundredfold + f) / (2 * f),
+        Fault::ShareHalfDown => (2 * hundredfold + f - 1) / (2 * f),
+        _ => drill::share(excluded, f),
+    }
 }

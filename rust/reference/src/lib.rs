@@ -25,7 +25,7 @@ mod tree;
 pub use access::{device_write, fetch, write};
 pub use approval::{ask, commit, drop};
 pub use device::Device;
-pub use drill::{drill, drill_with_fault};
+pub use drill::{drill, drill_with_fault, share};
 pub use entry::NO_FRAME;
 pub use fault::Fault;
 pub use record::write_record;

@@ -49,7 +49,7 @@ fn every_vector() {
 
 #[test]
 fn the_vectors_see_every_planted_mistake() {
-    for fault in Fault::PLANTED {
+    for fault in Fault::PLANTED.into_iter().chain(Fault::OF_SHARES) {
         let (failed, _) = failures(fault);
         assert!(!failed.is_empty(), "no vector sees {fault:?}");
     }

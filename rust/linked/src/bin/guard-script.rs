@@ -4,7 +4,7 @@
 use std::process::ExitCode;
 
 use front::console::{done, input, misused, print};
-use front::{explain_end, Answer, Call, Script};
+use front::{explain_end, share, Answer, Call, Script};
 use guard::{Device, Guard, Mode, Options, Refusal, MAX_DEVICES, NO_FRAME};
 
 const USAGE: &str = "\
@@ -64,7 +64,8 @@ fn explained(script: &Script) -> Vec<String> {
         lines.push(call.explain(answer(&guard, outcome), cause));
     }
     let pending = guard.pending().map(|pair| (pair.page, pair.frame));
-    lines.extend(explain_end(guard.shadow(), share(&guard), pending));
+    let share = share(excluded(&guard), guard.frames());
+    lines.extend(explain_end(guard.shadow(), share, pending));
     lines
 }
 
@@ -168,8 +169,7 @@ fn approval(guard: &Guard, page: u64) -> Option<u16> {
     guard.map().get(place).copied().filter(|&frame| frame != NO_FRAME)
 }
 
-/// The excluded frames in percent of all, rounded down, as the drill prints them.
-fn share(guard: &Guard) -> u64 {
-    let excluded: u32 = guard.exclusion().iter().map(|byte| byte.count_ones()).sum();
-    100 * u64::from(excluded) / guard.frames()
+/// How many frames are excluded.
+fn excluded(guard: &Guard) -> u64 {
+    guard.exclusion().iter().map(|byte| u64::from(byte.count_ones())).sum()
 }
