@@ -1,3 +1,3 @@
 -- What the theorems about the record that is written cite, and the laws that the code cites.
-mod Computed
+pub mod Computed
 pub mod RecordLaws
