@@ -2,3 +2,4 @@
 mod Computed
 mod LimitLaws
 mod ShareLaws
+mod ExcludedLaws

@@ -5,7 +5,7 @@ ghost use mathlib.Core.List.{_++_};
 ghost use Rattle.model.specs.Cases.{Hold};
 ghost use Rattle.drill_model.specs.Drill.{drillOutput};
 ghost use Rattle.drill_model.specs.DrillCases.{drillCases, shareCases, windowCases, Limit};
-ghost use Rattle.drill_model.specs.Share.{ShareNearest, NearestFixed};
+ghost use Rattle.drill_model.specs.Share.{ShareNearest, NearestFixed, SomeExcluded, ShareKept};
 ghost use Rattle.drill_model.specs.Worked.{workedInput, workedOutput};
 
 // Document 01, the worked example: every byte of its output follows from the drill's definitions.
@@ -26,4 +26,9 @@ pub fn limit_of_calls()
 // Document 02, K7: the share is "to the nearest, an exact half to the even number", and no other number is.
 pub fn share_nearest()
     ensures { λ _. ⌜ ShareNearest × NearestFixed ⌝ }
+{}
+
+// The share is that of at least one frame: a started drill has a frame excluded, and its calls leave the vector and F as they are.
+pub fn some_excluded()
+    ensures { λ _. ⌜ SomeExcluded × ShareKept ⌝ }
 {}
