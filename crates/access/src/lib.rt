@@ -16,7 +16,7 @@ use model::Answer;
 use model::Called;
 use model::PAGE_BYTES;
 use model::State;
-use questions::both;
+use ranges::both;
 
 // Bit 2, which is asked in user mode only.
 fn user_may(user: bool, entry: u64) -> bool

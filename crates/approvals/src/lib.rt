@@ -33,9 +33,9 @@ fn approval_of(map: &[u16], page: u64) -> u16
 fn may_ask(pending: Pending, approval: u16, excluded: bool) -> bool
     ensures { λ r. ⌜ r ≡ both (not (isPending pending)) (both (eqb approval none) (not excluded)) ⌝ }
 {
-    questions::both(
+    ranges::both(
         !state::is_pending(pending),
-        questions::both(approval == NONE, !excluded),
+        ranges::both(approval == NONE, !excluded),
     )
 }
 

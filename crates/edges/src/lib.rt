@@ -13,8 +13,8 @@ use model::MOST_TRANSFERRED;
 use model::MOST_WRITTEN;
 use model::PAGE_BYTES;
 use model::State;
-use questions::both;
-use questions::in_range;
+use ranges::both;
+use ranges::in_range;
 
 // Question 8.
 

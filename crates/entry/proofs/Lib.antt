@@ -1,5 +1,3 @@
--- Laws of this crate's proofs.
-mod ApartLaws
-mod OrdinaryLaws
-mod SwitchLaws
+-- Laws of this crate's proofs. A crate above cites those of kernel entries taken apart.
+pub mod ApartLaws
 mod MapsLaws

@@ -16,7 +16,7 @@ use model::Answer;
 use model::Called;
 use model::Mode;
 use model::State;
-use questions::both;
+use ranges::both;
 
 // Bit 63 of every present entry by the rules of the mode; the count of entries whose value changed.
 fn switch_table(user: bool, shadow: &mut [u64]) -> u64
@@ -26,7 +26,7 @@ fn switch_table(user: bool, shadow: &mut [u64]) -> u64
     let mut i = 0;
     while i < shadow.len() {
         let entry = shadow[i];
-        let change = entry::switch_change(user, entry);
+        let change = shadow_entry::switch_change(user, entry);
         shadow[i] = entry ^ change;
         changed += change / entry::NO_EXECUTE;
         i += 1;

@@ -87,9 +87,9 @@ pub fn padded_number(bytes: &[u8], at: usize) -> u16
 pub fn sizes_in_range(pages: u64, frames: u64) -> bool
     ensures { λ r. ⌜ r ≡ both (pagesInRange pages) (framesInRange frames) ⌝ }
 {
-    questions::both(
-        questions::pages_in_range(pages),
-        questions::frames_in_range(frames),
+    ranges::both(
+        ranges::pages_in_range(pages),
+        ranges::frames_in_range(frames),
     )
 }
 
@@ -104,9 +104,9 @@ pub fn counts_in_range(pages: u64, count: u64, entry_count: u64) -> bool
     ensures { λ r. ⌜ r ≡ both (within 1 pages count) (within 1 (min count 16) «entry_count») ⌝ }
 {
     let most = smaller(count, model::ENTRY_PAGES as u64);
-    questions::both(
-        questions::in_range(1, pages, count),
-        questions::in_range(1, most, entry_count),
+    ranges::both(
+        ranges::in_range(1, pages, count),
+        ranges::in_range(1, most, entry_count),
     )
 }
 
@@ -114,7 +114,7 @@ pub fn counts_in_range(pages: u64, count: u64, entry_count: u64) -> bool
 pub fn page_rises(pages: u16, least: u16, page: u16) -> bool
     ensures { λ r. ⌜ r ≡ both (leb least page) (ltb page pages) ⌝ }
 {
-    questions::both(least <= page, page < pages)
+    ranges::both(least <= page, page < pages)
 }
 
 // Question 6 of one frame.
@@ -176,7 +176,7 @@ pub fn record_question(bytes: &[u8], devices: u64) -> u64
     let count = number_from(bytes, 4);
     let entry_count = number_from(bytes, 6);
     let counts = counts_in_range(pages as u64, count as u64, entry_count as u64);
-    if !questions::both(counts, questions::devices_in_range(devices)) {
+    if !ranges::both(counts, ranges::devices_in_range(devices)) {
         return 3;
     }
     if bytes.len() != 8 + 4 * count as usize {

@@ -1,91 +1,14 @@
-// The tests behind question 7, each a function that a call or a crate above can ask, and the ranges of its numbers.
+// The tests behind question 7, each a function that a call or a crate above can ask: the state in order, and the length of every lent table.
 
 ghost use mathlib.Core.Path.{_≡_};
 ghost use mathlib.Core.List.{[], _∷_};
 ghost use mathlib.Core.Bool.{true};
 ghost use lib.Dec.{eqb};
-ghost use Rattle.model.specs.Basics;
-ghost use Rattle.model.specs.Basics.{within};
-ghost use Rattle.model.specs.Edges.{pagesInRange, framesInRange, devicesInRange};
 ghost use Rattle.model.specs.Keeps.{vectorBytes};
-ghost use Rattle.model.specs.Questions.{pendingInRange, stateInOrder, inOrder};
-use model::ENTRY_PAGES;
-use model::MOST_DEVICES;
-use model::MOST_FRAMES;
-use model::MOST_PAGES;
-use model::Pending;
+ghost use Rattle.model.specs.Questions.{stateInOrder, inOrder};
 use model::State;
-use state::running;
-
-// Both answers are yes.
-pub fn both(a: bool, b: bool) -> bool
-    ensures { λ r. ⌜ r ≡ Basics.both a b ⌝ }
-{
-    a && b
-}
-
-// x is from low to high, both ends included.
-pub fn in_range(low: u64, high: u64, x: u64) -> bool
-    ensures { λ r. ⌜ r ≡ within low high x ⌝ }
-{
-    both(low <= x, x <= high)
-}
-
-// Question 7: the state, and the length of every lent table.
-
-pub fn pages_in_range(pages: u64) -> bool
-    ensures { λ r. ⌜ r ≡ pagesInRange pages ⌝ }
-{
-    in_range(1, MOST_PAGES, pages)
-}
-
-pub fn frames_in_range(frames: u64) -> bool
-    ensures { λ r. ⌜ r ≡ framesInRange frames ⌝ }
-{
-    in_range(1, MOST_FRAMES, frames)
-}
-
-// The number of entry pages, as a state may have it.
-pub fn entry_count_in_range(count: u64) -> bool
-    ensures { λ r. ⌜ r ≡ within 1 16 count ⌝ }
-{
-    in_range(1, ENTRY_PAGES as u64, count)
-}
-
-// The number of devices (K5), as the start may be given it and a state may have it.
-pub fn devices_in_range(count: u64) -> bool
-    ensures { λ r. ⌜ r ≡ devicesInRange count ⌝ }
-{
-    in_range(1, MOST_DEVICES as u64, count)
-}
-
-// The page of a pending pair is below V, and its frame below F (K6).
-pub fn pending_in_range(pages: u16, frames: u16, pending: Pending) -> bool
-    ensures { λ r. ⌜ r ≡ pendingInRange pages frames pending ⌝ }
-{
-    match pending {
-        Pending::Nothing => true,
-        Pending::Pair(page, frame) => both(page < pages, frame < frames),
-    }
-}
-
-pub fn state_in_order(s: State) -> bool
-    ensures { λ r. ⌜ r ≡ stateInOrder s ⌝ }
-{
-    let mode = s.mode;
-    let pending = s.pending;
-    let entries = entry_count_in_range(s.entry_count as u64);
-    let exists = running(mode) < s.pages;
-    let devices = devices_in_range(s.devices as u64);
-    let pair = pending_in_range(s.pages, s.frames, pending);
-    both(
-        pages_in_range(s.pages as u64),
-        both(
-            frames_in_range(s.frames as u64),
-            both(entries, both(exists, both(devices, pair))),
-        ),
-    )
-}
+use ranges::both;
+use ranges::state_in_order;
 
 // The length of the exclusion vector.
 pub fn vector_bytes(frames: u16) -> usize

@@ -22,7 +22,7 @@ const SIZES: usize = 8;
 fn arrays_exact(count: u64, pages_listed: usize, frames_listed: usize) -> bool
     ensures { λ r. ⌜ r ≡ both (eqb «pages_listed» count) (eqb «frames_listed» count) ⌝ }
 {
-    questions::both(pages_listed as u64 == count, frames_listed as u64 == count)
+    ranges::both(pages_listed as u64 == count, frames_listed as u64 == count)
 }
 
 // Question 5.

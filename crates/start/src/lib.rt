@@ -58,7 +58,7 @@ fn set_listed(bytes: &[u8], count: u16, shadow: &mut [u64], map: &mut [u16])
     while 0 < left {
         let page = policy::number_from(bytes, page_at) as usize;
         let frame = policy::number_from(bytes, frame_at);
-        shadow[page] = entry::approved(false, frame);
+        shadow[page] = shadow_entry::approved(false, frame);
         map[page] = frame;
         page_at += 2;
         frame_at += 2;

@@ -33,7 +33,7 @@ fn step(user: bool, frames: u16, pending: u16, exclusion: &[u8], entry: u64, app
     };
     if approval != NONE {
         return Slot {
-            entry: entry::approved(user, approval),
+            entry: shadow_entry::approved(user, approval),
             approval,
         };
     }
@@ -42,19 +42,19 @@ fn step(user: bool, frames: u16, pending: u16, exclusion: &[u8], entry: u64, app
     }
     if x.frame == pending as u64 {
         return Slot {
-            entry: entry::inspected_of(entry),
+            entry: shadow_entry::inspected_of(entry),
             approval,
         };
     }
     if bitmap::excluded_within(exclusion, x.frame) {
         let frame = x.frame as u16;
         return Slot {
-            entry: entry::approved(user, frame),
+            entry: shadow_entry::approved(user, frame),
             approval: frame,
         };
     }
     Slot {
-        entry: entry::ordinary_of(user, entry),
+        entry: shadow_entry::ordinary_of(user, entry),
         approval,
     }
 }
@@ -134,7 +134,12 @@ pub fn approve_at(
         × (r .changed ≤ counts .changed + 1) × (r .joined ≤ counts .joined + 1) ⌝ }
 {
     let joined = put_approval(map, i, frame, counts.joined);
-    let changed = put_entry(shadow, i, entry::approved(user, frame), counts.changed);
+    let changed = put_entry(
+        shadow,
+        i,
+        shadow_entry::approved(user, frame),
+        counts.changed,
+    );
     Counts { changed, joined }
 }
 

@@ -15,7 +15,7 @@ use model::Answer;
 use model::Device;
 use model::PAGE_BYTES;
 use model::State;
-use questions::both;
+use ranges::both;
 
 // Question 19 of a transfer from one frame to another: both ends of it lie in the device's window.
 fn in_window(window: Device, first: u64, last: u64) -> bool

@@ -34,7 +34,7 @@ pub fn policy_extent(input: &[u8]) -> usize
     ensures { λ r. ⌜ (r ≡ policyExtent (now (input .entry))) × (8 ≤ r) × (r ≤ 8200) ⌝ }
 {
     let count = policy::padded_number(input, 4);
-    if questions::in_range(1, MOST_PAGES, count as u64) {
+    if ranges::in_range(1, MOST_PAGES, count as u64) {
         return 8 + 4 * count as usize;
     }
     8
@@ -46,7 +46,7 @@ pub fn pages_lent(bytes: &[u8]) -> usize
     ensures { λ r. ⌜ (r ≡ pagesLent (now (bytes .entry))) × (r ≤ 2048) ⌝ }
 {
     let pages = policy::padded_number(bytes, 0);
-    if questions::pages_in_range(pages as u64) {
+    if ranges::pages_in_range(pages as u64) {
         return pages as usize;
     }
     0
@@ -56,7 +56,7 @@ pub fn bytes_lent(bytes: &[u8]) -> usize
     ensures { λ r. ⌜ (r ≡ bytesLent (now (bytes .entry))) × (r ≤ 512) ⌝ }
 {
     let frames = policy::padded_number(bytes, 2);
-    if questions::frames_in_range(frames as u64) {
+    if ranges::frames_in_range(frames as u64) {
         return questions::vector_bytes(frames);
     }
     0

@@ -136,7 +136,7 @@ pub fn state_in(run: &[u64]) -> State
 pub fn runs_fit(run: &[u64], numbers: &[u64], count: usize) -> bool
     ensures { λ r. ⌜ r ≡ runsFit count (now (run .entry)) (now (numbers .entry)) ⌝ }
 {
-    questions::both(run.len() == STATE_WORDS, numbers.len() == count)
+    ranges::both(run.len() == STATE_WORDS, numbers.len() == count)
 }
 
 // What every other call asks for: a mode word and a pending word of 0 or 1 too.
@@ -146,7 +146,7 @@ fn lendable(run: &[u64], numbers: &[u64], count: usize) -> bool
     if !runs_fit(run, numbers, count) {
         return false;
     }
-    questions::both(run[STATE_MODE] <= MODE_USER, run[STATE_PENDING] <= PENDING)
+    ranges::both(run[STATE_MODE] <= MODE_USER, run[STATE_PENDING] <= PENDING)
 }
 
 // The pair, where one is pending: its page is below V and its frame below F. It is asked of the fields, as the calls below ask it: the compiler asks it once.
@@ -156,7 +156,7 @@ fn pair_in_order(run: &[u64]) -> bool
 {
     let pages = field(run, STATE_PAGES);
     let frames = field(run, STATE_FRAMES);
-    questions::pending_in_range(pages, frames, pending_in(run))
+    ranges::pending_in_range(pages, frames, pending_in(run))
 }
 
 // The state's part of question 7, on the words of a run. The compiler then drops what the calls below ask of the fields. V and F are asked first: the
@@ -166,17 +166,17 @@ fn words_in_order(run: &[u64]) -> bool
     ensures { λ r. ⌜ r ≡ stateInOrder (stateIn (now (run .entry))) ⌝ }
 {
     let pages = run[STATE_PAGES];
-    if !questions::pages_in_range(pages) {
+    if !ranges::pages_in_range(pages) {
         return false;
     }
-    if !questions::frames_in_range(run[STATE_FRAMES]) {
+    if !ranges::frames_in_range(run[STATE_FRAMES]) {
         return false;
     }
-    let entries = questions::entry_count_in_range(run[STATE_ENTRIES]);
-    let devices = questions::devices_in_range(run[STATE_DEVICES]);
+    let entries = ranges::entry_count_in_range(run[STATE_ENTRIES]);
+    let devices = ranges::devices_in_range(run[STATE_DEVICES]);
     let pair = pair_in_order(run);
-    let running = questions::both(run[STATE_RUNNING] < pages, questions::both(devices, pair));
-    questions::both(entries, running)
+    let running = ranges::both(run[STATE_RUNNING] < pages, ranges::both(devices, pair));
+    ranges::both(entries, running)
 }
 
 // Both runs can be lent, and the state is in order.

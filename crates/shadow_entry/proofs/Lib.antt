@@ -1,0 +1,3 @@
+-- Laws of this crate's proofs.
+mod OrdinaryLaws
+mod SwitchLaws
