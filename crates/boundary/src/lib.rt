@@ -1,5 +1,5 @@
 // The calls on a lent state that neither synchronise nor approve, on numbers and lent runs: a number out. The crate `exports` hands them to C, and include/guard.h
-// documents them. The definitions and the laws of every exported call stand here.
+// documents them. The definitions of every exported call stand here, and the laws that all of them cite.
 // Each promises what the model answers on the decoded state, by one equation on all inputs.
 
 ghost use mathlib.Core.List.{List};

@@ -33,6 +33,7 @@ module _ (run numbers : List ℕ) (b : Bool) (call : Call) (asks : b ≡ usable 
       → (t : Tables) → returned r run′ after (withExclusion exclusion′ t) ≡ callAt run numbers (withExclusion exclusion t) call
   vector-called exclusion exclusion′ = called run numbers b call asks used s in-run after r (withExclusion exclusion) (withExclusion exclusion′)
 
+  -- Of a synchronisation: all three tables, and no word of the state run.
   pub sync-kept : (shadow map exclusion shadow′ map′ exclusion′ : List ℕ) (a : Answer) → changedBy call ≡ []
       → ((t : Tables) → keptBy a s (withThree shadow′ map′ exclusion′ t) ≡ answer (guardOf s (withThree shadow map exclusion t)) call)
       → r ≡ replyOf a .number → after ≡ withNumbers (numbersBy call) numbers (replyOf a)

@@ -1,5 +1,5 @@
 // The calls on a lent state that synchronise or approve, on numbers and lent runs: a number out. The crate `exports` hands them to C beside those of `boundary`,
-// whose definitions and laws they share; they are a crate of their own so that an edit of either is checked in less time.
+// whose definitions and laws they cite.
 
 ghost use mathlib.Core.Path.{_≡_};
 ghost use Rattle.model.specs.Keeps.{Tables, withShadow, withMap, withExclusion, withThree};

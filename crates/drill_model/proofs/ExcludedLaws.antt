@@ -1,11 +1,11 @@
--- K7: a started drill has a frame excluded, and no call of it changes the vector or F.
+-- K7: a started drill has a frame excluded, and its output ends with the start's share.
 use Prim.Native.Nat.{ℕ, zero, suc, _+_, _≤_, _<_}
 use mathlib.Core.Bool.{Bool, true, false, cond}
-use mathlib.Core.List.{List, [], _∷_}
+use mathlib.Core.List.{List, [], _∷_, _++_, append-assoc}
 use mathlib.Core.Logic.{_⊎_, inl, inr}
-use mathlib.Core.Path.{_≡_, refl, ap, _∙_}
+use mathlib.Core.Path.{_≡_, refl, sym, ap, subst, _∙_}
 use lib.Dec.{eqb}
-use lib.ListN.{length, replicate}
+use lib.ListN.{length, take, drop, replicate}
 use native.Mathlib.Nat.{eq-or-lt-of-le}
 use native.Mathlib.Omega.{arith}
 use Rattle.model.specs.Basics.{either, member}
@@ -17,9 +17,10 @@ use Rattle.model.specs.Terms.{firstTerms, protected}
 use Rattle.model.proofs.PolicyLaws.{Passed, start-passed, length-numbersAt, allBelow-member, member-here}
 use Rattle.model.proofs.QuestionLaws.{settle-accepted, settle-refused}
 use Rattle.model.proofs.ClaimKept.{Kept}
+use Rattle.model.proofs.ClaimPages.{cond-cases}
 use Rattle.model.proofs.ClaimStart.{start-kept}
-use Rattle.drill_model.specs.Drill.{Drill, drillGiven, drillStart, kindOf, indexOf, lengthOf, valueOf, Drilled, withGuard, edited, callOf, performed, Turn, turnOf, turn, countFrom}
-use Rattle.drill_model.specs.Share.{SomeExcluded, ShareKept}
+use Rattle.drill_model.specs.Drill.{policyExtent, Drill, drillGiven, drillStart, begun, kindOf, indexOf, lengthOf, valueOf, Drilled, withGuard, edited, callOf, performed, startLine, Turn, turnOf, turn, entryLines, countFrom, shareLine, closing, callLimit, callLines, drillOutput}
+use Rattle.drill_model.specs.Share.{SomeExcluded, EndsWith, ShareLast}
 
 -- Of numbers of which one passes the test, one is counted at least.
 count-some : (test : ℕ → Bool) (first count f : ℕ) → first ≤ f → f < first + count → test f ≡ true → 1 ≤ countFrom test first count
@@ -46,9 +47,9 @@ module _ (bytes : List ℕ) (l : Lengths) (accepted : firstNo (startQuestions dr
   kept : Kept (policyOf bytes) firstTerms (startGuard drillGiven (policyOf bytes))
   kept = start-kept drillGiven bytes l accepted
 
-  frames-length : length (policyOf bytes .listedFrames) ≡ policyOf bytes .count
+  some-frame : 1 ≤ length (policyOf bytes .listedFrames)
   unfolding policyOf
-  frames-length = length-numbersAt bytes _ (policyOf bytes .count)
+  some-frame = rw length-numbersAt (passed .count-low)
 
   listed-excluded : (f : ℕ) → member f (policyOf bytes .listedFrames) ≡ true
       → excludedIn (startGuard drillGiven (policyOf bytes) .tables .exclusion) f ≡ true
@@ -58,7 +59,7 @@ module _ (bytes : List ℕ) (l : Lengths) (accepted : firstNo (startQuestions dr
   started-some : 1 ≤ countFrom (excludedIn (startGuard drillGiven (policyOf bytes) .tables .exclusion)) 0 (startGuard drillGiven (policyOf bytes) .state .frames)
   started-some =
       rw (kept .frames)
-      (some-listed (policyOf bytes .listedFrames) _ (policyOf bytes .frames) (omega (arith, passed .count-low, frames-length)) (passed .frames-below)
+      (some-listed (policyOf bytes .listedFrames) _ (policyOf bytes .frames) some-frame (passed .frames-below)
       listed-excluded)
 
 -- The tables that the drill's start is lent.
@@ -87,14 +88,10 @@ some-excluded bytes accepted = by-number (firstNo (startQuestions drillGiven byt
 abbrev Same : Guard → Guard → Type 0
 Same g h = (h .tables .exclusion ≡ g .tables .exclusion) × (h .state .frames ≡ g .state .frames)
 
-either-way : {A : Type 0} (P : A → Type 0) (b : Bool) (x y : A) → P x → P y → P (cond b x y)
-either-way P true x y p q = p
-either-way P false x y p q = q
-
-settled : {A : Type 0} (P : A → Type 0) (n : ℕ) (done : A) (refusal : ℕ → A) → P done → ((k : ℕ) → P (refusal k)) → P (settle n done refusal)
+settle-cases : {A : Type 0} (P : A → Type 0) (n : ℕ) (done : A) (refusal : ℕ → A) → P done → ((k : ℕ) → P (refusal k)) → P (settle n done refusal)
 unfolding settle
-settled P zero done refusal p q = p
-settled P (suc n) done refusal p q = q (suc n)
+settle-cases P zero done refusal p q = p
+settle-cases P (suc n) done refusal p q = q (suc n)
 
 module _ (d : Drill) where
   abbrev After : Call → Type 0
@@ -103,19 +100,19 @@ module _ (d : Drill) where
   answered : (call : Call) → Same (d .guard) (effectOf (d .guard) call .guard) → After call
   unfolding answer
   answered call p =
-      settled (λ (o : Outcome). Same (d .guard) (o .guard)) (firstNo (questionsOf (seen (d .guard)) call)) _ (refusedOf (d .guard) (broughtBy call)) p
+      settle-cases (λ (o : Outcome). Same (d .guard) (o .guard)) (firstNo (questionsOf (seen (d .guard)) call)) _ (refusedOf (d .guard) (broughtBy call)) p
       (λ k. (refl, refl))
 
   called : (kind index size value : ℕ) → After (callOf (d .kernel) (d .devices) kind index size value)
   unfolding callOf effectOf pageFrom allFrom pageSynced allSynced switchTo inMode
   called kind index size value =
-      either-way After (eqb kind 1) (syncPage (d .kernel) index) _ (answered (syncPage (d .kernel) index) (refl, refl))
-      (either-way After (eqb kind 2) (syncAll (d .kernel)) _ (answered (syncAll (d .kernel)) (refl, refl))
-      (either-way After (eqb kind 3) (fetch index) _ (answered (fetch index) (refl, refl))
-      (either-way After (eqb kind 4) (write value size) _ (answered (write value size) (refl, refl))
-      (either-way After (eqb kind 5) (enter index) _ (answered (enter index) (refl, refl))
-      (either-way After (eqb kind 6) (leave index) _ (answered (leave index) (refl, refl))
-      (answered (deviceWrite (d .devices) index value size) (refl, refl)))))))
+      cond-cases After (eqb kind 1) (λ e. answered (syncPage (d .kernel) index) (refl, refl)) (λ e.
+      cond-cases After (eqb kind 2) (λ e. answered (syncAll (d .kernel)) (refl, refl)) (λ e.
+      cond-cases After (eqb kind 3) (λ e. answered (fetch index) (refl, refl)) (λ e.
+      cond-cases After (eqb kind 4) (λ e. answered (write value size) (refl, refl)) (λ e.
+      cond-cases After (eqb kind 5) (λ e. answered (enter index) (refl, refl)) (λ e.
+      cond-cases After (eqb kind 6) (λ e. answered (leave index) (refl, refl)) (λ e.
+      answered (deviceWrite (d .devices) index value size) (refl, refl)))))))
 
   abbrev Drilled-same : Drilled → Type 0
   Drilled-same r = Same (d .guard) (r .drill .guard)
@@ -123,13 +120,44 @@ module _ (d : Drill) where
   performed-same : (kind index size value : ℕ) → Drilled-same (performed d kind index size value)
   unfolding performed edited withGuard
   performed-same kind index size value =
-      either-way Drilled-same (eqb kind 0) (edited d index value) _ (settled Drilled-same _ _ _ (refl, refl) (λ k. (refl, refl)))
-      (called kind index size value)
+      cond-cases Drilled-same (eqb kind 0) (λ e. settle-cases Drilled-same _ _ _ (refl, refl) (λ k. (refl, refl))) (λ e.
+      called kind index size value)
 
-pub share-kept : ShareKept
-unfolding ShareKept turn turnOf
-share-kept d [] = (refl, refl)
-share-kept d (first ∷ rest) =
+turn-same : (d : Drill) (bytes : List ℕ) → Same (d .guard) (turn d bytes .drill .guard)
+unfolding turn turnOf
+turn-same d [] = (refl, refl)
+turn-same d (first ∷ rest) =
     let bytes : List ℕ = first ∷ rest in
-    settled (λ (t : Turn). Same (d .guard) (t .drill .guard)) _ _ _ (performed-same d (kindOf bytes) (indexOf bytes) (lengthOf bytes) (valueOf bytes))
+    settle-cases (λ (t : Turn). Same (d .guard) (t .drill .guard)) _ _ _ (performed-same d (kindOf bytes) (indexOf bytes) (lengthOf bytes) (valueOf bytes))
     (λ k. (refl, refl))
+
+-- The lines of any calls end with the share of the guard before them.
+abbrev shareBy : Guard → List ℕ
+shareBy g = shareLine (g .state .frames) (g .tables .exclusion)
+
+ends-after : (line : List ℕ) {last whole : List ℕ} → EndsWith last whole → EndsWith last (line ++ whole)
+ends-after line e = record { front = line ++ e .front; same = ap (λ xs. line ++ xs) (e .same) ∙ sym (append-assoc line (e .front) _) }
+
+closing-ends : (g : Guard) → EndsWith (shareBy g) (closing g)
+unfolding closing
+closing-ends g = record { front = entryLines (g .tables .shadow); same = refl }
+
+same-share : (g h : Guard) → Same g h → shareBy h ≡ shareBy g
+same-share g h e = rw (e .0, e .1) refl
+
+lines-end : (calls : ℕ) (d : Drill) (rest : List ℕ) → EndsWith (shareBy (d .guard)) (callLines calls d rest)
+unfolding callLines
+lines-end zero d rest = closing-ends (d .guard)
+lines-end (suc calls) d rest =
+    let t : Turn = turn d (take 16 rest) in
+    let share-same : shareBy (t .drill .guard) ≡ shareBy (d .guard) = same-share (d .guard) (t .drill .guard) (turn-same d (take 16 rest)) in
+    subst (λ (last : List ℕ). EndsWith last (callLines (suc calls) d rest)) share-same
+    (ends-after (t .line)
+    (cond-cases (EndsWith (shareBy (t .drill .guard))) (t .goes) (λ e. lines-end calls (t .drill) (drop 16 rest)) (λ e. closing-ends (t .drill .guard))))
+
+pub share-last : ShareLast
+unfolding ShareLast drillOutput begun
+share-last input accepted =
+    let start : Outcome = drillStart (take (policyExtent input) input) in
+    ends-after (startLine start)
+    (rw (settle-accepted _ _ accepted) (lines-end callLimit (begun (start .guard)) (drop (policyExtent input) input)))

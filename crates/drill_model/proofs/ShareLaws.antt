@@ -8,23 +8,23 @@ use native.Mathlib.Nat.{div-add-mod, mod-lt, mul-le-mul-right, lt-of-not-le}
 use native.Mathlib.Omega.{arith}
 use Rattle.model.specs.Keeps.{excludedIn}
 use Rattle.drill_model.specs.Drill.{countFrom, nearest, share}
-use Rattle.drill_model.specs.Share.{apart, IsNearest, ShareNearest, NearestFixed}
+use Rattle.drill_model.specs.Share.{distance, IsNearest, ShareNearest, NearestFixed}
 
 -- What is left of the division, twice: below the divisor, above it, or the divisor itself, by whether the quotient is even.
 module _ (n d q r : ℕ) (e : d * q + r ≡ n) (h : r < d) where
   exactly : (m : ℕ) → q % 2 ≡ m → 2 * r ≡ d → IsNearest n d (q + m)
-  unfolding IsNearest apart
+  unfolding IsNearest distance
   exactly zero f g = omega arith
   exactly (suc zero) f g = omega arith
   exactly (suc (suc m)) f g = absurd (omega arith)
 
   above : (b : Bool) → ltb d (2 * r) ≡ b → d ≤ 2 * r → IsNearest n d (cond b (q + 1) (q + q % 2))
-  unfolding IsNearest apart
+  unfolding IsNearest distance
   above true f g = omega (arith, ltb-true)
   above false f g = exactly (q % 2) refl (omega (arith, ltb-false))
 
   near : (b : Bool) → ltb (2 * r) d ≡ b → IsNearest n d (cond b q (cond (ltb d (2 * r)) (q + 1) (q + q % 2)))
-  unfolding IsNearest apart
+  unfolding IsNearest distance
   near true f = omega (arith, ltb-true)
   near false f = above (ltb d (2 * r)) refl (ltb-false (2 * r) d f)
 
@@ -34,13 +34,13 @@ nearest-is n d p = near n d (n / d) (n % d) (div-add-mod n d) (mod-lt n p) (ltb 
 
 -- Of no frames none is excluded, and the share is 0.
 pub share-nearest : ShareNearest
-unfolding ShareNearest IsNearest apart share nearest countFrom
+unfolding ShareNearest IsNearest distance share nearest countFrom
 share-nearest zero exclusion = omega arith
 share-nearest (suc f) exclusion = nearest-is (100 * countFrom (excludedIn exclusion) 0 (suc f)) (suc f) (omega arith)
 
 -- Of two such numbers none is below the other: the next one is the farthest that t can be, and then both are at an exact half, so that both are even.
 not-below : (n d s t : ℕ) → 1 ≤ d → IsNearest n d s → IsNearest n d t → s < t → ⊥
-unfolding IsNearest apart
+unfolding IsNearest distance
 not-below n d s t p x y h =
     let more : (s + 1) * d ≤ t * d = mul-le-mul-right d (omega arith) in
     let near : t < s + 2 = lt-of-not-le (λ far. let most : (s + 2) * d ≤ t * d = mul-le-mul-right d far in omega arith) in

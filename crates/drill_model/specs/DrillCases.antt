@@ -1,5 +1,5 @@
 -- Document 01, "The drill program": small inputs with every byte that the drill writes, on policies whose V is not their F; a call's fields and
--- the drill's numbers by themselves; and the limit of calls.
+-- the drill's numbers by themselves; the share (K7); the drill's windows (K5); and the limit of calls.
 use Prim.Native.Nat.{ℕ, zero, suc, _+_, _/_, _%_}
 use mathlib.Core.List.{List, [], _∷_, _++_}
 use mathlib.Core.Path.{_≡_}
@@ -162,6 +162,10 @@ shareCases =
     ∷ row (shareLine 200 (replicate 25 0xff)) (linesOf ("share 100" ∷ []))
     ∷ row (shareLine 8 (0xff ∷ [])) (linesOf ("share 100" ∷ []))
     ∷ row (shareLine 1 (0x01 ∷ [])) (linesOf ("share 100" ∷ []))
+    -- F 512: three eighths of the frames, at the vector's end, and all; no frames
+    ∷ row (shareLine 512 (replicate 40 0 ++ replicate 24 0xff)) (linesOf ("share 38" ∷ []))
+    ∷ row (shareLine 512 (replicate 64 0xff)) (linesOf ("share 100" ∷ []))
+    ∷ row (shareLine 0 []) (linesOf ("share 0" ∷ []))
     -- Below a half and above it: 1 and 2 of 3, 2 and 5 of 7; and no rest: 2 and 6 of 8
     ∷ row (shareLine 3 (0x04 ∷ [])) (linesOf ("share 33" ∷ []))
     ∷ row (shareLine 3 (0x05 ∷ [])) (linesOf ("share 67" ∷ []))

@@ -1,18 +1,20 @@
 -- Document 02, K7, "to the nearest, an exact half to the even number": what that asks of a number, that the share is such a number, that no other
--- is one, and whose share it is.
+-- is one, and that it is the share of one frame at least.
 use Prim.Native.Nat.{ℕ, _+_, _-_, _*_, _%_, _≤_}
-use mathlib.Core.List.{List}
+use mathlib.Core.List.{List, _++_}
 use mathlib.Core.Path.{_≡_}
+use lib.ListN.{take}
 use Rattle.model.specs.Keeps.{excludedIn}
-use Rattle.drill_model.specs.Drill.{Drill, drillStart, turn, countFrom, share}
+use Rattle.model.specs.Calls.{Outcome}
+use Rattle.drill_model.specs.Drill.{policyExtent, drillStart, countFrom, share, shareLine, drillOutput}
 
 -- How far apart two numbers are: of the two differences one is 0.
-unfoldable pub apart : ℕ → ℕ → ℕ
-apart a b = (a - b) + (b - a)
+unfoldable pub distance : ℕ → ℕ → ℕ
+distance a b = (a - b) + (b - a)
 
--- s is within one half of n / d, and where it is exactly one half from it, s is even; said with no fraction, of 2 × d times each.
+-- s is within one half of n / d, and where it is exactly one half from it, s is even: all of it times 2 × d, so that there is no fraction.
 unfoldable pub IsNearest : ℕ → ℕ → ℕ → Type 0
-IsNearest n d s = (2 * apart n (s * d) ≤ d) × (2 * apart n (s * d) ≡ d → s % 2 ≡ 0)
+IsNearest n d s = (2 * distance n (s * d) ≤ d) × (2 * distance n (s * d) ≡ d → s % 2 ≡ 0)
 
 -- The number that the drill prints is such a number for 100 × excluded frames / F.
 unfoldable pub ShareNearest : Type 0
@@ -30,8 +32,13 @@ SomeExcluded =
     (bytes : List ℕ) → drillStart bytes .reply .number ≡ 0
     → 1 ≤ countFrom (excludedIn (drillStart bytes .guard .tables .exclusion)) 0 (drillStart bytes .guard .state .frames)
 
--- No call of the drill changes the vector or F: what it prints at its end is the start's share.
-unfoldable pub ShareKept : Type 0
-ShareKept =
-    (d : Drill) (bytes : List ℕ)
-    → (turn d bytes .drill .guard .tables .exclusion ≡ d .guard .tables .exclusion) × (turn d bytes .drill .guard .state .frames ≡ d .guard .state .frames)
+-- A list that ends with another.
+pub record EndsWith (last whole : List ℕ) : Type 0 where
+  pub front : List ℕ
+  pub same : whole ≡ front ++ last
+
+-- Whatever the calls of a started drill are, its output ends with the start's share: no call of the drill changes the vector or F.
+unfoldable pub ShareLast : Type 0
+ShareLast =
+    (input : List ℕ) → let start : Outcome = drillStart (take (policyExtent input) input) in
+    start .reply .number ≡ 0 → EndsWith (shareLine (start .guard .state .frames) (start .guard .tables .exclusion)) (drillOutput input)

@@ -5,7 +5,7 @@ ghost use mathlib.Core.List.{_++_};
 ghost use Rattle.model.specs.Cases.{Hold};
 ghost use Rattle.drill_model.specs.Drill.{drillOutput};
 ghost use Rattle.drill_model.specs.DrillCases.{drillCases, shareCases, windowCases, Limit};
-ghost use Rattle.drill_model.specs.Share.{ShareNearest, NearestFixed, SomeExcluded, ShareKept};
+ghost use Rattle.drill_model.specs.Share.{ShareNearest, NearestFixed, SomeExcluded, ShareLast};
 ghost use Rattle.drill_model.specs.Worked.{workedInput, workedOutput};
 
 // Document 01, the worked example: every byte of its output follows from the drill's definitions.
@@ -28,7 +28,7 @@ pub fn share_nearest()
     ensures { λ _. ⌜ ShareNearest × NearestFixed ⌝ }
 {}
 
-// The share is that of at least one frame: a started drill has a frame excluded, and its calls leave the vector and F as they are.
+// The share is that of at least one frame: a started drill has a frame excluded, and its output ends with the start's share.
 pub fn some_excluded()
-    ensures { λ _. ⌜ SomeExcluded × ShareKept ⌝ }
+    ensures { λ _. ⌜ SomeExcluded × ShareLast ⌝ }
 {}

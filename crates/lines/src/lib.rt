@@ -1,7 +1,7 @@
 // The bytes of the drill's lines: numbers in decimal, a call's line, the closing lines.
 // A line is built by value; its room of 96 bytes holds the longest.
 
-ghost use Prim.Native.Nat.{_+_, _*_, _≤_, _<_, _%_};
+ghost use Prim.Native.Nat.{_+_, _≤_, _<_, _%_};
 ghost use mathlib.Core.Bool.{cond};
 ghost use mathlib.Core.Path.{_≡_};
 ghost use mathlib.Core.List.{[], _∷_, _++_};

@@ -71,7 +71,7 @@ module _ (code : ℕ → Bool) (page : Page) where
       }
 
 -- A choice has a property if each of the two has it where it is chosen.
-cond-cases : {A : Type 0} (P : A → Type 0) (b : Bool) {x y : A} → (b ≡ true → P x) → (b ≡ false → P y) → P (cond b x y)
+pub cond-cases : {A : Type 0} (P : A → Type 0) (b : Bool) {x y : A} → (b ≡ true → P x) → (b ≡ false → P y) → P (cond b x y)
 cond-cases P true p q = p refl
 cond-cases P false p q = q refl
 

@@ -11,7 +11,7 @@ use Rattle.model.specs.Policy.{givenOf}
 use Rattle.model.specs.Devices.{deviceOf}
 use Rattle.model.specs.Tree.{treeOf}
 use Rattle.model.specs.Calls.{Outcome, outcome, accepted, refused, startOf, syncPage, syncAll, syncPageTree, syncAllTree, fetch, write, enter, leave, deviceWrite}
-use Rattle.model.specs.Cases.{Row, row, Case}
+use Rattle.model.specs.Cases.{row, Case}
 use Rattle.model.specs.Further.{twoEntries, threeDevices, startRefused, with6, shadow6, started6, left6, leaving, stays}
 
 -- The start on that policy and on tables that hold ones, given so many devices.

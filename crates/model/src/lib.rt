@@ -1,5 +1,6 @@
 // The declared types of the guard, and the functions that carry the theorems about its definitions.
-// The definitions themselves stand in specs/, one file for each section of document 01 and for a request that adds to none.
+// The definitions themselves stand in specs/, one file for each section of document 01 and for a request that adds to none; those of the drill and of
+// the record that is written (K2) are crates of their own.
 
 ghost use mathlib.Core.List.{_++_};
 ghost use Rattle.model.specs.ApprovalCases.{askCases, commitCases, dropCases, pendingCases};

@@ -1,4 +1,5 @@
-// The tests behind question 7, each a function that a call or a crate above can ask: the state in order, and the length of every lent table.
+// The tests behind question 7, by call, each a function that a call or a crate above can ask: the length of every table that it is lent. `ranges` has the
+// test of the state, which these ask first.
 
 ghost use mathlib.Core.Path.{_≡_};
 ghost use mathlib.Core.List.{[], _∷_};

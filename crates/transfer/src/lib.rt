@@ -1,4 +1,5 @@
-// Document 01, "Calls and their two numbers": device write (K5). It goes down its questions in order, and answers where it lies where none refuses it.
+// Document 01, "Calls and their two numbers": device write (K5). It goes down its questions in order, and answers its first and last frame
+// where none refuses it.
 
 ghost use mathlib.Core.Path.{_≡_};
 ghost use mathlib.Core.List.{List};

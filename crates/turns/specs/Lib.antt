@@ -1,2 +1,2 @@
--- What the functions of the drill give, as the definitions of the model have it.
+-- What the functions of the drill give, as the definitions of `drill_model` have it.
 pub mod Turns

@@ -1,4 +1,4 @@
--- The drill made of a guard, the kernel table and the list of devices, and what the functions of the drill leave, as records of the model.
+-- The drill made of a guard, the kernel table and the list of devices, and what the functions of the drill leave, as records of the definitions.
 use Prim.Native.Nat.{ℕ, _-_}
 use mathlib.Core.Bool.{Bool, true, cond}
 use mathlib.Core.List.{List, _++_}
@@ -71,7 +71,7 @@ goesOn left = ltb 0 left
 unfoldable pub leftAfter : ℕ → Bool → ℕ
 leftAfter left goes = cond goes (left - 1) 0
 
--- A loop that asks these makes the lines of the model: while it goes on, the line of a turn and what the calls left after it make; then the
+-- A loop that asks these makes the lines of `callLines`: while it goes on, the line of a turn and what the calls left after it make; then the
 -- closing lines.
 unfoldable pub LoopsAsDefined : Type 0
 LoopsAsDefined =

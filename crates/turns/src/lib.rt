@@ -1,5 +1,5 @@
 // Document 01, "The drill program": the policy's extent, the start, a call's fields, and the turn that one call makes.
-// Each function promises a definition of the model's Drill on all inputs, a call of any length included.
+// Each function promises a definition of `drill_model` on all inputs, a call of any length included.
 
 ghost use mathlib.Core.Path.{_≡_};
 ghost use Prim.Native.Nat.{_+_, _*_, _^_, _≤_, _<_};

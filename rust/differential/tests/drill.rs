@@ -1,4 +1,5 @@
-//! The built drill prints what the reference's drill prints, byte by byte, for random policies and calls.
+//! The built drill prints what the reference's drill prints, byte by byte, for random policies and calls, a refused policy, an unknown kind and a
+//! last call that is cut short among them.
 //! Many policies have a share of an exact half, and the mistakes of the share are found.
 
 use std::collections::BTreeSet;
@@ -19,34 +20,60 @@ fn policy(random: &mut Random) -> Vec<u8> {
     random_record(random, v, f)
 }
 
-/// A policy and up to 20 calls, of which some name what does not exist.
+/// A policy and up to 20 calls, some with switches before them, of which some name what does not exist.
 fn input(seed: u64) -> Vec<u8> {
     let random = &mut Random::new(seed);
     let mut input = policy(random);
     let [v, f, ..] = Parts::of(&input).sizes;
     for _ in 0..random.below(21) {
+        if random.below(8) == 0 {
+            input.extend(switches(random, v, f));
+        }
         input.extend(call(random, v, f));
+    }
+    match random.below(16) {
+        // No page is listed, so that the start is refused.
+        0 => input[4..6].fill(0),
+        1 => input.truncate(input.len() - 1),
+        _ => (),
     }
     input
 }
 
-/// Kind, a byte that is ignored, index, length, value.
+/// A page that user mode may run is edited and synchronised, left to, and then the kernel is entered, twice.
+fn switches(random: &mut Random, v: u64, f: u64) -> Vec<u8> {
+    let (page, frame) = (random.below(v), random.below(f));
+    let edit = bytes(random, 0, page, 0, frame * 4096 + 5);
+    let rest = [(1, page), (6, page), (6, page), (5, 0), (5, 0)];
+    rest.into_iter()
+        .fold(edit, |calls, (kind, index)| [calls, bytes(random, kind, index, 0, 0)].concat())
+}
+
 fn call(random: &mut Random, v: u64, f: u64) -> Vec<u8> {
-    let kind = random.below(8) as u8;
+    let kind = if random.below(64) == 0 { 8 } else { random.below(8) as u8 };
     let index = match kind {
         5 => random.below(17),
         7 => random.below(65),
         _ => random.below(v + 1),
     };
-    let length = random.below(3 * 4096) as u32;
+    let length = match kind {
+        4 => random.below(18),
+        _ if random.below(16) == 0 => random.pick(&[0, 1 << 20, (1 << 20) + 1]),
+        _ => random.below(3 * 4096),
+    };
     let value = match kind {
         0 => KernelEntry::random(random, f).bits(),
         4 => random.below(4096 * (v + 1)),
         _ => random.below(4096 * (f + 1)),
     };
+    bytes(random, kind, index, length, value)
+}
+
+/// Kind, a byte that is ignored, index, length, value.
+fn bytes(random: &mut Random, kind: u8, index: u64, length: u64, value: u64) -> Vec<u8> {
     let mut bytes = vec![kind, random.word() as u8];
     bytes.extend((index as u16).to_le_bytes());
-    bytes.extend(length.to_le_bytes());
+    bytes.extend((length as u32).to_le_bytes());
     bytes.extend(value.to_le_bytes());
     bytes
 }
@@ -89,6 +116,24 @@ fn first_difference(fault: Fault) -> Option<String> {
 fn the_built_drill_agrees() {
     let difference = first_difference(Fault::None);
     assert!(difference.is_none(), "{difference:?}");
+}
+
+/// The lines of calls, by kind and number: each of these comes.
+#[test]
+fn the_calls_are_of_every_kind() {
+    let printed: Vec<String> =
+        (0..INPUTS).map(|seed| of_reference(Fault::None, &input(seed))).collect();
+    let starts =
+        |line: &str| printed.iter().flat_map(|text| text.lines()).any(|l| l.starts_with(line));
+    let missing: Vec<&str> = [
+        "S 0 ", "S 3 ", "0 0 ", "0 9 ", "1 0 ", "1 9 ", "2 0 ", "3 0 ", "3 9 ", "3 11 ", "3 12 ",
+        "4 0 ", "4 8 ", "4 9 ", "4 11 ", "4 12 ", "5 0 ", "5 9 ", "5 10 ", "6 0 ", "6 9 ", "6 10 ",
+        "7 0 ", "7 8 ", "7 9 ", "7 13 ", "7 18 ", "X 14 ", "X 15 ",
+    ]
+    .into_iter()
+    .filter(|line| !starts(line))
+    .collect();
+    assert!(missing.is_empty(), "no line begins with {missing:?}");
 }
 
 #[test]

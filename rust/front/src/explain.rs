@@ -254,8 +254,11 @@ pub(crate) fn explain_edited(entry: u64) -> &'static str {
     }
 }
 
-/// The excluded frames in percent of all, as the drill prints them: to the nearest percent, an exact half to the even number (K7). There
-/// is a frame at least.
+/// The excluded frames in percent of all, as the drill prints them: to the nearest percent, an exact half to the even number (K7).
+///
+/// # Panics
+///
+/// Where there is no frame. A guard has one at least.
 pub fn share(excluded: u64, frames: u64) -> u64 {
     let (whole, rest) = (100 * excluded / frames, 100 * excluded % frames);
     let is_up = match (2 * rest).cmp(&frames) {
@@ -266,7 +269,7 @@ pub fn share(excluded: u64, frames: u64) -> u64 {
     whole + u64::from(is_up)
 }
 
-/// A policy lists a page at least, and nothing opens its frame again, so that a share of 0 is not none.
+/// A policy lists a page at least, and no call clears the bit of its frame, so that a share of 0 is not none.
 pub(crate) fn explain_share(share: u64) -> String {
     let at_least = if share == 0 { " (at least one is)" } else { "" };
     format!("share: {share} percent of the frames are excluded, to the nearest percent{at_least}")

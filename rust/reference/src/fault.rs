@@ -298,6 +298,8 @@ pub enum Fault {
     ShareHalfUp = 138,
     /// K7: an exact half to the number below.
     ShareHalfDown = 139,
+    /// K7: an exact half to the odd number.
+    ShareHalfToOdd = 140,
 }
 
 pub(crate) const NONE: u8 = Fault::None as u8;
@@ -502,8 +504,13 @@ impl Fault {
     ];
 
     /// The mistakes of the share, which no call gives: the drill alone prints it.
-    pub const OF_SHARES: [Fault; 4] =
-        [Fault::ShareRoundedDown, Fault::ShareRoundedUp, Fault::ShareHalfUp, Fault::ShareHalfDown];
+    pub const OF_SHARES: [Fault; 5] = [
+        Fault::ShareRoundedDown,
+        Fault::ShareRoundedUp,
+        Fault::ShareHalfUp,
+        Fault::ShareHalfDown,
+        Fault::ShareHalfToOdd,
+    ];
 
     /// Whether it is one of K6's.
     fn is_of_pending(self) -> bool {
@@ -775,6 +782,7 @@ pub fn share(fault: Fault, excluded: u32, f: u32) -> u32 {
         Fault::ShareRoundedUp => hundredfold.div_ceil(f),
         Fault::ShareHalfUp => (2 * hundredfold + f) / (2 * f),
         Fault::ShareHalfDown => (2 * hundredfold + f - 1) / (2 * f),
+        Fault::ShareHalfToOdd if hundredfold % f * 2 == f => hundredfold / f | 1,
         _ => drill::share(excluded, f),
     }
 }

@@ -68,6 +68,7 @@ fn planted_mistakes() {
         (Fault::ShareRoundedUp, [13, 38, 34, 67, 100]),
         (Fault::ShareHalfUp, [13, 38, 33, 67, 100]),
         (Fault::ShareHalfDown, [12, 37, 33, 67, 100]),
+        (Fault::ShareHalfToOdd, [13, 37, 33, 67, 100]),
     ];
     for (fault, expected) in faults {
         let shares = rows.map(|(excluded, f)| fault::share(fault, excluded, f));
