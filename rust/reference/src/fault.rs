@@ -782,7 +782,7 @@ pub fn share(fault: Fault, excluded: u32, f: u32) -> u32 {
         Fault::ShareRoundedUp => hundredfold.div_ceil(f),
         Fault::ShareHalfUp => (2 * hundredfold + f) / (2 * f),
         Fault::ShareHalfDown => (2 * hundredfold + f - 1) / (2 * f),
-        Fault::ShareHalfToOdd if hundredfold % f * 2 == f => hundredfold / f | 1,
+        Fault::ShareHalfToOdd if 2 * (hundredfold % f) == f => (hundredfold / f) | 1,
         _ => drill::share(excluded, f),
     }
 }
