@@ -12,7 +12,7 @@ use Rattle.model.specs.declared.Mode.{Mode}
 use Rattle.model.specs.declared.Answer.the-variants.{Done, Refused}
 use Rattle.model.specs.declared.Called.{Called}
 use Rattle.model.specs.Basics.{both, either}
-use Rattle.model.specs.Keeps.{Tables, withShadow, guardOf, inUser, modeOf, inMode}
+use Rattle.model.specs.Guard.{Tables, withShadow, guardOf, inUser, modeOf, inMode}
 use Rattle.model.specs.Bits.{present, noExecute, userBit, frameOf}
 use Rattle.model.specs.Questions.{firstNo, seen, stateInOrder, inOrder, fetchPermitted, fetchQuestions}
 use Rattle.model.specs.Calls.{replyOf, outcomeBy, fetch, questionsOf, effectOf, answer}

@@ -14,8 +14,8 @@ use Rattle.model.specs.declared.State.{State}
 use Rattle.model.specs.declared.Answer.{Answer}
 use Rattle.model.specs.declared.Answer.the-variants.{Done, Refused}
 use Rattle.model.specs.Basics.{both, within}
-use Rattle.model.specs.Edges.{lastPage}
-use Rattle.model.specs.Keeps.{Tables, withShadow, withExclusion, guardOf, vectorBytes, excludedIn, inUser}
+use Rattle.model.specs.Sizes.{lastPage}
+use Rattle.model.specs.Guard.{Tables, withShadow, withExclusion, guardOf, vectorBytes, hasBit, inUser}
 use Rattle.model.specs.Bits.{present, frameOf}
 use Rattle.model.specs.Questions.{firstNo, seen, stateInOrder, inOrder, writePermitted, free, writeQuestions}
 use Rattle.model.specs.Calls.{replyOf, outcomeBy, keptBy, write, questionsOf, effectOf, answer}
@@ -33,7 +33,7 @@ module _ (frames frame : ℕ) (exclusion : List ℕ) where
   unfolding freeIn both
   frame-above l = rw (le-ltb frame frames l)
 
-  pub frame-below : frame < frames → (r : Bool) → r ≡ excludedIn exclusion frame → not r ≡ freeIn frames exclusion frame
+  pub frame-below : frame < frames → (r : Bool) → r ≡ hasBit exclusion frame → not r ≡ freeIn frames exclusion frame
   unfolding freeIn both
   frame-below l r e = rw (lt-ltb frame frames l, e)
 

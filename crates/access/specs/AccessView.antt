@@ -7,7 +7,7 @@ use lib.ListN.{getD}
 use lib.Dec.{ltb}
 use Rattle.model.specs.declared.Pending.the-variants.{Nothing}
 use Rattle.model.specs.Basics.{both}
-use Rattle.model.specs.Keeps.{none, excludedIn}
+use Rattle.model.specs.Guard.{none, hasBit}
 use Rattle.model.specs.Bits.{present, frameOf}
 use Rattle.model.specs.Questions.{Question, question, View, writePermitted}
 
@@ -24,7 +24,7 @@ lentView devices user pages frames shadow exclusion =
       user = user;
       shadow = λ p. getD shadow p 0;
       approval = λ p. none;
-      excluded = excludedIn exclusion;
+      excluded = hasBit exclusion;
       stateFits = true;
       shadowFits = true;
       mapFits = true;
@@ -36,7 +36,7 @@ accessView user pages frames shadow exclusion = lentView 0 user pages frames sha
 
 -- Question 13 of one frame.
 unfoldable pub freeIn : ℕ → List ℕ → ℕ → Bool
-freeIn frames exclusion f = both (ltb f frames) (not (excludedIn exclusion f))
+freeIn frames exclusion f = both (ltb f frames) (not (hasBit exclusion f))
 
 -- Questions 11 to 13 of a write, of the entries of its first and its last page.
 unfoldable pub entryQuestions : Bool → ℕ → List ℕ → ℕ → ℕ → List Question

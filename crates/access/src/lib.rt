@@ -6,7 +6,7 @@ ghost use mathlib.Core.Bool.{true, not};
 ghost use mathlib.Core.List.{[]};
 ghost use lib.ListN.{length};
 ghost use Rattle.model.specs.Basics.{either};
-ghost use Rattle.model.specs.Keeps.{Tables, withShadow, withExclusion, guardOf, vectorBytes};
+ghost use Rattle.model.specs.Guard.{Tables, withShadow, withExclusion, guardOf, vectorBytes};
 ghost use Rattle.model.specs.Bits.{userBit};
 ghost use Rattle.model.specs.Questions.{firstNo, fetchPermitted, writePermitted, fetchQuestions, writeQuestions};
 ghost use Rattle.model.specs.Calls;
@@ -40,7 +40,7 @@ fn fetch_refusal(user: bool, pages: u16, shadow: &[u64], page: u64) -> u64
     requires { ⌜ length (now shadow) ≡ pages ⌝ }
     ensures { λ r. ⌜ r ≡ firstNo (fetchQuestions (accessView user pages 0 (now (shadow .entry)) []) page) ⌝ }
 {
-    if !edges::page_exists(page, pages) {
+    if !limits::page_exists(page, pages) {
         return 9;
     }
     let entry = shadow[page as usize];
@@ -57,7 +57,7 @@ pub fn fetch(s: State, shadow: &[u64], page: u64) -> Called
     ensures { λ r. ⌜ ((t : Tables) → outcomeBy r (withShadow (now (shadow .entry)) t)
         ≡ answer (guardOf s (withShadow (now (shadow .entry)) t)) (Calls.fetch page)) ⌝ }
 {
-    if !questions::shadow_in_order(s, shadow.len()) {
+    if !lengths::shadow_in_order(s, shadow.len()) {
         return state::refused_call(s, 7);
     }
     let mode = s.mode;
@@ -89,7 +89,7 @@ fn frame_free(frames: u16, exclusion: &[u8], frame: u64) -> bool
     if frames as u64 <= frame {
         return false;
     }
-    !bitmap::excluded_within(exclusion, frame)
+    !bitmap::test_bit_within(exclusion, frame)
 }
 
 // The number of the question that refuses a write by the entries of its first and its last page, or 0.
@@ -133,14 +133,14 @@ fn write_refusal(
     requires { ⌜ (lib.ListN.length (now shadow) ≡ pages) × (lib.ListN.length (now exclusion) ≡ vectorBytes frames) ⌝ }
     ensures { λ r. ⌜ r ≡ firstNo (writeQuestions (accessView user pages frames (now (shadow .entry)) (now (exclusion .entry))) address length) ⌝ }
 {
-    if !edges::write_length(length) {
+    if !limits::write_length(length) {
         return 8;
     }
-    if !edges::write_exists(address, length, pages) {
+    if !limits::write_exists(address, length, pages) {
         return 9;
     }
     let first = shadow[(address / PAGE_BYTES) as usize];
-    let page = edges::last_page(address, length);
+    let page = limits::last_page(address, length);
     let last = shadow[page as usize];
     entries_refusal(user, frames, exclusion, first, last)
 }
@@ -149,7 +149,7 @@ pub fn write(s: State, shadow: &[u64], exclusion: &[u8], address: u64, length: u
     ensures { λ r. ⌜ ((t : Tables) → keptBy r s (withShadow (now (shadow .entry)) (withExclusion (now (exclusion .entry)) t))
         ≡ answer (guardOf s (withShadow (now (shadow .entry)) (withExclusion (now (exclusion .entry)) t))) (Calls.write address length)) ⌝ }
 {
-    if !questions::write_in_order(s, shadow.len(), exclusion.len()) {
+    if !lengths::write_in_order(s, shadow.len(), exclusion.len()) {
         return Answer::Refused(7);
     }
     let mode = s.mode;
@@ -159,7 +159,7 @@ pub fn write(s: State, shadow: &[u64], exclusion: &[u8], address: u64, length: u
         return Answer::Refused(number);
     }
     let first = shadow[(address / PAGE_BYTES) as usize];
-    let page = edges::last_page(address, length);
+    let page = limits::last_page(address, length);
     let last = shadow[page as usize];
     Answer::Done(entry::frame_of(first), entry::frame_of(last))
 }

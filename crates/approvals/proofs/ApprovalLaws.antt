@@ -13,7 +13,7 @@ use Rattle.model.specs.declared.State.{State}
 use Rattle.model.specs.declared.Answer.the-variants.{Done, Refused}
 use Rattle.model.specs.declared.Called.{Called}
 use Rattle.model.specs.Basics.{both, everyFrom}
-use Rattle.model.specs.Keeps.{none, Tables, withShadow, withMap, withExclusion, withThree, Guard, guardOf, vectorBytes, excludedIn, withBit, inUser, isPending, pendingFrame, isAsked, withPending}
+use Rattle.model.specs.Guard.{none, Tables, withShadow, withMap, withExclusion, withThree, Guard, guardOf, vectorBytes, hasBit, withBit, inUser, isPending, pendingFrame, isAsked, withPending}
 use Rattle.model.specs.Approvals.{mapsWritable, committedSlot}
 use Rattle.model.specs.Sync.{Sweep, sweep, sweepFrom}
 use Rattle.model.specs.Questions.{Question, pendingInRange, stateInOrder, inOrder, askQuestions, pageUnapproved, commitQuestions, dropQuestions}
@@ -80,9 +80,9 @@ module _ (s : State) (shadow map exclusion : List ℕ) (page frame : ℕ) (r7 : 
     ask-9 r n a i t =
         refused-by (before t) (ask page frame) r 9 (sym (passed 7 9 r7 _ _ e7 y7 (stopped 9 r9 _ _ e9 n))) (λ z. omega arith) a i
 
-    module _ (y9 : not r9 ≡ false) (r20 : Bool) (approval : ℕ) (excluded : Bool) (is : approval ≡ getD map page none) (has : excluded ≡ excludedIn exclusion frame)
+    module _ (y9 : not r9 ≡ false) (r20 : Bool) (approval : ℕ) (excluded : Bool) (is : approval ≡ getD map page none) (has : excluded ≡ hasBit exclusion frame)
         (e20 : r20 ≡ both (not (isPending (s .pending))) (both (eqb approval none) (not excluded))) where
-      e20-is : r20 ≡ both (not (isPending (s .pending))) (both (eqb (getD map page none) none) (not (excludedIn exclusion frame)))
+      e20-is : r20 ≡ both (not (isPending (s .pending))) (both (eqb (getD map page none) none) (not (hasBit exclusion frame)))
       e20-is = rw (is, has) at e20
 
       pub ask-20 : (r : Called) → not r20 ≡ true → r .answer ≡ Refused 20 → r .state ≡ s → Refuses r

@@ -9,7 +9,7 @@ use lib.ListN.{length, getD, set}
 use lib.Dec.{eqb}
 use borrow.Author.Tests.{eq-eqb, ne-eqb}
 use Rattle.model.specs.Basics.{both, either, differs}
-use Rattle.model.specs.Keeps.{none}
+use Rattle.model.specs.Guard.{none}
 use Rattle.model.specs.Bits.{approved}
 use Rattle.model.specs.Approvals.{committedSlot}
 use Rattle.model.specs.Sync.{Slot, slot, Sweep, sweep, before, sweepFrom}

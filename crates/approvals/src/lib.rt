@@ -12,7 +12,7 @@ ghost use Prim.Native.Nat.{_≤_, _<_};
 ghost use lib.Dec.{eqb};
 ghost use lib.ListN.{length, getD};
 ghost use Rattle.model.specs.Basics.{both, everyFrom};
-ghost use Rattle.model.specs.Keeps.{none, Tables, withShadow, withMap, withExclusion, withThree, guardOf, isPending};
+ghost use Rattle.model.specs.Guard.{none, Tables, withShadow, withMap, withExclusion, withThree, guardOf, isPending};
 ghost use Rattle.model.specs.Approvals.{mapsWritable, committedSlot};
 ghost use Rattle.model.specs.Sync.{sweep, sweepFrom};
 ghost use Rattle.model.specs.Calls;
@@ -66,17 +66,17 @@ pub fn ask(
     ensures { λ r. ⌜ ((t : Tables) → outcomeBy r (withThree (now (shadow .entry)) (now (map .entry)) (now (exclusion .exit)) t)
         ≡ answer (guardOf s (withThree (now (shadow .entry)) (now (map .entry)) (now (exclusion .entry)) t)) (Calls.ask page frame)) ⌝ }
 {
-    if !questions::tree_sync_in_order(s, shadow.len(), map.len(), exclusion.len()) {
+    if !lengths::three_tables_in_order(s, shadow.len(), map.len(), exclusion.len()) {
         return state::refused_call(s, 7);
     }
-    if !edges::pair_exists(page, frame, s.pages, s.frames) {
+    if !limits::pair_exists(page, frame, s.pages, s.frames) {
         return state::refused_call(s, 9);
     }
     let pending = s.pending;
     if !may_ask(
         pending,
         approval_of(map, page),
-        bitmap::excluded(exclusion, frame),
+        bitmap::test_bit(exclusion, frame),
     ) {
         return state::refused_call(s, 20);
     }
@@ -84,7 +84,7 @@ pub fn ask(
     if !none_writable(shadow, asked) {
         return state::refused_call(s, 21);
     }
-    bitmap::exclude(exclusion, frame);
+    bitmap::set_bit(exclusion, frame);
     Called {
         answer: Answer::Done(0, 0),
         state: state::with_pending(s, Pending::Pair((page % 65536) as u16, asked)),
@@ -135,7 +135,7 @@ pub fn commit(s: State, shadow: &mut [u64], map: &mut [u16]) -> Called
     ensures { λ r. ⌜ ((t : Tables) → outcomeBy r (withShadow (now (shadow .exit)) (withMap (now (map .exit)) t))
         ≡ answer (guardOf s (withShadow (now (shadow .entry)) (withMap (now (map .entry)) t))) Calls.commit) ⌝ }
 {
-    if !questions::commit_in_order(s, shadow.len(), map.len()) {
+    if !lengths::commit_in_order(s, shadow.len(), map.len()) {
         return state::refused_call(s, 7);
     }
     let pending = s.pending;
@@ -158,14 +158,14 @@ pub fn drop_pending(s: State, exclusion: &mut [u8]) -> Called
     ensures { λ r. ⌜ ((t : Tables) → outcomeBy r (withExclusion (now (exclusion .exit)) t)
         ≡ answer (guardOf s (withExclusion (now (exclusion .entry)) t)) Calls.drop) ⌝ }
 {
-    if !questions::drop_in_order(s, exclusion.len()) {
+    if !lengths::drop_in_order(s, exclusion.len()) {
         return state::refused_call(s, 7);
     }
     let pending = s.pending;
     let Pending::Pair(_, frame) = pending else {
         return state::refused_call(s, 22);
     };
-    bitmap::release(exclusion, frame as u64);
+    bitmap::clear_bit(exclusion, frame as u64);
     Called {
         answer: Answer::Done(0, 0),
         state: state::with_pending(s, Pending::Nothing),

@@ -10,7 +10,7 @@ use lib.Dec.{eqb}
 use lib.ListN.{length, getD, set, List·getD-eq-default}
 use lib.Seq.{set-out}
 use Rattle.model.specs.Basics.{bit, flag}
-use Rattle.model.specs.Keeps.{excludedIn, byteOf, withBit}
+use Rattle.model.specs.Guard.{hasBit, byteOf, withBit}
 use Rattle.model.proofs.VectorLaws.{below8, flag-bit, byteOf-sum, byteOf-bits}
 
 -- The or of a byte with the weight of bit k sets bit k and keeps the others.
@@ -48,21 +48,21 @@ module _ (b : ℕ) (small : b < 256) where
       (omega (arith, old, or-sum 6), omega (arith, old, or-sum 6, byteOf-sum (clearBit 6) .0)) (omega (arith, old, or-sum 7), omega (arith, old, or-sum 7, byteOf-sum (clearBit 7) .0))
 
 -- A frame's bit, in a byte of the vector and past its end.
-pub excluded-in : (x : List ℕ) (f : ℕ) → eqb (getD x (f / 8) 0 / 2 ^ (f % 8) % 2) 1 ≡ excludedIn x f
-unfolding excludedIn bit
-excluded-in x f = refl
+pub test-bit-in : (x : List ℕ) (f : ℕ) → eqb (getD x (f / 8) 0 / 2 ^ (f % 8) % 2) 1 ≡ hasBit x f
+unfolding hasBit bit
+test-bit-in x f = refl
 
-pub excluded-past : (x : List ℕ) (f : ℕ) → length x ≤ f / 8 → false ≡ excludedIn x f
-unfolding excludedIn bit
-excluded-past x f past = rw (List·getD-eq-default x 0 past, zero-div)
+pub test-bit-past : (x : List ℕ) (f : ℕ) → length x ≤ f / 8 → false ≡ hasBit x f
+unfolding hasBit bit
+test-bit-past x f past = rw (List·getD-eq-default x 0 past, zero-div)
 
-pub exclude-in : (x : List ℕ) (f : ℕ) → getD x (f / 8) 0 < 256 → set x (f / 8) (bitOr (getD x (f / 8) 0) (1 * 2 ^ (f % 8) % 256)) ≡ withBit true x f
+pub set-bit-in : (x : List ℕ) (f : ℕ) → getD x (f / 8) 0 < 256 → set x (f / 8) (bitOr (getD x (f / 8) 0) (1 * 2 ^ (f % 8) % 256)) ≡ withBit true x f
 unfolding withBit
-exclude-in x f small = ap (set x (f / 8)) (or-bit (getD x (f / 8) 0) small (f % 8) (omega arith))
+set-bit-in x f small = ap (set x (f / 8)) (or-bit (getD x (f / 8) 0) small (f % 8) (omega arith))
 
-pub exclude-past : (x : List ℕ) (f : ℕ) → length x ≤ f / 8 → x ≡ withBit true x f
+pub set-bit-past : (x : List ℕ) (f : ℕ) → length x ≤ f / 8 → x ≡ withBit true x f
 unfolding withBit
-exclude-past x f past = sym (set-out x (f / 8) _ past)
+set-bit-past x f past = sym (set-out x (f / 8) _ past)
 
 pub without-fits : (b k : ℕ) → b < 256 → k < 8 → 1 * 2 ^ k % 256 ≤ bitOr b (1 * 2 ^ k % 256)
 without-fits b k small h = less-bit b small k h .0
@@ -70,10 +70,10 @@ without-fits b k small h = less-bit b small k h .0
 pub without-is : (b k : ℕ) → b < 256 → k < 8 → bitOr b (1 * 2 ^ k % 256) - 1 * 2 ^ k % 256 ≡ byteOf (λ j. cond (eqb j k) false (bit j b))
 without-is b k small h = less-bit b small k h .1
 
-pub release-in : (x : List ℕ) (f r : ℕ) → r ≡ byteOf (λ j. cond (eqb j (f % 8)) false (bit j (getD x (f / 8) 0))) → set x (f / 8) r ≡ withBit false x f
+pub clear-bit-in : (x : List ℕ) (f r : ℕ) → r ≡ byteOf (λ j. cond (eqb j (f % 8)) false (bit j (getD x (f / 8) 0))) → set x (f / 8) r ≡ withBit false x f
 unfolding withBit
-release-in x f r e = ap (set x (f / 8)) e
+clear-bit-in x f r e = ap (set x (f / 8)) e
 
-pub release-past : (x : List ℕ) (f : ℕ) → length x ≤ f / 8 → x ≡ withBit false x f
+pub clear-bit-past : (x : List ℕ) (f : ℕ) → length x ≤ f / 8 → x ≡ withBit false x f
 unfolding withBit
-release-past x f past = sym (set-out x (f / 8) _ past)
+clear-bit-past x f past = sym (set-out x (f / 8) _ past)

@@ -12,7 +12,7 @@ use lib.ListN.{getD}
 use lib.Pow.{mod-pow-add, shr-shr, shr-mod}
 use borrow.Author.Tests.{eq-eqb, ne-eqb, eqb-true, eqb-false, not-true, not-false}
 use Rattle.model.specs.Basics.{both, bit, everyFrom}
-use Rattle.model.specs.Keeps.{excludedIn}
+use Rattle.model.specs.Guard.{hasBit}
 use Rattle.model.proofs.QuestionLaws.{both-true}
 use Rattle.model.proofs.VectorLaws.{below8}
 
@@ -109,11 +109,11 @@ clear-part n first last r p =
 
 -- Frames of the vector.
 abbrev pub freeFrom : List ℕ → ℕ → ℕ → Bool
-freeFrom exclusion first count = everyFrom (λ f. not (excludedIn exclusion f)) first count
+freeFrom exclusion first count = everyFrom (λ f. not (hasBit exclusion f)) first count
 
 -- Those of one byte are its bits.
-frame-of-byte : (x : List ℕ) (q j f : ℕ) → f / 8 ≡ q → f % 8 ≡ j → excludedIn x f ≡ bit j (getD x q 0)
-unfolding excludedIn
+frame-of-byte : (x : List ℕ) (q j f : ℕ) → f / 8 ≡ q → f % 8 ≡ j → hasBit x f ≡ bit j (getD x q 0)
+unfolding hasBit
 frame-of-byte x q j f p r = rw (p, r) refl
 
 frames-of-byte : (x : List ℕ) (q first count : ℕ) → first + count ≤ 8 → freeFrom x (q * 8 + first) count ≡ clearBits (getD x q 0) first count
@@ -122,7 +122,7 @@ frames-of-byte x q first zero h = refl
 frames-of-byte x q first (suc count) h =
     let at : (q * 8 + first) / 8 ≡ q = omega arith in
     let bits : (q * 8 + first) % 8 ≡ first = omega arith in
-    let here : excludedIn x (q * 8 + first) ≡ bit first (getD x q 0) = frame-of-byte x q first (q * 8 + first) at bits in
+    let here : hasBit x (q * 8 + first) ≡ bit first (getD x q 0) = frame-of-byte x q first (q * 8 + first) at bits in
     let next : suc (q * 8 + first) ≡ q * 8 + suc first = omega arith in
     let rest : freeFrom x (q * 8 + suc first) count ≡ clearBits (getD x q 0) (suc first) count = frames-of-byte x q (suc first) count (omega arith) in
     rw (here, next, rest) refl

@@ -1,5 +1,5 @@
 // Document 01, "What the guard keeps": the exclusion vector, a bit for each frame, read, set and cleared.
-// `excluded`, `exclude` and `release` are total: a byte past the vector's end counts as 0 and is not written.
+// `test_bit`, `set_bit` and `clear_bit` are total: a byte past the vector's end counts as 0 and is not written.
 
 ghost use mathlib.Core.Path.{_≡_};
 ghost use mathlib.Core.Bool.{true, false, not, cond};
@@ -7,28 +7,28 @@ ghost use Prim.Native.Nat.{suc, _-_, _*_, _/_, _≤_, _<_};
 ghost use lib.Dec.{eqb};
 ghost use lib.ListN.{length};
 ghost use Rattle.model.specs.Basics.{bit, everyFrom};
-ghost use Rattle.model.specs.Keeps.{excludedIn, byteOf, withBit};
+ghost use Rattle.model.specs.Guard.{hasBit, byteOf, withBit};
 
 // The bit of a frame that has a byte in the vector, so that no length is tested: question 7 and the limit at F have settled that.
-pub fn excluded_within(exclusion: &[u8], frame: u64) -> bool
+pub fn test_bit_within(exclusion: &[u8], frame: u64) -> bool
     requires { ⌜ frame / 8 < length (now exclusion) ⌝ }
-    ensures { λ r. ⌜ r ≡ excludedIn (now (exclusion .entry)) frame ⌝ }
+    ensures { λ r. ⌜ r ≡ hasBit (now (exclusion .entry)) frame ⌝ }
 {
     (exclusion[(frame / 8) as usize] >> (frame % 8)) % 2 == 1
 }
 
-pub fn excluded(exclusion: &[u8], frame: u64) -> bool
-    ensures { λ r. ⌜ r ≡ excludedIn (now (exclusion .entry)) frame ⌝ }
+pub fn test_bit(exclusion: &[u8], frame: u64) -> bool
+    ensures { λ r. ⌜ r ≡ hasBit (now (exclusion .entry)) frame ⌝ }
 {
     let at = (frame / 8) as usize;
     if at < exclusion.len() {
-        excluded_within(exclusion, frame)
+        test_bit_within(exclusion, frame)
     } else {
         false
     }
 }
 
-pub fn exclude(exclusion: &mut [u8], frame: u64)
+pub fn set_bit(exclusion: &mut [u8], frame: u64)
     ensures { λ _. ⌜ now (exclusion .exit) ≡ withBit true (now (exclusion .entry)) frame ⌝ }
 {
     let at = (frame / 8) as usize;
@@ -45,8 +45,8 @@ fn without(byte: u8, k: u64) -> u8
     (byte | 1 << k) - (1 << k)
 }
 
-// The opposite of `exclude`.
-pub fn release(exclusion: &mut [u8], frame: u64)
+// The opposite of `set_bit`.
+pub fn clear_bit(exclusion: &mut [u8], frame: u64)
     ensures { λ _. ⌜ now (exclusion .exit) ≡ withBit false (now (exclusion .entry)) frame ⌝ }
 {
     let at = (frame / 8) as usize;
@@ -84,7 +84,7 @@ fn clear_between(byte: u8, first: u64, last: u64) -> bool
 // No frame of the bytes from one up to another, without it, is excluded. The bytes are joined and tested once.
 fn clear_bytes(exclusion: &[u8], from: usize, to: usize) -> bool
     requires { ⌜ (from ≤ to) × (to ≤ length (now exclusion)) ⌝ }
-    ensures { λ r. ⌜ r ≡ everyFrom (λ f. not (excludedIn (now (exclusion .entry)) f)) (from * 8) ((to - from) * 8) ⌝ }
+    ensures { λ r. ⌜ r ≡ everyFrom (λ f. not (hasBit (now (exclusion .entry)) f)) (from * 8) ((to - from) * 8) ⌝ }
 {
     let mut all: u8 = 0;
     let mut i = from;
@@ -96,9 +96,9 @@ fn clear_bytes(exclusion: &[u8], from: usize, to: usize) -> bool
 }
 
 // No frame from first to last is excluded. The vector has a byte for the last: questions 7 and 9 have settled that.
-pub fn none_excluded(exclusion: &[u8], first: u64, last: u64) -> bool
+pub fn none_set(exclusion: &[u8], first: u64, last: u64) -> bool
     requires { ⌜ (first ≤ last) × (last / 8 < length (now exclusion)) ⌝ }
-    ensures { λ r. ⌜ r ≡ everyFrom (λ f. not (excludedIn (now (exclusion .entry)) f)) first (suc (last - first)) ⌝ }
+    ensures { λ r. ⌜ r ≡ everyFrom (λ f. not (hasBit (now (exclusion .entry)) f)) first (suc (last - first)) ⌝ }
 {
     let head = (first / 8) as usize;
     let tail = (last / 8) as usize;

@@ -11,14 +11,14 @@ use Rattle.model.specs.declared.Called.{Called}
 use Rattle.model.specs.declared.State.{State}
 use Rattle.model.specs.declared.Device.{Device}
 use Rattle.model.specs.Basics.{both}
-use Rattle.model.specs.Keeps.{Tables, withShadow, withExclusion, guardOf}
+use Rattle.model.specs.Guard.{Tables, withShadow, withExclusion, guardOf}
 use Rattle.model.specs.Devices.{deviceAt}
 use Rattle.model.specs.Questions.{stateInOrder}
 use Rattle.model.specs.Calls.{replyOf, settle, outcomeBy, keptBy, Call, deviceWrite, answer}
 use Rattle.model.proofs.QuestionLaws.{both-first}
 use Rattle.model.proofs.CallLaws.{answer-unfit}
-use Rattle.words.specs.Words.{stateWords, stateIn, answerNumbers, numbersBy, changedBy, withWords, withNumbers, lendable, runAfter}
-use Rattle.words.proofs.WordLaws.{run-lent}
+use Rattle.decode.specs.Words.{stateWords, stateIn, answerNumbers, numbersBy, changedBy, withWords, withNumbers, lendable, runAfter}
+use Rattle.decode.proofs.WordLaws.{run-lent}
 use Rattle.boundary.specs.Boundary.{returned, replied, callAt}
 
 -- What an answer returns and says to the numbers run of a call that gives count numbers.

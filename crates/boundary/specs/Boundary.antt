@@ -6,13 +6,13 @@ use mathlib.Core.List.{List}
 use mathlib.Core.Path.{_≡_}
 use lib.ListN.{length}
 use lib.Dec.{eqb}
-use Rattle.model.specs.Keeps.{Tables, guardOf}
+use Rattle.model.specs.Guard.{Tables, guardOf}
 use Rattle.model.specs.Policy.{Givens, Policy}
 use Rattle.model.specs.Calls.{Reply, refused, settle, Outcome, startOf, Call, answer}
 use Rattle.record_model.specs.Record.{Written, writeRecordOf}
 use Rattle.model.specs.Tree.{Tree}
 use Rattle.model.specs.Walks.{walkReply}
-use Rattle.words.specs.Words.{stateIn, answerNumbers, numbersBy, changedBy, withNumbers, runsFit, lendable, runAfter, runStarted}
+use Rattle.decode.specs.Words.{stateIn, answerNumbers, numbersBy, changedBy, withNumbers, runsFit, lendable, runAfter, runStarted}
 
 -- What a call returns, both runs at its exit, and the guard's tables then.
 pub record Returned : Type 0 where

@@ -3,7 +3,7 @@
 use Prim.Native.Nat.{ℕ}
 use mathlib.Core.List.{List, [], _∷_, _++_}
 use lib.ListN.{replicate, set, take}
-use Rattle.model.specs.Keeps.{tables, withShadow, withMap, withExclusion}
+use Rattle.model.specs.Guard.{tables, withShadow, withMap, withExclusion}
 use Rattle.model.specs.Policy.{Policy, givenOf}
 use Rattle.model.specs.Calls.{fetch, deviceWrite, ask, commit, drop}
 use Rattle.record_model.specs.Record.{policyBy}

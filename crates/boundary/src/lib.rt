@@ -6,7 +6,7 @@ ghost use mathlib.Core.List.{List};
 ghost use Prim.Native.Nat.{_<_};
 ghost use mathlib.Core.Path.{_≡_};
 ghost use lib.ListN;
-ghost use Rattle.model.specs.Keeps.{Tables, withShadow, withExclusion};
+ghost use Rattle.model.specs.Guard.{Tables, withShadow, withExclusion};
 ghost use Rattle.model.specs.Calls;
 ghost use Rattle.model.specs.declared.Device.{Device};
 ghost use Rattle.model.specs.Devices.{deviceAt};
@@ -21,10 +21,10 @@ pub fn fetch(state: &mut [u64], shadow: &[u64], page: u64, numbers: &mut [u64]) 
     ensures { λ r. ⌜ ((t : Tables) → returned r (now (state .exit)) (now (numbers .exit)) (withShadow (now (shadow .entry)) t)
         ≡ callAt (now (state .entry)) (now (numbers .entry)) (withShadow (now (shadow .entry)) t) (Calls.fetch page)) ⌝ }
 {
-    if !words::usable(state, numbers, words::NUMBERS) {
+    if !decode::usable(state, numbers, decode::NUMBERS) {
         return encode::reply(numbers, Answer::Refused(7));
     }
-    let called = access::fetch(words::state_in(state), shadow, page);
+    let called = access::fetch(decode::state_in(state), shadow, page);
     encode::put_fetched(state, numbers, called)
 }
 
@@ -39,10 +39,10 @@ pub fn write(
     ensures { λ r. ⌜ ((t : Tables) → returned r (now (state .entry)) (now (numbers .exit)) (withShadow (now (shadow .entry)) (withExclusion (now (exclusion .entry)) t))
         ≡ callAt (now (state .entry)) (now (numbers .entry)) (withShadow (now (shadow .entry)) (withExclusion (now (exclusion .entry)) t)) (Calls.write address length)) ⌝ }
 {
-    if !words::usable(state, numbers, words::NUMBERS) {
+    if !decode::usable(state, numbers, decode::NUMBERS) {
         return encode::reply(numbers, Answer::Refused(7));
     }
-    let answer = access::write(words::state_in(state), shadow, exclusion, address, length);
+    let answer = access::write(decode::state_in(state), shadow, exclusion, address, length);
     encode::reply(numbers, answer)
 }
 
@@ -50,10 +50,10 @@ pub fn enter(state: &mut [u64], shadow: &mut [u64], index: u64, numbers: &mut [u
     ensures { λ r. ⌜ ((t : Tables) → returned r (now (state .exit)) (now (numbers .exit)) (withShadow (now (shadow .exit)) t)
         ≡ callAt (now (state .entry)) (now (numbers .entry)) (withShadow (now (shadow .entry)) t) (Calls.enter index)) ⌝ }
 {
-    if !words::usable(state, numbers, words::NUMBERS) {
+    if !decode::usable(state, numbers, decode::NUMBERS) {
         return encode::reply(numbers, Answer::Refused(7));
     }
-    let called = modes::enter(words::state_in(state), shadow, index);
+    let called = modes::enter(decode::state_in(state), shadow, index);
     encode::put_switched(state, numbers, called)
 }
 
@@ -61,10 +61,10 @@ pub fn leave(state: &mut [u64], shadow: &mut [u64], page: u64, numbers: &mut [u6
     ensures { λ r. ⌜ ((t : Tables) → returned r (now (state .exit)) (now (numbers .exit)) (withShadow (now (shadow .exit)) t)
         ≡ callAt (now (state .entry)) (now (numbers .entry)) (withShadow (now (shadow .entry)) t) (Calls.leave page)) ⌝ }
 {
-    if !words::usable(state, numbers, words::NUMBERS) {
+    if !decode::usable(state, numbers, decode::NUMBERS) {
         return encode::reply(numbers, Answer::Refused(7));
     }
-    let called = modes::leave(words::state_in(state), shadow, page);
+    let called = modes::leave(decode::state_in(state), shadow, page);
     encode::put_switched(state, numbers, called)
 }
 
@@ -83,11 +83,11 @@ pub fn device_write(
         → returned r (now (state .entry)) (now (numbers .exit)) (withExclusion (now (exclusion .entry)) t)
         ≡ callAt (now (state .entry)) (now (numbers .entry)) (withExclusion (now (exclusion .entry)) t) (deviceWrite devices device address length)) ⌝ }
 {
-    if !words::usable(state, numbers, words::NUMBERS) {
+    if !decode::usable(state, numbers, decode::NUMBERS) {
         return encode::reply(numbers, Answer::Refused(7));
     }
     let answer = transfer::device_write(
-        words::state_in(state),
+        decode::state_in(state),
         exclusion,
         listed,
         window,

@@ -6,9 +6,9 @@ use mathlib.Core.Path.{_≡_}
 use Rattle.model.specs.declared.Answer.{Answer}
 use Rattle.model.specs.declared.Called.{Called}
 use Rattle.model.specs.declared.State.{State}
-use Rattle.model.specs.Keeps.{Tables, withShadow, withMap, withExclusion, withThree, guardOf}
+use Rattle.model.specs.Guard.{Tables, withShadow, withMap, withExclusion, withThree, guardOf}
 use Rattle.model.specs.Calls.{replyOf, outcomeBy, keptBy, Call, answer}
-use Rattle.words.specs.Words.{stateIn, numbersBy, changedBy, withNumbers, runAfter}
+use Rattle.decode.specs.Words.{stateIn, numbersBy, changedBy, withNumbers, runAfter}
 use Rattle.boundary.specs.Boundary.{returned, callAt}
 use Rattle.boundary.proofs.BoundaryLaws.{Says, usable, called, kept}
 

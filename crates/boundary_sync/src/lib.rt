@@ -2,7 +2,7 @@
 // whose definitions and laws they cite.
 
 ghost use mathlib.Core.Path.{_≡_};
-ghost use Rattle.model.specs.Keeps.{Tables, withShadow, withMap, withExclusion, withThree};
+ghost use Rattle.model.specs.Guard.{Tables, withShadow, withMap, withExclusion, withThree};
 ghost use Rattle.model.specs.Calls;
 ghost use Rattle.model.specs.Tree.{treeOf};
 ghost use Rattle.model.specs.Calls.{syncPage, syncAll, syncPageTree, syncAllTree};
@@ -22,10 +22,17 @@ pub fn sync_page(
     ensures { λ r. ⌜ ((t : Tables) → returned r (now (state .entry)) (now (numbers .exit)) (withThree (now (shadow .exit)) (now (map .exit)) (now (exclusion .entry)) t)
         ≡ callAt (now (state .entry)) (now (numbers .entry)) (withThree (now (shadow .entry)) (now (map .entry)) (now (exclusion .entry)) t) (syncPage (now (kernel .entry)) page)) ⌝ }
 {
-    if !words::usable(state, numbers, words::NUMBERS) {
+    if !decode::usable(state, numbers, decode::NUMBERS) {
         return encode::reply(numbers, Answer::Refused(7));
     }
-    let answer = sync::sync_page(words::state_in(state), kernel, shadow, map, exclusion, page);
+    let answer = sync::sync_page(
+        decode::state_in(state),
+        kernel,
+        shadow,
+        map,
+        exclusion,
+        page,
+    );
     encode::reply(numbers, answer)
 }
 
@@ -41,10 +48,10 @@ pub fn sync_all(
     ensures { λ r. ⌜ ((t : Tables) → returned r (now (state .entry)) (now (numbers .exit)) (withThree (now (shadow .exit)) (now (map .exit)) (now (exclusion .entry)) t)
         ≡ callAt (now (state .entry)) (now (numbers .entry)) (withThree (now (shadow .entry)) (now (map .entry)) (now (exclusion .entry)) t) (syncAll (now (kernel .entry)))) ⌝ }
 {
-    if !words::usable(state, numbers, words::NUMBERS) {
+    if !decode::usable(state, numbers, decode::NUMBERS) {
         return encode::reply(numbers, Answer::Refused(7));
     }
-    let answer = sync::sync_all(words::state_in(state), kernel, shadow, map, exclusion);
+    let answer = sync::sync_all(decode::state_in(state), kernel, shadow, map, exclusion);
     encode::reply(numbers, answer)
 }
 
@@ -64,11 +71,11 @@ pub fn sync_page_tree(
         ≡ callAt (now (state .entry)) (now (numbers .entry)) (withThree (now (shadow .entry)) (now (map .entry)) (now (exclusion .entry)) t)
         (syncPageTree (treeOf (now (tables .entry)) root depth) page)) ⌝ }
 {
-    if !words::usable(state, numbers, words::NUMBERS) {
+    if !decode::usable(state, numbers, decode::NUMBERS) {
         return encode::reply(numbers, Answer::Refused(7));
     }
     let answer = sync::sync_page_tree(
-        words::state_in(state),
+        decode::state_in(state),
         tables,
         root,
         depth,
@@ -95,11 +102,11 @@ pub fn sync_all_tree(
         ≡ callAt (now (state .entry)) (now (numbers .entry)) (withThree (now (shadow .entry)) (now (map .entry)) (now (exclusion .entry)) t)
         (syncAllTree (treeOf (now (tables .entry)) root depth))) ⌝ }
 {
-    if !words::usable(state, numbers, words::NUMBERS) {
+    if !decode::usable(state, numbers, decode::NUMBERS) {
         return encode::reply(numbers, Answer::Refused(7));
     }
     let answer = sync::sync_all_tree(
-        words::state_in(state),
+        decode::state_in(state),
         tables,
         root,
         depth,
@@ -123,10 +130,10 @@ pub fn ask(
     ensures { λ r. ⌜ ((t : Tables) → returned r (now (state .exit)) (now (numbers .exit)) (withThree (now (shadow .entry)) (now (map .entry)) (now (exclusion .exit)) t)
         ≡ callAt (now (state .entry)) (now (numbers .entry)) (withThree (now (shadow .entry)) (now (map .entry)) (now (exclusion .entry)) t) (Calls.ask page frame)) ⌝ }
 {
-    if !words::usable(state, numbers, words::NUMBERS) {
+    if !decode::usable(state, numbers, decode::NUMBERS) {
         return encode::reply(numbers, Answer::Refused(7));
     }
-    let called = approvals::ask(words::state_in(state), shadow, map, exclusion, page, frame);
+    let called = approvals::ask(decode::state_in(state), shadow, map, exclusion, page, frame);
     encode::put_paired(state, numbers, called)
 }
 
@@ -135,10 +142,10 @@ pub fn commit(state: &mut [u64], shadow: &mut [u64], map: &mut [u16], numbers: &
     ensures { λ r. ⌜ ((t : Tables) → returned r (now (state .exit)) (now (numbers .exit)) (withShadow (now (shadow .exit)) (withMap (now (map .exit)) t))
         ≡ callAt (now (state .entry)) (now (numbers .entry)) (withShadow (now (shadow .entry)) (withMap (now (map .entry)) t)) Calls.commit) ⌝ }
 {
-    if !words::usable(state, numbers, words::NUMBERS) {
+    if !decode::usable(state, numbers, decode::NUMBERS) {
         return encode::reply(numbers, Answer::Refused(7));
     }
-    let called = approvals::commit(words::state_in(state), shadow, map);
+    let called = approvals::commit(decode::state_in(state), shadow, map);
     encode::put_paired(state, numbers, called)
 }
 
@@ -147,9 +154,9 @@ pub fn drop_pending(state: &mut [u64], exclusion: &mut [u8], numbers: &mut [u64]
     ensures { λ r. ⌜ ((t : Tables) → returned r (now (state .exit)) (now (numbers .exit)) (withExclusion (now (exclusion .exit)) t)
         ≡ callAt (now (state .entry)) (now (numbers .entry)) (withExclusion (now (exclusion .entry)) t) Calls.drop) ⌝ }
 {
-    if !words::usable(state, numbers, words::NUMBERS) {
+    if !decode::usable(state, numbers, decode::NUMBERS) {
         return encode::reply(numbers, Answer::Refused(7));
     }
-    let called = approvals::drop_pending(words::state_in(state), exclusion);
+    let called = approvals::drop_pending(decode::state_in(state), exclusion);
     encode::put_paired(state, numbers, called)
 }

@@ -4,6 +4,9 @@
 ghost use Prim.Native.Nat.{_≤_};
 ghost use mathlib.Core.Path.{_≡_};
 ghost use lib.ListN.{length};
+use drill_calls::CALL_BYTES;
+use drill_calls::POLICY_BYTES;
+use drill_calls::TurnResult;
 use libc::STDIN_FILENO;
 use libc::STDOUT_FILENO;
 use lines::Line;
@@ -12,9 +15,6 @@ use model::MOST_DEVICES;
 use model::MOST_PAGES;
 use model::State;
 use model::VECTOR_BYTES;
-use turns::CALL_BYTES;
-use turns::POLICY_BYTES;
-use turns::TurnResult;
 
 // Takes 8 bytes, and the rest of the policy where there is one; gives how many there were. The room holds the longest policy.
 fn read_policy(room: &mut [u8]) -> usize
@@ -25,7 +25,7 @@ fn read_policy(room: &mut [u8]) -> usize
     if first < 8 {
         return first;
     }
-    let extent = turns::policy_extent(room);
+    let extent = drill_calls::policy_extent(room);
     8 + io::read_full(STDIN_FILENO, &mut room[8..extent])
 }
 
@@ -46,7 +46,7 @@ fn take_turn(
 ) -> TurnResult {
     let mut call = [0u8; CALL_BYTES];
     let taken = io::read_full(STDIN_FILENO, &mut call);
-    let result = turns::turn(s, kernel, shadow, map, exclusion, devices, &call[..taken]);
+    let result = drill_calls::turn(s, kernel, shadow, map, exclusion, devices, &call[..taken]);
     write_line(result.line);
     result
 }
@@ -59,14 +59,14 @@ fn take_turns(
     map: &mut [u16],
     exclusion: &[u8],
 ) {
-    let devices = turns::windows(first.frames);
+    let devices = drill_calls::windows(first.frames);
     let mut s = first;
-    let mut left = turns::call_limit();
-    while turns::goes_on(left) {
+    let mut left = drill_calls::call_limit();
+    while drill_calls::goes_on(left) {
         let result = take_turn(s, kernel, shadow, map, exclusion, devices);
         let next = result.state;
         s = next;
-        left = turns::left_after(left, result.goes);
+        left = drill_calls::left_after(left, result.goes);
     }
 }
 
@@ -89,7 +89,7 @@ fn drill_on(
     map: &mut [u16],
     exclusion: &mut [u8],
 ) {
-    let opened = turns::open(policy, shadow, map, exclusion);
+    let opened = drill_calls::open(policy, shadow, map, exclusion);
     write_line(opened.line);
     if !opened.goes {
         return;
@@ -102,8 +102,8 @@ fn drill_on(
 fn main() {
     let mut room = [0u8; POLICY_BYTES];
     let taken = read_policy(&mut room);
-    let pages = turns::pages_lent(&room[..taken]);
-    let bytes = turns::bytes_lent(&room[..taken]);
+    let pages = drill_calls::pages_lent(&room[..taken]);
+    let bytes = drill_calls::bytes_lent(&room[..taken]);
     let mut kernel = [0u64; MOST_PAGES as usize];
     let mut shadow = [0u64; MOST_PAGES as usize];
     let mut map = [0u16; MOST_PAGES as usize];

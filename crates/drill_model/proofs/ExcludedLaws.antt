@@ -9,14 +9,14 @@ use lib.ListN.{length, take, drop, replicate}
 use native.Mathlib.Nat.{eq-or-lt-of-le}
 use native.Mathlib.Omega.{arith}
 use Rattle.model.specs.Basics.{either, member}
-use Rattle.model.specs.Keeps.{Tables, Guard, vectorBytes, excludedIn, inMode}
+use Rattle.model.specs.Guard.{Tables, Guard, vectorBytes, hasBit, inMode}
 use Rattle.model.specs.Policy.{policyOf, named, startGuard}
 use Rattle.model.specs.Questions.{firstNo, seen, Lengths, lengthsOf, allBelow, startQuestions}
 use Rattle.model.specs.Calls.{Outcome, settle, startOf, Call, syncPage, syncAll, fetch, write, enter, leave, deviceWrite, broughtBy, questionsOf, pageFrom, allFrom, pageSynced, allSynced, switchTo, effectOf, refusedOf, answer}
 use Rattle.model.specs.Terms.{firstTerms, protected}
 use Rattle.model.proofs.PolicyLaws.{Passed, start-passed, length-numbersAt, allBelow-member, member-here}
 use Rattle.model.proofs.QuestionLaws.{settle-accepted, settle-refused}
-use Rattle.model.proofs.ClaimKept.{Kept}
+use Rattle.model.proofs.Invariant.{Invariant}
 use Rattle.model.proofs.ClaimPages.{cond-cases}
 use Rattle.model.proofs.ClaimStart.{start-kept}
 use Rattle.drill_model.specs.Drill.{policyExtent, Drill, drillGiven, drillStart, begun, kindOf, indexOf, lengthOf, valueOf, Drilled, withGuard, edited, callOf, performed, startLine, Turn, turnOf, turn, entryLines, countFrom, shareLine, closing, callLimit, callLines, drillOutput}
@@ -44,7 +44,7 @@ module _ (bytes : List ℕ) (l : Lengths) (accepted : firstNo (startQuestions dr
   passed : Passed (policyOf bytes)
   passed = start-passed drillGiven bytes (policyOf bytes) l accepted
 
-  kept : Kept (policyOf bytes) firstTerms (startGuard drillGiven (policyOf bytes))
+  kept : Invariant (policyOf bytes) firstTerms (startGuard drillGiven (policyOf bytes))
   kept = start-kept drillGiven bytes l accepted
 
   some-frame : 1 ≤ length (policyOf bytes .listedFrames)
@@ -52,11 +52,11 @@ module _ (bytes : List ℕ) (l : Lengths) (accepted : firstNo (startQuestions dr
   some-frame = rw length-numbersAt (passed .count-low)
 
   listed-excluded : (f : ℕ) → member f (policyOf bytes .listedFrames) ≡ true
-      → excludedIn (startGuard drillGiven (policyOf bytes) .tables .exclusion) f ≡ true
+      → hasBit (startGuard drillGiven (policyOf bytes) .tables .exclusion) f ≡ true
   unfolding protected named either
   listed-excluded f m = kept .excluded f ∙ rw m refl
 
-  started-some : 1 ≤ countFrom (excludedIn (startGuard drillGiven (policyOf bytes) .tables .exclusion)) 0 (startGuard drillGiven (policyOf bytes) .state .frames)
+  started-some : 1 ≤ countFrom (hasBit (startGuard drillGiven (policyOf bytes) .tables .exclusion)) 0 (startGuard drillGiven (policyOf bytes) .state .frames)
   started-some =
       rw (kept .frames)
       (some-listed (policyOf bytes .listedFrames) _ (policyOf bytes .frames) some-frame (passed .frames-below)
@@ -76,7 +76,7 @@ unfolding SomeExcluded drillStart startOf
 some-excluded bytes accepted = by-number (firstNo (startQuestions drillGiven bytes (policyOf bytes) (lengthsOf (lent bytes)))) refl
   where
     by-number : (n : ℕ) → firstNo (startQuestions drillGiven bytes (policyOf bytes) (lengthsOf (lent bytes))) ≡ n
-        → 1 ≤ countFrom (excludedIn (drillStart bytes .guard .tables .exclusion)) 0 (drillStart bytes .guard .state .frames)
+        → 1 ≤ countFrom (hasBit (drillStart bytes .guard .tables .exclusion)) 0 (drillStart bytes .guard .state .frames)
     by-number zero e =
         let guard : drillStart bytes .guard ≡ startGuard drillGiven (policyOf bytes) = ap (λ (o : Outcome). o .guard) (settle-accepted _ _ e) in
         rw guard (started-some bytes (lengthsOf (lent bytes)) e)

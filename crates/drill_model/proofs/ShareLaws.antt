@@ -6,7 +6,7 @@ use lib.Dec.{ltb}
 use borrow.Author.Tests.{ltb-true, ltb-false}
 use native.Mathlib.Nat.{div-add-mod, mod-lt, mul-le-mul-right, lt-of-not-le}
 use native.Mathlib.Omega.{arith}
-use Rattle.model.specs.Keeps.{excludedIn}
+use Rattle.model.specs.Guard.{hasBit}
 use Rattle.drill_model.specs.Drill.{countFrom, nearest, share}
 use Rattle.drill_model.specs.Share.{distance, IsNearest, ShareNearest, NearestFixed}
 
@@ -36,7 +36,7 @@ nearest-is n d p = near n d (n / d) (n % d) (div-add-mod n d) (mod-lt n p) (ltb 
 pub share-nearest : ShareNearest
 unfolding ShareNearest IsNearest distance share nearest countFrom
 share-nearest zero exclusion = omega arith
-share-nearest (suc f) exclusion = nearest-is (100 * countFrom (excludedIn exclusion) 0 (suc f)) (suc f) (omega arith)
+share-nearest (suc f) exclusion = nearest-is (100 * countFrom (hasBit exclusion) 0 (suc f)) (suc f) (omega arith)
 
 -- Of two such numbers none is below the other: the next one is the farthest that t can be, and then both are at an exact half, so that both are even.
 not-below : (n d s t : ℕ) → 1 ≤ d → IsNearest n d s → IsNearest n d t → s < t → ⊥

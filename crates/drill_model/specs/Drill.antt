@@ -8,7 +8,7 @@ use lib.Dec.{ltb, eqb}
 use Rattle.model.specs.declared.Mode.{Mode}
 use Rattle.model.specs.declared.Device.{Device}
 use Rattle.model.specs.Basics.{within}
-use Rattle.model.specs.Keeps.{Guard, vectorBytes, excludedIn, inUser, running}
+use Rattle.model.specs.Guard.{Guard, vectorBytes, hasBit, inUser, running}
 use Rattle.model.specs.Devices.{deviceOf}
 use Rattle.model.specs.Policy.{Givens, givenOf, Policy, policyOf, numberAt}
 use Rattle.model.specs.Questions.{question, firstNo}
@@ -161,7 +161,7 @@ nearest n d =
 
 -- "100 × excluded frames / F", to the nearest (K7).
 unfoldable pub share : ℕ → List ℕ → ℕ
-share frames exclusion = nearest (100 * countFrom (excludedIn exclusion) 0 frames) frames
+share frames exclusion = nearest (100 * countFrom (hasBit exclusion) 0 frames) frames
 
 -- "and the word share with" that figure.
 unfoldable pub shareLine : ℕ → List ℕ → List ℕ

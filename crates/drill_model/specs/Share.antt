@@ -4,7 +4,7 @@ use Prim.Native.Nat.{ℕ, _+_, _-_, _*_, _%_, _≤_}
 use mathlib.Core.List.{List, _++_}
 use mathlib.Core.Path.{_≡_}
 use lib.ListN.{take}
-use Rattle.model.specs.Keeps.{excludedIn}
+use Rattle.model.specs.Guard.{hasBit}
 use Rattle.model.specs.Calls.{Outcome}
 use Rattle.drill_model.specs.Drill.{policyExtent, drillStart, countFrom, share, shareLine, drillOutput}
 
@@ -20,7 +20,7 @@ IsNearest n d s = (2 * distance n (s * d) ≤ d) × (2 * distance n (s * d) ≡ 
 unfoldable pub ShareNearest : Type 0
 ShareNearest =
     (frames : ℕ) (exclusion : List ℕ)
-    → IsNearest (100 * countFrom (excludedIn exclusion) 0 frames) frames (share frames exclusion)
+    → IsNearest (100 * countFrom (hasBit exclusion) 0 frames) frames (share frames exclusion)
 
 -- These two fix the number, where there is a frame at all.
 unfoldable pub NearestFixed : Type 0
@@ -30,7 +30,7 @@ NearestFixed = (n d s t : ℕ) → 1 ≤ d → IsNearest n d s → IsNearest n d
 unfoldable pub SomeExcluded : Type 0
 SomeExcluded =
     (bytes : List ℕ) → drillStart bytes .reply .number ≡ 0
-    → 1 ≤ countFrom (excludedIn (drillStart bytes .guard .tables .exclusion)) 0 (drillStart bytes .guard .state .frames)
+    → 1 ≤ countFrom (hasBit (drillStart bytes .guard .tables .exclusion)) 0 (drillStart bytes .guard .state .frames)
 
 -- A list that ends with another.
 pub record EndsWith (last whole : List ℕ) : Type 0 where

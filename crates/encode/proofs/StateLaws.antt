@@ -15,13 +15,13 @@ use Rattle.model.specs.declared.Mode.the-variants.{Kernel, User}
 use Rattle.model.specs.declared.Pending.{Pending}
 use Rattle.model.specs.declared.Pending.the-variants.{Nothing, Pair}
 use Rattle.model.specs.declared.State.{State}
-use Rattle.model.specs.Keeps.{inUser, running, modeOf, stateOf, inMode, withPending}
+use Rattle.model.specs.Guard.{inUser, running, modeOf, stateOf, inMode, withPending}
 use Rattle.model.specs.Questions.{pendingInRange}
 use Rattle.model.proofs.QuestionLaws.{both-yes, both-first, both-second}
 use Rattle.model.proofs.TableLaws.{is-table, table-same}
-use Rattle.words.specs.Words.{stateWords, pagesAt, framesAt, entryCountAt, entryPagesAt, entryWords, modeAt, runningAt, devicesAt, pendingAt, pendingPageAt, pendingFrameAt}
-use Rattle.words.specs.Words.{narrow, field, entryPagesIn, pendingIn, pendingWords, stateIn, modeWord, lastWords, wordsOf, withWords, pagePlaces, modePlaces, pendingPlaces}
-use Rattle.words.proofs.WordLaws.{narrow-fits}
+use Rattle.decode.specs.Words.{stateWords, pagesAt, framesAt, entryCountAt, entryPagesAt, entryWords, modeAt, runningAt, devicesAt, pendingAt, pendingPageAt, pendingFrameAt}
+use Rattle.decode.specs.Words.{narrow, field, entryPagesIn, pendingIn, pendingWords, stateIn, modeWord, lastWords, wordsOf, withWords, pagePlaces, modePlaces, pendingPlaces}
+use Rattle.decode.proofs.WordLaws.{narrow-fits}
 use Rattle.encode.proofs.RunLaws.{front-none, front-word, front-table, front-so-far, front-known, front-full}
 
 -- A run keeps its length where words are written between calls that keep it.

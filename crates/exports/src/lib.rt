@@ -2,7 +2,7 @@
 // include/guard.h documents them. Each promises what the crate below it promises.
 
 ghost use mathlib.Core.Path.{_≡_};
-ghost use Rattle.model.specs.Keeps.{Tables, tables, withShadow, withMap, withExclusion, withThree};
+ghost use Rattle.model.specs.Guard.{Tables, tables, withShadow, withMap, withExclusion, withThree};
 ghost use Rattle.model.specs.Policy.{givenOf};
 ghost use Rattle.model.specs.Tree.{treeOf};
 ghost use Rattle.model.specs.Calls.{syncPage, syncAll, syncPageTree, syncAllTree, fetch, write, enter, leave, deviceWrite, ask, commit, drop};
@@ -23,7 +23,7 @@ pub extern "C" fn guard_start(
     ensures { λ r. ⌜ returned r (now (state .exit)) (now (numbers .exit)) (tables (now (shadow .exit)) (now (map .exit)) (now (exclusion .exit)))
         ≡ startAt (givenOf devices) (now (policy .entry)) (now (state .entry)) (now (numbers .entry)) (tables (now (shadow .entry)) (now (map .entry)) (now (exclusion .entry))) ⌝ }
 {
-    stateless::start(policy, devices, state, shadow, map, exclusion, numbers)
+    boundary_start::start(policy, devices, state, shadow, map, exclusion, numbers)
 }
 
 // Writes a policy record.
@@ -41,7 +41,7 @@ pub extern "C" fn guard_write_record(
     ensures { λ r. ⌜ recorded r (now (buffer .exit)) (now (numbers .exit))
         ≡ recordAt (policyBy pages frames count «entry_count» (now («listed_pages» .entry)) (now («listed_frames» .entry))) (now (buffer .entry)) (now (numbers .entry)) ⌝ }
 {
-    stateless::write_record(
+    boundary_start::write_record(
         pages,
         frames,
         count,
@@ -97,7 +97,7 @@ pub extern "C" fn guard_walk(
 ) -> u64
     ensures { λ r. ⌜ walked r (now (numbers .exit)) ≡ walkAt (treeOf (now (tables .entry)) root depth) page (now (numbers .entry)) ⌝ }
 {
-    stateless::walk(tables, root, depth, page, numbers)
+    boundary_start::walk(tables, root, depth, page, numbers)
 }
 
 // Synchronise one page from a tree.

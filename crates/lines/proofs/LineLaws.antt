@@ -13,7 +13,7 @@ use Rattle.model.specs.declared.Mode.{Mode}
 use Rattle.model.specs.declared.Mode.the-variants.{Kernel, User}
 use Rattle.model.specs.declared.Answer.{Answer}
 use Rattle.model.specs.declared.Answer.the-variants.{Done, Refused}
-use Rattle.model.specs.Keeps.{inUser, running}
+use Rattle.model.specs.Guard.{inUser, running}
 use Rattle.model.specs.Calls.{replyOf}
 use Rattle.drill_model.specs.Drill.{digits, decimal, line, hexDigit, share, shareLine}
 

@@ -6,7 +6,7 @@ ghost use mathlib.Core.Bool.{cond};
 ghost use mathlib.Core.Path.{_≡_};
 ghost use mathlib.Core.List.{[], _∷_, _++_};
 ghost use lib.ListN.{take};
-ghost use Rattle.model.specs.Keeps.{inUser, running};
+ghost use Rattle.model.specs.Guard.{inUser, running};
 ghost use Rattle.model.specs.Calls.{replyOf};
 ghost use Rattle.drill_model.specs.Drill.{digits, decimal, line, hexDigit, hexDigits, shareLine};
 ghost use Rattle.lines.specs.Text.{text};

@@ -7,8 +7,8 @@ use lib.Dec.{ltb, eqb}
 use native.Mathlib.Omega.{arith}
 use borrow.Author.Tests.{ltb-true, not-true}
 use Rattle.model.specs.Basics.{both, either}
-use Rattle.model.specs.Keeps.{none, isPending}
-use Rattle.model.specs.Edges.{pageBytes, lastByte, lastPage}
+use Rattle.model.specs.Guard.{none, isPending}
+use Rattle.model.specs.Sizes.{pageBytes, lastByte, lastPage}
 use Rattle.model.specs.Bits.{present, noExecute, frameOf}
 use Rattle.model.specs.declared.Device.{Device}
 use Rattle.model.specs.Tree.{Tree}

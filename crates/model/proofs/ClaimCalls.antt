@@ -15,7 +15,7 @@ use Rattle.model.specs.declared.Mode.{Mode}
 use Rattle.model.specs.declared.Mode.the-variants.{Kernel, User}
 use Rattle.model.specs.Basics.{bit, both, either}
 use Rattle.model.specs.Bits.{present}
-use Rattle.model.specs.Keeps.{none, Tables, withShadow, withMap, Guard, guardOf, excludedIn, withBit, inUser, running, modeOf, isPending, pendingFrame, isAsked, inMode, withPending}
+use Rattle.model.specs.Guard.{none, Tables, withShadow, withMap, Guard, guardOf, hasBit, withBit, inUser, running, modeOf, isPending, pendingFrame, isAsked, inMode, withPending}
 use Rattle.model.specs.Policy.{Policy, named}
 use Rattle.model.specs.Tree.{flatAt}
 use Rattle.model.specs.Sync.{Slot, slot, step, entryIn, stepFrom, Sweep, sweepFrom}
@@ -33,9 +33,9 @@ use Rattle.model.proofs.SwitchLaws.{length-switched, switched-at}
 use Rattle.model.proofs.AcceptedLaws.{syncPage-page, syncPageTree-page, fetch-page, enter-page, leave-page, ask-page, ask-frame, ask-first, ask-free, commit-pending, drop-pending}
 use Rattle.model.proofs.VectorLaws.{byte-below, withBit-length, excluded-withBit}
 use Rattle.model.proofs.TermLaws.{isWaiting, awaited, commit-in, commit-over, commit-code, drop-over, drop-in, drop-out, drop-code, term-code, code-term, term-named, awaited-none, awaited-is, awaited-other, awaited-below, pending-below, asked-below, waiting-in}
-use Rattle.model.proofs.ClaimKept.{Kept, pageOf}
+use Rattle.model.proofs.Invariant.{Invariant, pageOf}
 
-module _ (policy : Policy) (terms : Terms) (g : Guard) (h : Kept policy terms g) where
+module _ (policy : Policy) (terms : Terms) (g : Guard) (h : Invariant policy terms g) where
   -- A synchronised page is as its one-page guard is told, if the tables have the step's slot at it.
   stepped-at : (shadow map : List ℕ) (p k : ℕ)
       → getD shadow p 0 ≡ (step (rulesOf (g .state) (g .tables .exclusion)) k (getD (g .tables .map) p none)) .entry
@@ -105,12 +105,12 @@ module _ (policy : Policy) (terms : Terms) (g : Guard) (h : Kept policy terms g)
 
   -- A frame below F has a bit, and a frame's bit set or cleared is told as that frame excluded, or not.
   bit-put : (b : Bool) (frame : ℕ) → frame < policy .frames → (f : ℕ)
-      → excludedIn (withBit b (g .tables .exclusion) frame) f ≡ excludedWith b frame (excludedIn (g .tables .exclusion)) f
+      → hasBit (withBit b (g .tables .exclusion) frame) f ≡ excludedWith b frame (hasBit (g .tables .exclusion)) f
   unfolding excludedWith
   bit-put b frame small = excluded-withBit b (g .tables .exclusion) frame (rw (h .exclusionLength) (byte-below (policy .frames) frame small))
 
   bit-commutes : (b : Bool) (frame : ℕ) (pending : Pending) (p : ℕ) → frame < policy .frames
-      → withPair (pageOf g p) (excludedWith b frame (excludedIn (g .tables .exclusion))) (pendingFrame pending) (isAsked pending p)
+      → withPair (pageOf g p) (excludedWith b frame (hasBit (g .tables .exclusion))) (pendingFrame pending) (isAsked pending p)
       ≡ pageOf ((bitPut g b frame pending) .guard) p
   unfolding bitPut withPending
   bit-commutes b frame pending p small = rw (fun-ext (bit-put b frame small)) refl
@@ -175,7 +175,7 @@ module _ (policy : Policy) (terms : Terms) (g : Guard) (h : Kept policy terms g)
   most : policy .frames ≤ 4096
   most = rw (h .frames) at (frames-few (g .state) (h .fits))
 
-  joins-code : (f : ℕ) → excludedIn (g .tables .exclusion) f ≡ true → eqb f (pendingFrame (g .state .pending)) ≡ false → code policy terms f ≡ true
+  joins-code : (f : ℕ) → hasBit (g .tables .exclusion) f ≡ true → eqb f (pendingFrame (g .state .pending)) ≡ false → code policy terms f ≡ true
   unfolding code protected
   joins-code f e other = term-code (named policy f) (terms f) (sym (h .excluded f) ∙ e) (h .waiting f ∙ awaited-other (g .state .pending) f other)
 
@@ -206,7 +206,7 @@ module _ (policy : Policy) (terms : Terms) (g : Guard) (h : Kept policy terms g)
   -- What always holds is kept by another mode on a page below V and by tables of the same lengths, if every page stays good.
   kept-with : (mode : Mode) (shadow map : List ℕ) → running mode < policy .pages → length shadow ≡ policy .pages → length map ≡ policy .pages
       → let after : Guard = guardOf (inMode (g .state) mode) (withShadow shadow (withMap map (g .tables))) in
-      ((p : ℕ) → Good (code policy terms) (pageOf after p)) → Kept policy terms after
+      ((p : ℕ) → Good (code policy terms) (pageOf after p)) → Invariant policy terms after
   unfolding inMode
   kept-with mode shadow map runs shadowLength mapLength good =
       record {
@@ -220,7 +220,7 @@ module _ (policy : Policy) (terms : Terms) (g : Guard) (h : Kept policy terms g)
         exclusionLength = h .exclusionLength;
         excluded = h .excluded;
         waiting = h .waiting;
-        apart = h .apart;
+        unnamed = h .unnamed;
         below = h .below;
         good = good;
       }
@@ -228,12 +228,12 @@ module _ (policy : Policy) (terms : Terms) (g : Guard) (h : Kept policy terms g)
   -- And by another pair, or none, with tables of the same lengths, if what is said of frames holds with the terms then.
   kept-pair : (terms′ : Terms) (pending : Pending) (t : Tables) → pendingInRange (policy .pages) (policy .frames) pending ≡ true
       → length (t .shadow) ≡ length (g .tables .shadow) → length (t .map) ≡ length (g .tables .map) → length (t .exclusion) ≡ length (g .tables .exclusion)
-      → ((f : ℕ) → excludedIn (t .exclusion) f ≡ protected policy terms′ f) → ((f : ℕ) → isWaiting (terms′ f) ≡ awaited pending f)
+      → ((f : ℕ) → hasBit (t .exclusion) f ≡ protected policy terms′ f) → ((f : ℕ) → isWaiting (terms′ f) ≡ awaited pending f)
       → ((f : ℕ) → isWaiting (terms′ f) ≡ true → named policy f ≡ false) → ((f : ℕ) → code policy terms′ f ≡ true → f < policy .frames)
       → let after : Guard = guardOf (withPending (g .state) pending) t in
-      ((p : ℕ) → Good (code policy terms′) (pageOf after p)) → Kept policy terms′ after
+      ((p : ℕ) → Good (code policy terms′) (pageOf after p)) → Invariant policy terms′ after
   unfolding withPending
-  kept-pair terms′ pending t fits shadowLength mapLength exclusionLength excluded waiting apart below good =
+  kept-pair terms′ pending t fits shadowLength mapLength exclusionLength excluded waiting unnamed below good =
       record {
         pages = h .pages;
         frames = h .frames;
@@ -245,7 +245,7 @@ module _ (policy : Policy) (terms : Terms) (g : Guard) (h : Kept policy terms g)
         exclusionLength = exclusionLength ∙ h .exclusionLength;
         excluded = excluded;
         waiting = waiting;
-        apart = apart;
+        unnamed = unnamed;
         below = below;
         good = good;
       }
@@ -255,12 +255,12 @@ module _ (policy : Policy) (terms : Terms) (g : Guard) (h : Kept policy terms g)
 
   -- A synchronisation keeps it.
   one-kept : (kernel : ℕ → ℕ) (page : ℕ) → ((p : ℕ) → Good (code policy terms) (pageOf ((pageFrom g kernel page) .guard) p))
-      → Kept policy terms ((pageFrom g kernel page) .guard)
+      → Invariant policy terms ((pageFrom g kernel page) .guard)
   unfolding pageFrom pageSynced inMode
   one-kept kernel page good =
       kept-with (g .state .mode) _ _ now-runs (length-set (g .tables .shadow) page _ ∙ h .shadowLength) (length-set (g .tables .map) page _ ∙ h .mapLength) good
 
-  all-kept : (kernel : ℕ → ℕ) → ((p : ℕ) → Good (code policy terms) (pageOf ((allFrom g kernel) .guard) p)) → Kept policy terms ((allFrom g kernel) .guard)
+  all-kept : (kernel : ℕ → ℕ) → ((p : ℕ) → Good (code policy terms) (pageOf ((allFrom g kernel) .guard) p)) → Invariant policy terms ((allFrom g kernel) .guard)
   unfolding allFrom allSynced inMode
   all-kept kernel good =
       kept-with (g .state .mode) _ _ now-runs (sweep-shadow-length _ 0 (g .tables .shadow) (g .tables .map) ∙ h .shadowLength)
@@ -282,7 +282,7 @@ module _ (policy : Policy) (terms : Terms) (g : Guard) (h : Kept policy terms g)
       by false w = h .below f (term-code (named policy f) (terms f) e w)
 
   -- Every accepted call keeps what always holds.
-  pub kept : (call : Call) → settled policy (pageOf g) g call ≡ 0 → Kept policy (termsAfter 0 call terms) ((effectOf g call) .guard)
+  pub kept : (call : Call) → settled policy (pageOf g) g call ≡ 0 → Invariant policy (termsAfter 0 call terms) ((effectOf g call) .guard)
   unfolding termsAfter termAfter settle news settled questionsOf effectOf pageFrom allFrom pageSynced allSynced switchTo bitPut pairCommitted inMode running inUser pendingInRange isWaiting awaited protected code inTerm isCommitted either excludedWith
   kept (syncPage kernel page) passed = one-kept (entryIn kernel) page (good-after (syncPage kernel page) passed (allows-one (entryIn kernel) page))
   kept (syncAll kernel) passed = all-kept (entryIn kernel) (good-after (syncAll kernel) passed (allows-all (entryIn kernel)))
@@ -300,7 +300,7 @@ module _ (policy : Policy) (terms : Terms) (g : Guard) (h : Kept policy terms g)
       (h .mapLength) (good-after (leave page) passed (λ p. tt))
   kept (deviceWrite devices device address size) passed = h
   kept (ask page frame) passed =
-      kept-pair (termsAfter 0 (ask page frame) terms) (Pair page frame) _ pair-in refl refl (withBit-length true (g .tables .exclusion) frame) excluded waiting apart below
+      kept-pair (termsAfter 0 (ask page frame) terms) (Pair page frame) _ pair-in refl refl (withBit-length true (g .tables .exclusion) frame) excluded waiting unnamed below
       (good-with _ more below (ask page frame) passed (λ p. tt))
     where
       v : View
@@ -312,10 +312,10 @@ module _ (policy : Policy) (terms : Terms) (g : Guard) (h : Kept policy terms g)
       free : protected policy terms frame ≡ false
       free = sym (h .excluded frame) ∙ ask-free v page frame passed
 
-      excluded : (f : ℕ) → excludedIn (withBit true (g .tables .exclusion) frame) f ≡ protected policy (termsAfter 0 (ask page frame) terms) f
+      excluded : (f : ℕ) → hasBit (withBit true (g .tables .exclusion) frame) f ≡ protected policy (termsAfter 0 (ask page frame) terms) f
       excluded f = bit-put true frame (ask-frame v page frame passed) f ∙ by (eqb f frame) refl
         where
-          by : (b : Bool) → eqb f frame ≡ b → cond b true (excludedIn (g .tables .exclusion) f) ≡ either (named policy f) (inTerm (cond b pendingTerm (terms f)))
+          by : (b : Bool) → eqb f frame ≡ b → cond b true (hasBit (g .tables .exclusion) f) ≡ either (named policy f) (inTerm (cond b pendingTerm (terms f)))
           by true e = sym (either-second (named policy f) refl)
           by false e = h .excluded f
 
@@ -326,8 +326,8 @@ module _ (policy : Policy) (terms : Terms) (g : Guard) (h : Kept policy terms g)
           by true = refl
           by false = h .waiting f ∙ awaited-none (g .state .pending) f (ask-first v page frame passed)
 
-      apart : (f : ℕ) → isWaiting (cond (eqb f frame) pendingTerm (terms f)) ≡ true → named policy f ≡ false
-      apart f w =
+      unnamed : (f : ℕ) → isWaiting (cond (eqb f frame) pendingTerm (terms f)) ≡ true → named policy f ≡ false
+      unnamed f w =
           rw (eqb-true f frame (sym (waiting f) ∙ w)) (term-named (named policy frame) (terms frame) free)
 
       below : (f : ℕ) → code policy (termsAfter 0 (ask page frame) terms) f ≡ true → f < policy .frames
@@ -377,9 +377,9 @@ module _ (policy : Policy) (terms : Terms) (g : Guard) (h : Kept policy terms g)
       code-is : (f : ℕ) → code policy (termsAfter 0 drop terms) f ≡ code policy terms f
       code-is f = ap (either (named policy f)) (drop-code (terms f))
 
-      excluded : (f : ℕ) → excludedIn (withBit false (g .tables .exclusion) frame) f ≡ protected policy (termsAfter 0 drop terms) f
+      excluded : (f : ℕ) → hasBit (withBit false (g .tables .exclusion) frame) f ≡ protected policy (termsAfter 0 drop terms) f
       excluded f = bit-put false frame (pending-small there) f ∙ by (eqb f frame) (h .waiting f ∙ awaited-is (g .state .pending) f there)
         where
-          by : (b : Bool) → isWaiting (terms f) ≡ b → cond b false (excludedIn (g .tables .exclusion) f) ≡ either (named policy f) (inTerm (afterDrop (terms f)))
-          by true w = sym (rw (h .apart f w) (drop-out (terms f) w))
+          by : (b : Bool) → isWaiting (terms f) ≡ b → cond b false (hasBit (g .tables .exclusion) f) ≡ either (named policy f) (inTerm (afterDrop (terms f)))
+          by true w = sym (rw (h .unnamed f w) (drop-out (terms f) w))
           by false w = h .excluded f ∙ sym (ap (either (named policy f)) (drop-in (terms f) w))

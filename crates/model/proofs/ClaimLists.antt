@@ -4,7 +4,7 @@ use mathlib.Core.List.{List, [], _∷_}
 use mathlib.Core.Path.{_≡_, refl, sym, ap, fun-ext, _∙_}
 use native.Mathlib.Omega.{arith}
 use borrow.Author.Tests.{ne-eqb}
-use Rattle.model.specs.Keeps.{Guard}
+use Rattle.model.specs.Guard.{Guard}
 use Rattle.model.specs.Policy.{Policy, policyOf, startGuard}
 use Rattle.model.specs.Questions.{firstNo, lengthsOf, startQuestions}
 use Rattle.model.specs.Calls.{settle, Outcome, refusedOf, broughtBy, startOf, Call, effectOf, answer}
@@ -13,7 +13,7 @@ use Rattle.model.specs.Claim.{Agree, Always, Claim}
 use Rattle.model.specs.Terms.{Terms, firstTerms, termsAfter}
 use Rattle.model.proofs.QuestionLaws.{settle-accepted, settle-refused}
 use Rattle.model.proofs.CallLaws.{effect-reply}
-use Rattle.model.proofs.ClaimKept.{Kept, pageOf, answered}
+use Rattle.model.proofs.Invariant.{Invariant, pageOf, answered}
 use Rattle.model.proofs.ClaimCalls.{commutes, kept}
 use Rattle.model.proofs.ClaimSafe.{safe}
 use Rattle.model.proofs.ClaimStart.{first-pages, start-kept}
@@ -24,7 +24,7 @@ unfolding termsAfter settle
 terms-refused n call terms = refl
 
 -- The tables agree with the one-page guards that they show.
-agree : (policy : Policy) (terms : Terms) (g : Guard) → Kept policy terms g → Agree policy g (pageOf g)
+agree : (policy : Policy) (terms : Terms) (g : Guard) → Invariant policy terms g → Agree policy g (pageOf g)
 agree policy terms g h =
     record {
       shadowLength = h .shadowLength;
@@ -36,7 +36,7 @@ agree policy terms g h =
     }
 
 -- What always holds gives the whole of the claim, for any list.
-always : (policy : Policy) (calls : List Call) (terms : Terms) (g : Guard) → Kept policy terms g
+always : (policy : Policy) (calls : List Call) (terms : Terms) (g : Guard) → Invariant policy terms g
     → Always policy terms g (pageOf g) calls
 unfolding pagesAfter
 always policy [] terms g h = agree policy terms g h
@@ -46,7 +46,7 @@ always policy (call ∷ calls) terms g h = by-number (settled policy (pageOf g) 
     number = settled policy (pageOf g) g call
 
     by-number : (n : ℕ) → number ≡ n
-        → ((still : Terms) (after : Guard) → Kept policy still after → Always policy still after (pageOf after) calls)
+        → ((still : Terms) (after : Guard) → Invariant policy still after → Always policy still after (pageOf after) calls)
         → Always policy terms g (pageOf g) (call ∷ calls)
     by-number zero e rest =
         let outcome : answer g call ≡ effectOf g call =

@@ -10,7 +10,7 @@ use mathlib.Core.Logic.{_⊎_, inl, inr}
 use Rattle.model.specs.declared.Entry.the-variants.{Absent, Present}
 use Rattle.model.specs.declared.Fields.{Fields}
 use Rattle.model.specs.Basics.{bit, both, either}
-use Rattle.model.specs.Keeps.{none}
+use Rattle.model.specs.Guard.{none}
 use Rattle.model.specs.Policy.{Policy}
 use Rattle.model.specs.Bits.{present, noExecute, frameOf, approvedMark, fieldsOf, valid, takenApart, approvedNoExecute, approved, ordinaryNoExecute, ordinary, inspected}
 use Rattle.model.specs.Sync.{Rules, rules, Slot, slot, stepOf, step}

@@ -6,8 +6,8 @@ use lib.Dec.{ltb}
 use lib.ListN.{length, getD}
 use native.Mathlib.Omega.{arith}
 use borrow.Author.Tests.{ltb-true, not-true}
-use Rattle.model.specs.Edges.{pageBytes, lastByte, lastPage}
-use Rattle.model.specs.Keeps.{Guard, excludedIn}
+use Rattle.model.specs.Sizes.{pageBytes, lastByte, lastPage}
+use Rattle.model.specs.Guard.{Guard, hasBit}
 use Rattle.model.specs.Policy.{Policy}
 use Rattle.model.specs.Bits.{frameOf}
 use Rattle.model.specs.Devices.{deviceAt}
@@ -19,9 +19,9 @@ use Rattle.model.specs.Terms.{Terms, code}
 use Rattle.model.proofs.QuestionLaws.{both-first, both-second}
 use Rattle.model.proofs.ClaimPages.{good-code}
 use Rattle.model.proofs.AcceptedLaws.{fetch-there, fetch-executable, write-free, deviceWrite-free, deviceWrite-windowed}
-use Rattle.model.proofs.ClaimKept.{Kept, pageOf}
+use Rattle.model.proofs.Invariant.{Invariant, pageOf}
 
-module _ (policy : Policy) (terms : Terms) (g : Guard) (h : Kept policy terms g) where
+module _ (policy : Policy) (terms : Terms) (g : Guard) (h : Invariant policy terms g) where
   -- Any byte of a frame that question 13 lets pass is clear.
   free-clear : (f x : ℕ) → free (seenBy policy (pageOf g) g) f ≡ true → x / pageBytes ≡ f → Clear policy terms x
   unfolding free
@@ -29,7 +29,7 @@ module _ (policy : Policy) (terms : Terms) (g : Guard) (h : Kept policy terms g)
       let below : f < policy .frames = ltb-true f (policy .frames) (both-first _ _ passed) in
       record {
         below = omega arith;
-        unprotected = rw e (sym (h .excluded f) ∙ not-true (excludedIn (g .tables .exclusion) f) (both-second (ltb f (policy .frames)) (not (excludedIn (g .tables .exclusion) f)) passed));
+        unprotected = rw e (sym (h .excluded f) ∙ not-true (hasBit (g .tables .exclusion) f) (both-second (ltb f (policy .frames)) (not (hasBit (g .tables .exclusion) f)) passed));
       }
 
   -- Every accepted call is safe.

@@ -10,8 +10,8 @@ use native.Mathlib.Nat.{suc-inj}
 use native.Mathlib.Omega.{arith}
 use borrow.Author.Tests.{leb-true, ltb-true, ltb-false, eqb-true, ne-eqb}
 use Rattle.model.specs.Basics.{both, either, table, member, bit, flag}
-use Rattle.model.specs.Edges.{pagesInRange, framesInRange}
-use Rattle.model.specs.Keeps.{none, vectorBytes, excludedIn, byteOf, vectorOf, inUser, running, pendingFrame, isAsked}
+use Rattle.model.specs.Sizes.{pagesInRange, framesInRange}
+use Rattle.model.specs.Guard.{none, vectorBytes, hasBit, byteOf, vectorOf, inUser, running, pendingFrame, isAsked}
 use Rattle.model.specs.Policy.{Givens, Policy, policyOf, frameFor, approvalFor, named, firstEntry, startState, startTables, startGuard}
 use Rattle.model.specs.Bits.{approved}
 use Rattle.model.specs.Questions.{firstNo, pendingInRange, stateInOrder, givensInRange, Lengths, startQuestions, rising}
@@ -24,7 +24,7 @@ use Rattle.model.proofs.PolicyLaws.{Passed, start-passed, start-given, 
 use Rattle.model.proofs.VectorLaws.{byteOf-bit, byteOf-ext, vectorOf-length}
 use Rattle.model.proofs.ClaimPages.{Good, good-absent, good-approved}
 use Rattle.model.proofs.TermLaws.{isWaiting, awaited}
-use Rattle.model.proofs.ClaimKept.{Kept, pageOf}
+use Rattle.model.proofs.Invariant.{Invariant, pageOf}
 
 -- A test that holds only below a limit fails past it.
 past-no : (test : ℕ → Bool) (limit : ℕ) → ((x : ℕ) → test x ≡ true → x < limit) → (x : ℕ) → limit ≤ x → test x ≡ false
@@ -45,8 +45,8 @@ table-read count f p d past = at (ltb p count) refl
         List·getD-eq-default (table count f) d (rw length-table over) ∙ sym (past over)
 
 -- The start's vector excludes just the frames that a test holds of, also past F, if it holds of none there.
-excluded-is : (frames : ℕ) (test : ℕ → Bool) → ((f : ℕ) → test f ≡ true → f < frames) → (f : ℕ) → excludedIn (vectorOf frames test) f ≡ test f
-unfolding excludedIn vectorOf vectorBytes byteOf flag
+excluded-is : (frames : ℕ) (test : ℕ → Bool) → ((f : ℕ) → test f ≡ true → f < frames) → (f : ℕ) → hasBit (vectorOf frames test) f ≡ test f
+unfolding hasBit vectorOf vectorBytes byteOf flag
 excluded-is frames test below f =
     ap (bit (f % 8)) (table-read (vectorBytes frames) (λ i. byteOf (λ j. test (i * 8 + j))) (f / 8) 0 past)
     ∙ byteOf-bit (λ j. test (f / 8 * 8 + j)) (f % 8) (omega arith)
@@ -215,7 +215,7 @@ module _ (given : Givens) (bytes : List ℕ) (l : Lengths) (accepted : firstNo (
   unfolding code firstTerms isCommitted
   code-first = fun-ext (λ f. either-false (named policy f))
 
-  pub start-kept : Kept policy firstTerms (startGuard given policy)
+  pub start-kept : Invariant policy firstTerms (startGuard given policy)
   unfolding startGuard startState startTables firstTerms isWaiting awaited
   start-kept =
       record {
@@ -229,7 +229,7 @@ module _ (given : Givens) (bytes : List ℕ) (l : Lengths) (accepted : firstNo (
         exclusionLength = vectorOf-length (policy .frames) (named policy);
         excluded = λ f. excluded-is (policy .frames) (named policy) (named-below) f ∙ sym (protected-first f);
         waiting = λ f. refl;
-        apart = λ f e. absurd (false≢true e);
+        unnamed = λ f e. absurd (false≢true e);
         below = λ f e. named-below f (rw code-first at e);
         good = λ p. rw code-first (subst (λ (ps : ℕ → Page). Good (named policy) (ps p)) (sym first-pages) (first-good p));
       }

@@ -7,8 +7,8 @@ use lib.Dec.{eqb}
 use lib.ListN.{getD}
 use borrow.Author.Tests.{eqb-true, eq-eqb}
 use native.Mathlib.Omega.{arith}
-use Rattle.model.specs.Edges.{pageBytes}
-use Rattle.model.specs.Keeps.{Guard}
+use Rattle.model.specs.Sizes.{pageBytes}
+use Rattle.model.specs.Guard.{Guard}
 use Rattle.model.specs.Policy.{Policy, policyOf, named, startGuard}
 use Rattle.model.specs.Bits.{frameOf}
 use Rattle.model.specs.Questions.{firstNo, lengthsOf, startQuestions}
@@ -21,12 +21,12 @@ use Rattle.model.proofs.QuestionLaws.{settle-accepted, settle-refused, 
 use Rattle.model.proofs.CallLaws.{effect-reply}
 use Rattle.model.proofs.AcceptedLaws.{ask-free}
 use Rattle.model.proofs.TermLaws.{commit-in, commit-code, drop-code, committed-in}
-use Rattle.model.proofs.ClaimKept.{Kept, pageOf, answered}
+use Rattle.model.proofs.Invariant.{Invariant, pageOf, answered}
 use Rattle.model.proofs.ClaimCalls.{kept}
 use Rattle.model.proofs.ClaimSafe.{safe}
 use Rattle.model.proofs.ClaimStart.{start-kept}
 
-module _ (policy : Policy) (terms : Terms) (g : Guard) (h : Kept policy terms g) (call : Call) where
+module _ (policy : Policy) (terms : Terms) (g : Guard) (h : Invariant policy terms g) (call : Call) where
   -- The guard's number is the settled one.
   number-settled : (answer g call) .reply .number ≡ settled policy (pageOf g) g call
   number-settled =
@@ -40,11 +40,11 @@ module _ (policy : Policy) (terms : Terms) (g : Guard) (h : Kept policy terms g)
   accepted-guard e = ap (λ (o : Outcome). o .guard) (answered policy terms g h call ∙ settle-accepted (effectOf g call) (refusedOf g (broughtBy call)) (accepted-settled e))
 
   -- After a call, refused or accepted.
-  pub step-kept : Kept policy (termsAfter ((answer g call) .reply .number) call terms) ((answer g call) .guard)
+  pub step-kept : Invariant policy (termsAfter ((answer g call) .reply .number) call terms) ((answer g call) .guard)
   unfolding termsAfter settle
   step-kept = by ((answer g call) .reply .number) refl
     where
-      by : (n : ℕ) → (answer g call) .reply .number ≡ n → Kept policy (termsAfter n call terms) ((answer g call) .guard)
+      by : (n : ℕ) → (answer g call) .reply .number ≡ n → Invariant policy (termsAfter n call terms) ((answer g call) .guard)
       by zero e = rw (accepted-guard e) (kept policy terms g h call (accepted-settled e))
       by (suc n) e =
           let guard : (answer g call) .guard ≡ g =
@@ -116,7 +116,7 @@ module _ (policy : Policy) (f : ℕ) where
   open-protected terms p = either-second (named policy f) p
 
   -- A committed frame stays so: an ask for it is refused, since it is excluded.
-  lasts : (terms : Terms) (g : Guard) → Kept policy terms g → (call : Call) → Lasts (terms f) → settled policy (pageOf g) g call ≡ 0
+  lasts : (terms : Terms) (g : Guard) → Invariant policy terms g → (call : Call) → Lasts (terms f) → settled policy (pageOf g) g call ≡ 0
       → Lasts (termAfter call f (terms f))
   unfolding termAfter settled questionsOf
   lasts terms g h (syncPage kernel page) p passed = p
@@ -140,7 +140,7 @@ module _ (policy : Policy) (f : ℕ) where
   lasts terms g h drop p passed = drop-code (terms f) ∙ p
 
   -- From its commit on.
-  for-good : (calls : List Call) (terms : Terms) (g : Guard) → Kept policy terms g → Lasts (terms f) → EachAccepted (Avoids f) g calls
+  for-good : (calls : List Call) (terms : Terms) (g : Guard) → Invariant policy terms g → Lasts (terms f) → EachAccepted (Avoids f) g calls
   for-good [] terms g h p = tt
   for-good (call ∷ calls) terms g h p = (
     avoids policy terms g h call f (open-protected terms (committed-in (terms f) p)),
@@ -149,8 +149,8 @@ module _ (policy : Policy) (f : ℕ) where
   )
 
   -- From its ask to its commit.
-  until : (calls rest : List Call) (terms : Terms) (g : Guard) → Kept policy terms g → Open (terms f) → EachAccepted NoDrop g calls
-      → ((terms′ : Terms) → Kept policy terms′ (guardAfter g calls) → Open (terms′ f) → EachAccepted (Avoids f) (guardAfter g calls) rest)
+  until : (calls rest : List Call) (terms : Terms) (g : Guard) → Invariant policy terms g → Open (terms f) → EachAccepted NoDrop g calls
+      → ((terms′ : Terms) → Invariant policy terms′ (guardAfter g calls) → Open (terms′ f) → EachAccepted (Avoids f) (guardAfter g calls) rest)
       → EachAccepted (Avoids f) g (calls ++ rest)
   unfolding guardAfter
   until [] rest terms g h p undropped then = then terms h p
@@ -161,14 +161,14 @@ module _ (policy : Policy) (f : ℕ) where
   )
 
 -- The terms after a list of calls.
-along : (policy : Policy) (calls : List Call) (terms : Terms) (g : Guard) → Kept policy terms g → (P : Guard → Type 0)
-    → ((terms′ : Terms) → Kept policy terms′ (guardAfter g calls) → P (guardAfter g calls)) → P (guardAfter g calls)
+along : (policy : Policy) (calls : List Call) (terms : Terms) (g : Guard) → Invariant policy terms g → (P : Guard → Type 0)
+    → ((terms′ : Terms) → Invariant policy terms′ (guardAfter g calls) → P (guardAfter g calls)) → P (guardAfter g calls)
 unfolding guardAfter
 along policy [] terms g h P then = then terms h
 along policy (call ∷ calls) terms g h P then = along policy calls _ ((answer g call) .guard) (step-kept policy terms g h call) P then
 
 -- The ask and the commit, each at its place.
-from-ask : (policy : Policy) (terms : Terms) (g : Guard) → Kept policy terms g → (page frame : ℕ) (between after : List Call) → Accepts g (ask page frame)
+from-ask : (policy : Policy) (terms : Terms) (g : Guard) → Invariant policy terms g → (page frame : ℕ) (between after : List Call) → Accepts g (ask page frame)
     → let asked : Guard = (answer g (ask page frame)) .guard in
     EachAccepted NoDrop asked between → Accepts (guardAfter asked between) commit → EachAccepted (Avoids frame) asked (between ++ (commit ∷ after))
 unfolding termsAfter settle termAfter inTerm

@@ -2,15 +2,15 @@
 use Prim.Native.Nat.{ℕ, zero, suc}
 use mathlib.Core.Path.{_≡_, refl, ap, _∙_}
 use Rattle.model.specs.declared.State.{State}
-use Rattle.model.specs.Keeps.{Guard, inMode, withPending}
+use Rattle.model.specs.Guard.{Guard, inMode, withPending}
 use Rattle.model.specs.Questions.{firstNo, seen, deviceWriteQuestions}
 use Rattle.model.specs.Calls.{Outcome, settle, Call, questionsOf, effectOf, broughtBy, refusedOf, answer}
-use Rattle.model.specs.Windows.{SameBut, WindowsApart, DevicesKept}
+use Rattle.model.specs.Windows.{SameBut, WindowsIndependent, DevicesKept}
 use Rattle.model.proofs.CallLaws.{effect-state}
 
-pub windows-apart : WindowsApart
-unfolding WindowsApart answer questionsOf effectOf broughtBy deviceWriteQuestions
-windows-apart g changed before after same device address size other = rw (same .long, same .others device other)
+pub windows-independent : WindowsIndependent
+unfolding WindowsIndependent answer questionsOf effectOf broughtBy deviceWriteQuestions
+windows-independent g changed before after same device address size other = rw (same .long, same .others device other)
 
 settled-devices : (g : Guard) (n count : ℕ) (done : Outcome) (refusal : ℕ → Outcome) → done .guard .state .devices ≡ count
     → ((k : ℕ) → refusal k .guard .state .devices ≡ count) → settle n done refusal .guard .state .devices ≡ count

@@ -17,7 +17,7 @@ pub mod TermLaws
 pub mod ClaimPages
 mod CacheLaws
 mod DeviceLaws
-pub mod ClaimKept
+pub mod Invariant
 pub mod ClaimCalls
 pub mod ClaimSafe
 pub mod ClaimStart

@@ -10,8 +10,8 @@ use Rattle.model.specs.declared.Mode.{Mode}
 use Rattle.model.specs.declared.Pending.{Pending}
 use Rattle.model.specs.declared.State.{State}
 use Rattle.model.specs.Basics.{within}
-use Rattle.model.specs.Edges.{pagesInRange, framesInRange, devicesInRange}
-use Rattle.model.specs.Keeps.{inUser, running, modeOf, inMode, withPending}
+use Rattle.model.specs.Sizes.{pagesInRange, framesInRange, devicesInRange}
+use Rattle.model.specs.Guard.{inUser, running, modeOf, inMode, withPending}
 use Rattle.model.specs.Questions.{pendingInRange, stateInOrder, inOrder}
 use Rattle.model.proofs.QuestionLaws.{both-yes, both-no-after, both-first, both-second, within-high}
 

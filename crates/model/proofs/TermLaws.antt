@@ -7,7 +7,7 @@ use borrow.Author.Tests.{ltb-true, eqb-true}
 use Rattle.model.specs.declared.Pending.{Pending}
 use Rattle.model.specs.declared.Pending.the-variants.{Nothing, Pair}
 use Rattle.model.specs.Basics.{either}
-use Rattle.model.specs.Keeps.{isPending, pendingFrame, isAsked}
+use Rattle.model.specs.Guard.{isPending, pendingFrame, isAsked}
 use Rattle.model.specs.Questions.{pendingInRange}
 use Rattle.model.specs.Terms.{Term, noTerm, pendingTerm, committedTerm, afterCommit, afterDrop, inTerm, isCommitted}
 use Rattle.model.proofs.QuestionLaws.{both-first, both-second}

@@ -10,7 +10,7 @@ use borrow.Author.Tests.{eq-eqb, eqb-true}
 use Rattle.model.specs.declared.Entry.{Entry}
 use Rattle.model.specs.declared.Entry.the-variants.{Absent, Present}
 use Rattle.model.specs.Basics.{both, either, bit, table}
-use Rattle.model.specs.Keeps.{Guard}
+use Rattle.model.specs.Guard.{Guard}
 use Rattle.model.specs.Bits.{takenApart}
 use Rattle.model.specs.Tree.{Tree, tablesIn, treeInOrder, placeAbove, Rights, allRights, Walk, meeting, onward, walkFrom, walkOf, flatAt, readsAt}
 use Rattle.model.specs.Sync.{Slot, before, sweepFrom, entryIn, stepFrom}

@@ -10,7 +10,7 @@ use lib.Pow.{mod-pow-add}
 use lib.Seq.{getD-set-same, getD-set-other, ext-getD}
 use borrow.Author.Tests.{eq-eqb, ne-eqb, eqb-true, eqb-false}
 use Rattle.model.specs.Basics.{bit, flag}
-use Rattle.model.specs.Keeps.{vectorBytes, excludedIn, byteOf, vectorOf, withBit}
+use Rattle.model.specs.Guard.{vectorBytes, hasBit, byteOf, vectorOf, withBit}
 use Rattle.model.proofs.TableLaws.{length-table, getD-table}
 
 -- What holds of 0 to 7 holds of every number below 8.
@@ -126,8 +126,8 @@ unfolding withBit
 withBit-length b x f = simp length-set
 
 -- A frame is excluded by its own bit, so that setting or clearing the bit of a frame that has one says it of that frame alone.
-pub excluded-withBit : (b : Bool) (x : List ℕ) (f : ℕ) → f / 8 < length x → (g : ℕ) → excludedIn (withBit b x f) g ≡ cond (eqb g f) b (excludedIn x g)
-unfolding excludedIn withBit
+pub excluded-withBit : (b : Bool) (x : List ℕ) (f : ℕ) → f / 8 < length x → (g : ℕ) → hasBit (withBit b x f) g ≡ cond (eqb g f) b (hasBit x g)
+unfolding hasBit withBit
 excluded-withBit b x f here g = at (eqb (g / 8) (f / 8)) refl
   where
     new : ℕ → Bool

@@ -7,7 +7,7 @@ use Rattle.model.specs.declared.Pending.{Pending}
 use Rattle.model.specs.declared.Pending.the-variants.{Nothing, Pair}
 use Rattle.model.specs.declared.Mode.{Mode}
 use Rattle.model.specs.declared.Mode.the-variants.{Kernel, User}
-use Rattle.model.specs.Keeps.{tables, Guard, guardOf, stateOf}
+use Rattle.model.specs.Guard.{tables, Guard, guardOf, stateOf}
 use Rattle.model.specs.Calls.{outcome, accepted, refused, syncPage, syncAll, syncPageTree, syncAllTree, fetch, write, enter, leave, deviceWrite, ask, commit, drop, answer}
 use Rattle.model.specs.Cases.{Case, row}
 use Rattle.model.specs.Further.{threeDevices, with6, shadow6, left6, started6, at0, stays, inState}

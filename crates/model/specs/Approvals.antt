@@ -3,7 +3,7 @@ use Prim.Native.Nat.{ℕ}
 use mathlib.Core.Bool.{Bool, cond}
 use lib.Dec.{eqb}
 use Rattle.model.specs.Basics.{both, either}
-use Rattle.model.specs.Keeps.{none}
+use Rattle.model.specs.Guard.{none}
 use Rattle.model.specs.Bits.{present, writable, frameOf, approved}
 use Rattle.model.specs.Sync.{Slot, slot}
 

@@ -13,8 +13,8 @@ use Rattle.model.specs.declared.Answer.{Answer}
 use Rattle.model.specs.declared.Answer.the-variants.{Done, Refused}
 use Rattle.model.specs.declared.Called.{Called}
 use Rattle.model.specs.Basics.{differs}
-use Rattle.model.specs.Edges.{pageBytes, lastPage}
-use Rattle.model.specs.Keeps.{none, Tables, withShadow, withMap, withExclusion, Guard, guardOf, excludedIn, withBit, inUser, modeOf, pendingFrame, isAsked, inMode, withPending}
+use Rattle.model.specs.Sizes.{pageBytes, lastPage}
+use Rattle.model.specs.Guard.{none, Tables, withShadow, withMap, withExclusion, Guard, guardOf, hasBit, withBit, inUser, modeOf, pendingFrame, isAsked, inMode, withPending}
 use Rattle.model.specs.Policy.{Givens, Policy, policyOf, startGuard, zeroState}
 use Rattle.model.specs.Bits.{frameOf}
 use Rattle.model.specs.Tree.{Tree, flatAt}
@@ -121,7 +121,7 @@ questionsOf v drop = dropQuestions v
 
 -- What the step of a page reads of the state and of the exclusion vector.
 abbrev pub rulesOf : State → List ℕ → Rules
-rulesOf s exclusion = rules (inUser (s .mode)) (s .frames) (pendingFrame (s .pending)) (excludedIn exclusion)
+rulesOf s exclusion = rules (inUser (s .mode)) (s .frames) (pendingFrame (s .pending)) (hasBit exclusion)
 
 -- "Synchronise: shadow entries whose value changed; pages that joined the map." One page:
 unfoldable pub pageSynced : Guard → ℕ → Slot → Outcome

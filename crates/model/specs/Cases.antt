@@ -9,7 +9,7 @@ use Rattle.model.specs.declared.State.{State}
 use Rattle.model.specs.declared.Mode.{Mode}
 use Rattle.model.specs.declared.Mode.the-variants.{Kernel, User}
 use Rattle.model.specs.declared.Device.{Device}
-use Rattle.model.specs.Keeps.{Guard, guardOf, inMode, stateOf}
+use Rattle.model.specs.Guard.{Guard, guardOf, inMode, stateOf}
 use Rattle.model.specs.Policy.{givenOf}
 use Rattle.model.specs.Devices.{deviceOf}
 use Rattle.model.specs.Calls.{Outcome, outcome, accepted, refused, startOf, syncPage, write, deviceWrite, answer}

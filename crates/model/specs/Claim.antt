@@ -6,8 +6,8 @@ use mathlib.Core.Path.{_≡_}
 use lib.ListN.{length, getD}
 use lib.Dec.{eqb}
 use Rattle.model.specs.declared.Device.{Device}
-use Rattle.model.specs.Edges.{pageBytes}
-use Rattle.model.specs.Keeps.{none, Tables, Guard, vectorBytes, inUser}
+use Rattle.model.specs.Sizes.{pageBytes}
+use Rattle.model.specs.Guard.{none, Tables, Guard, vectorBytes, inUser}
 use Rattle.model.specs.Policy.{Givens, Policy, policyOf}
 use Rattle.model.specs.Bits.{frameOf}
 use Rattle.model.specs.Devices.{deviceAt, inWindow}

@@ -4,8 +4,8 @@ use Prim.Native.Nat.{ℕ, _+_, _/_, _<_, _≤_}
 use mathlib.Core.List.{List, [], _∷_, _++_}
 use mathlib.Core.Path.{_≡_}
 use lib.ListN.{getD}
-use Rattle.model.specs.Edges.{pageBytes}
-use Rattle.model.specs.Keeps.{Tables, Guard}
+use Rattle.model.specs.Sizes.{pageBytes}
+use Rattle.model.specs.Guard.{Tables, Guard}
 use Rattle.model.specs.Policy.{Givens}
 use Rattle.model.specs.Bits.{frameOf}
 use Rattle.model.specs.Calls.{startOf, Call, syncPage, syncAll, syncPageTree, syncAllTree, fetch, write, enter, leave, deviceWrite, ask, commit, drop, answer}

@@ -6,7 +6,7 @@ use lib.ListN.{replicate, set, take}
 use Rattle.model.specs.declared.Pending.the-variants.{Nothing}
 use Rattle.model.specs.declared.Device.{Device}
 use Rattle.model.specs.declared.Mode.the-variants.{Kernel, User}
-use Rattle.model.specs.Keeps.{Guard, guardOf, stateOf}
+use Rattle.model.specs.Guard.{Guard, guardOf, stateOf}
 use Rattle.model.specs.Policy.{givenOf}
 use Rattle.model.specs.Devices.{deviceOf}
 use Rattle.model.specs.Tree.{treeOf}

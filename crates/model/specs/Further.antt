@@ -12,7 +12,7 @@ use Rattle.model.specs.declared.Mode.{Mode}
 use Rattle.model.specs.declared.Mode.the-variants.{Kernel, User}
 use Rattle.model.specs.declared.Answer.the-variants.{Done, Refused}
 use Rattle.model.specs.declared.Device.{Device}
-use Rattle.model.specs.Keeps.{tables, withShadow, withMap, withExclusion, Guard, guardOf, withBit, stateOf}
+use Rattle.model.specs.Guard.{tables, withShadow, withMap, withExclusion, Guard, guardOf, withBit, stateOf}
 use Rattle.model.specs.Policy.{givenOf}
 use Rattle.model.specs.Devices.{deviceOf}
 use Rattle.model.specs.Bits.{takenApart}

@@ -1,8 +1,8 @@
 -- The definitions of document 01, a file for each of its sections, in its order, each as the requests of document 02 have changed it, and a file for
 -- a request that adds to none.
 pub mod Basics
-pub mod Edges
-pub mod Keeps
+pub mod Sizes
+pub mod Guard
 pub mod Policy
 pub mod Bits
 pub mod Tree

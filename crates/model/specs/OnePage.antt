@@ -6,7 +6,7 @@ use mathlib.Core.List.{List, [], _∷_}
 use lib.ListN.{getD}
 use lib.Dec.{ltb, eqb}
 use Rattle.model.specs.Basics.{member}
-use Rattle.model.specs.Keeps.{none, Guard}
+use Rattle.model.specs.Guard.{none, Guard}
 use Rattle.model.specs.Policy.{Policy, named, entryPages}
 use Rattle.model.specs.Bits.{approved}
 use Rattle.model.specs.Tree.{flatAt}

@@ -5,7 +5,7 @@ use mathlib.Core.List.{List, [], _∷_, _++_}
 use lib.ListN.{replicate, set}
 use Rattle.model.specs.declared.Mode.{Mode}
 use Rattle.model.specs.declared.Mode.the-variants.{Kernel, User}
-use Rattle.model.specs.Keeps.{Guard, guardOf}
+use Rattle.model.specs.Guard.{Guard, guardOf}
 use Rattle.model.specs.Devices.{deviceOf}
 use Rattle.model.specs.Calls.{refused, syncPage, fetch, write, enter, leave, deviceWrite}
 use Rattle.model.specs.Cases.{Case, row}

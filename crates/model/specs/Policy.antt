@@ -8,7 +8,7 @@ use Rattle.model.specs.declared.Mode.the-variants.{Kernel, User}
 use Rattle.model.specs.declared.Pending.the-variants.{Nothing}
 use Rattle.model.specs.declared.State.{State}
 use Rattle.model.specs.Basics.{table, member}
-use Rattle.model.specs.Keeps.{none, Tables, Guard, guardOf, vectorOf, stateOf}
+use Rattle.model.specs.Guard.{none, Tables, Guard, guardOf, vectorOf, stateOf}
 use Rattle.model.specs.Bits.{approved}
 
 -- What the start is given beside the policy record: "the number of devices, 1 to 64, which the start is given" (K5).

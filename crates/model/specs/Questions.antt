@@ -9,8 +9,8 @@ use Rattle.model.specs.declared.Pending.the-variants.{Nothing, Pair}
 use Rattle.model.specs.declared.State.{State}
 use Rattle.model.specs.declared.Device.{Device}
 use Rattle.model.specs.Basics.{both, either, within, everyFrom}
-use Rattle.model.specs.Edges.{pageBytes, pagesInRange, framesInRange, devicesInRange, lastByte, lastPage, touched}
-use Rattle.model.specs.Keeps.{none, Tables, Guard, vectorBytes, excludedIn, inUser, running, isPending}
+use Rattle.model.specs.Sizes.{pageBytes, pagesInRange, framesInRange, devicesInRange, lastByte, lastPage, touched}
+use Rattle.model.specs.Guard.{none, Tables, Guard, vectorBytes, hasBit, inUser, running, isPending}
 use Rattle.model.specs.Policy.{Policy, Givens}
 use Rattle.model.specs.Tree.{Tree, treeInOrder}
 use Rattle.model.specs.Devices.{inWindow}
@@ -79,7 +79,7 @@ seen g =
       user = inUser (g .state .mode);
       shadow = λ p. getD (g .tables .shadow) p 0;
       approval = λ p. getD (g .tables .map) p none;
-      excluded = excludedIn (g .tables .exclusion);
+      excluded = hasBit (g .tables .exclusion);
       stateFits = stateInOrder (g .state);
       shadowFits = eqb (length (g .tables .shadow)) (g .state .pages);
       mapFits = eqb (length (g .tables .map)) (g .state .pages);

@@ -7,7 +7,7 @@ use lib.ListN.{getD}
 use Rattle.model.specs.declared.Entry.{Entry}
 use Rattle.model.specs.declared.Entry.the-variants.{Absent, Present}
 use Rattle.model.specs.Basics.{differs}
-use Rattle.model.specs.Keeps.{none}
+use Rattle.model.specs.Guard.{none}
 use Rattle.model.specs.Bits.{takenApart, approved, ordinary, inspected}
 
 -- What a step reads beside the kernel entry and the page's approval.

@@ -7,7 +7,7 @@ use mathlib.Core.List.{List, [], _∷_, _++_}
 use lib.ListN.{length, replicate, set}
 use Rattle.model.specs.declared.Pending.the-variants.{Nothing}
 use Rattle.model.specs.declared.Mode.the-variants.{Kernel, User}
-use Rattle.model.specs.Keeps.{tables, Guard, guardOf, stateOf}
+use Rattle.model.specs.Guard.{tables, Guard, guardOf, stateOf}
 use Rattle.model.specs.Tree.{Tree, treeOf, Walk, walkOf}
 use Rattle.model.specs.Calls.{Reply, Outcome, accepted, refused, outcome, syncPageTree, syncAllTree, answer}
 use Rattle.model.specs.Walks.{walkReply}

@@ -4,7 +4,7 @@ use mathlib.Core.Bool.{Bool, true, false, cond}
 use mathlib.Core.List.{List, [], _∷_}
 use mathlib.Core.Path.{_≡_}
 use Rattle.model.specs.Basics.{table}
-use Rattle.model.specs.Keeps.{Guard}
+use Rattle.model.specs.Guard.{Guard}
 use Rattle.model.specs.Tree.{Tree, treeInOrder, flatAt, readsAt}
 use Rattle.model.specs.Questions.{Question, question, firstNo, seen, inOrder}
 use Rattle.model.specs.Calls.{Reply, accepted, refused, settle, refusedOf, syncPage, syncAll, syncPageTree, syncAllTree, broughtBy, answer}

@@ -4,7 +4,7 @@ use mathlib.Core.List.{List}
 use mathlib.Core.Path.{_≡_}
 use lib.ListN.{length}
 use Rattle.model.specs.declared.Device.{Device}
-use Rattle.model.specs.Keeps.{Guard}
+use Rattle.model.specs.Guard.{Guard}
 use Rattle.model.specs.Devices.{deviceAt}
 use Rattle.model.specs.Calls.{Outcome, Call, deviceWrite, answer}
 
@@ -14,8 +14,8 @@ pub record SameBut (changed : ℕ) (before after : List Device) : Type 0 where
   pub others : (device : ℕ) → (device ≡ changed → ⊥) → deviceAt before device ≡ deviceAt after device
 
 -- "Changing one device's window changes no answer given to another", nor what the call leaves.
-unfoldable pub WindowsApart : Type 0
-WindowsApart =
+unfoldable pub WindowsIndependent : Type 0
+WindowsIndependent =
     (g : Guard) (changed : ℕ) (before after : List Device) → SameBut changed before after → (device address size : ℕ) → (device ≡ changed → ⊥)
     → answer g (deviceWrite before device address size) ≡ answer g (deviceWrite after device address size)
 

@@ -13,7 +13,7 @@ ghost use Rattle.model.specs.Further.{startCases, syncCases, orderCases,
 ghost use Rattle.model.specs.Orders.{startOrder, callOrder};
 ghost use Rattle.model.specs.TreeCases.{walkCases, walkRefusals, treeCases};
 ghost use Rattle.model.specs.Walks.{ReadsWithin, TreeAsFlat, TreeRefused};
-ghost use Rattle.model.specs.Windows.{WindowsApart, DevicesKept};
+ghost use Rattle.model.specs.Windows.{WindowsIndependent, DevicesKept};
 
 // Document 01, "The guard and its edges": the size of a page in bytes, and the most that V and F may be.
 pub const PAGE_BYTES: u64 = 4096;
@@ -145,8 +145,8 @@ pub fn device_cases()
 {}
 
 // Document 02, K5: "Changing one device's window changes no answer given to another", and no call changes the number of devices.
-pub fn windows_apart()
-    ensures { λ _. ⌜ WindowsApart × DevicesKept ⌝ }
+pub fn windows_independent()
+    ensures { λ _. ⌜ WindowsIndependent × DevicesKept ⌝ }
 {}
 
 // Document 02, K6: what ask, commit and drop give, and what the other calls give while a pair is pending.

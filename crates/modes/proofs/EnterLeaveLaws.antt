@@ -12,7 +12,7 @@ use Rattle.model.specs.declared.Mode.the-variants.{Kernel, User}
 use Rattle.model.specs.declared.Answer.the-variants.{Refused}
 use Rattle.model.specs.declared.Called.{Called}
 use Rattle.model.specs.Basics.{both}
-use Rattle.model.specs.Keeps.{Tables, withShadow, Guard, guardOf, inUser}
+use Rattle.model.specs.Guard.{Tables, withShadow, Guard, guardOf, inUser}
 use Rattle.model.specs.Questions.{firstNo, seen, stateInOrder, inOrder, enterQuestions, leaveQuestions}
 use Rattle.model.specs.Calls.{Outcome, outcomeBy, enter, leave, questionsOf, switchTo, effectOf, answer}
 use Rattle.model.proofs.QuestionLaws.{both-second}

@@ -5,7 +5,7 @@ ghost use mathlib.Core.Path.{_≡_};
 ghost use mathlib.Core.Bool.{true};
 ghost use Prim.Native.Nat.{_<_};
 ghost use lib.ListN.{length, getD};
-ghost use Rattle.model.specs.Keeps.{Tables, withShadow, guardOf};
+ghost use Rattle.model.specs.Guard.{Tables, withShadow, guardOf};
 ghost use Rattle.model.specs.Switch.{switchedAll};
 ghost use Rattle.model.specs.Switch;
 ghost use Rattle.model.specs.Questions.{firstNo, leavePermitted};
@@ -91,13 +91,13 @@ pub fn enter(s: State, shadow: &mut [u64], index: u64) -> Called
     ensures { λ r. ⌜ ((t : Tables) → outcomeBy r (withShadow (now (shadow .exit)) t)
         ≡ answer (guardOf s (withShadow (now (shadow .entry)) t)) (Calls.enter index)) ⌝ }
 {
-    if !questions::shadow_in_order(s, shadow.len()) {
+    if !lengths::shadow_in_order(s, shadow.len()) {
         return state::refused_call(s, 7);
     }
     let mode = s.mode;
     let user = state::in_user(mode);
-    let exists = edges::entry_exists(s, index);
-    let page = edges::entry_page(s, index);
+    let exists = limits::entry_exists(s, index);
+    let page = limits::entry_page(s, index);
     let number = refusal(exists, user, true, shadow, page as u64);
     if number != 0 {
         return state::refused_call(s, number);
@@ -109,12 +109,12 @@ pub fn leave(s: State, shadow: &mut [u64], page: u64) -> Called
     ensures { λ r. ⌜ ((t : Tables) → outcomeBy r (withShadow (now (shadow .exit)) t)
         ≡ answer (guardOf s (withShadow (now (shadow .entry)) t)) (Calls.leave page)) ⌝ }
 {
-    if !questions::shadow_in_order(s, shadow.len()) {
+    if !lengths::shadow_in_order(s, shadow.len()) {
         return state::refused_call(s, 7);
     }
     let mode = s.mode;
     let user = state::in_user(mode);
-    let exists = edges::page_exists(page, s.pages);
+    let exists = limits::page_exists(page, s.pages);
     let number = refusal(exists, !user, false, shadow, page);
     if number != 0 {
         return state::refused_call(s, number);

@@ -9,7 +9,7 @@ use lib.ListN.{length, getD, List·getD-eq-default}
 use native.Mathlib.Omega.{arith}
 use borrow.Author.Tests.{le-leb, lt-leb, eq-eqb, ne-eqb}
 use Rattle.model.specs.Basics.{both, within}
-use Rattle.model.specs.Edges.{pagesInRange, framesInRange, devicesInRange}
+use Rattle.model.specs.Sizes.{pagesInRange, framesInRange, devicesInRange}
 use Rattle.model.specs.Policy.{Policy, Givens, numberAt, numbersAt, policyOf}
 use Rattle.model.specs.Questions.{Question, question, firstNo, sizesInRange, countsInRange, rising, allBelow, policyQuestions, givensInRange, recordQuestions, Lengths, lengthsFit, startQuestions}
 use Rattle.model.proofs.QuestionLaws.{both-true, firstNo-yes, firstNo-no, firstNo-front, firstNo-back, numbered}

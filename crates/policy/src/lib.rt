@@ -7,7 +7,7 @@ ghost use Prim.Native.Nat.{_+_, _*_, _<_, _≤_, _^_, min};
 ghost use lib.Dec.{leb, ltb};
 ghost use lib.ListN.{length};
 ghost use Rattle.model.specs.Basics.{both, within};
-ghost use Rattle.model.specs.Edges.{pagesInRange, framesInRange};
+ghost use Rattle.model.specs.Sizes.{pagesInRange, framesInRange};
 ghost use Rattle.model.specs.Policy.{givenOf, numberAt, numbersAt, policyOf};
 ghost use Rattle.model.specs.Questions.{firstNo, rising, allBelow, recordQuestions};
 

@@ -3,7 +3,7 @@
 ghost use mathlib.Core.Path.{_≡_};
 ghost use Rattle.model.specs.Basics;
 ghost use Rattle.model.specs.Basics.{within};
-ghost use Rattle.model.specs.Edges.{pagesInRange, framesInRange, devicesInRange};
+ghost use Rattle.model.specs.Sizes.{pagesInRange, framesInRange, devicesInRange};
 ghost use Rattle.model.specs.Questions.{pendingInRange, stateInOrder};
 use model::ENTRY_PAGES;
 use model::MOST_DEVICES;

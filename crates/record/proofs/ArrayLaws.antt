@@ -13,7 +13,7 @@ use native.Mathlib.Numerals.{add-one}
 use native.Mathlib.Omega.{arith}
 use borrow.Author.Tests.{not-true, not-false, ltb-true, ltb-false, lt-ltb, le-ltb}
 use Rattle.model.specs.Basics.{both, within}
-use Rattle.model.specs.Edges.{pagesInRange, framesInRange}
+use Rattle.model.specs.Sizes.{pagesInRange, framesInRange}
 use Rattle.model.specs.Policy.{Policy}
 use Rattle.model.specs.Questions.{firstNo, sizesInRange, countsInRange, rising, allBelow, policyQuestions}
 use Rattle.record_model.specs.Record.{policyBy, arraysExact}

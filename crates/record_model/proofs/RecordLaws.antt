@@ -12,7 +12,7 @@ use native.Mathlib.Numerals.{add-one}
 use native.Mathlib.Omega.{arith}
 use borrow.Author.Tests.{lt-ltb, le-leb, leb-true, eq-eqb, eqb-true}
 use Rattle.model.specs.Basics.{both, either}
-use Rattle.model.specs.Keeps.{Tables}
+use Rattle.model.specs.Guard.{Tables}
 use Rattle.model.specs.Policy.{Givens, Policy, numberAt, numbersAt, policyOf, startGuard}
 use Rattle.model.specs.Questions.{firstNo, allBelow, policyQuestions, givensInRange, recordQuestions, lengthsOf, lengthsFit, startQuestions}
 use Rattle.model.specs.Calls.{accepted, outcome, startOf}

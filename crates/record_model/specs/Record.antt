@@ -7,7 +7,7 @@ use mathlib.Core.Path.{_≡_}
 use lib.ListN.{length, getD, take, drop}
 use lib.Dec.{leb, eqb}
 use Rattle.model.specs.Basics.{both}
-use Rattle.model.specs.Keeps.{Tables}
+use Rattle.model.specs.Guard.{Tables}
 use Rattle.model.specs.Policy.{Givens, Policy, policyOf, startGuard}
 use Rattle.model.specs.Questions.{Question, question, firstNo, policyQuestions, givensInRange, recordQuestions, lengthsOf, lengthsFit}
 use Rattle.model.specs.Calls.{Reply, accepted, refused, settle, outcome, startOf}

@@ -9,7 +9,7 @@ use borrow.Author.Tests.{lt-ltb, le-ltb}
 use native.Mathlib.Nat.{zero-add, sub-zero, mod-le, div-le-self}
 use native.Mathlib.Numerals.{add-one}
 use native.Mathlib.Omega.{arith}
-use Rattle.model.specs.Keeps.{excludedIn}
+use Rattle.model.specs.Guard.{hasBit}
 use Rattle.drill_model.specs.Drill.{countFrom, nearest, share}
 
 pub count-begins : (test : ℕ → Bool) (n : ℕ) → 0 + countFrom test 0 (n - 0) ≡ countFrom test 0 n
@@ -33,7 +33,7 @@ unfolding share nearest countFrom
 share-of-none exclusion p = rw p
 
 pub share-by-count : {count r : ℕ} (frames : ℕ) (exclusion : List ℕ) → r ≡ nearest (100 * count) frames
-    → count ≡ countFrom (excludedIn exclusion) 0 frames → r ≡ share frames exclusion
+    → count ≡ countFrom (hasBit exclusion) 0 frames → r ≡ share frames exclusion
 unfolding share
 share-by-count frames exclusion e p = rw (e, p)
 

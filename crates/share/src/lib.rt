@@ -3,7 +3,7 @@
 ghost use Prim.Native.Nat.{_*_, _≤_};
 ghost use mathlib.Core.Bool.{cond};
 ghost use mathlib.Core.Path.{_≡_};
-ghost use Rattle.model.specs.Keeps.{excludedIn};
+ghost use Rattle.model.specs.Guard.{hasBit};
 ghost use Rattle.drill_model.specs.Drill.{countFrom, nearest, share};
 
 // 1 where b holds, and else 0.
@@ -15,13 +15,13 @@ fn one(b: bool) -> u64
 
 // How many of the frames are excluded.
 fn excluded_count(frames: u16, exclusion: &[u8]) -> u64
-    ensures { λ r. ⌜ (r ≡ countFrom (excludedIn (now (exclusion .entry))) 0 frames) × (r ≤ frames) ⌝ }
+    ensures { λ r. ⌜ (r ≡ countFrom (hasBit (now (exclusion .entry))) 0 frames) × (r ≤ frames) ⌝ }
 {
     let mut count: u64 = 0;
     let mut frame: u64 = 0;
     let end = frames as u64;
     while frame < end {
-        count += one(bitmap::excluded(exclusion, frame));
+        count += one(bitmap::test_bit(exclusion, frame));
         frame += 1;
     }
     count

@@ -10,7 +10,7 @@ use native.Mathlib.Numerals.{add-one}
 use native.Mathlib.Omega.{arith}
 use borrow.Author.Fill.{fill-more}
 use borrow.Author.Tests.{eqb-true, eqb-false, lt-ltb, le-ltb, ltb-true, ltb-false}
-use Rattle.model.specs.Keeps.{withBit}
+use Rattle.model.specs.Guard.{withBit}
 use Rattle.model.specs.Policy.{numberAt, numbersAt}
 use Rattle.model.specs.Bits.{approved}
 use Rattle.model.specs.Questions.{allBelow}

@@ -11,8 +11,8 @@ use Rattle.model.specs.declared.Called.{Called}
 use Rattle.model.specs.declared.Answer.the-variants.{Done}
 use Rattle.model.specs.declared.Mode.the-variants.{Kernel}
 use Rattle.model.specs.declared.Pending.the-variants.{Nothing}
-use Rattle.model.specs.Edges.{devicesInRange}
-use Rattle.model.specs.Keeps.{Tables, tables, vectorBytes}
+use Rattle.model.specs.Sizes.{devicesInRange}
+use Rattle.model.specs.Guard.{Tables, tables, vectorBytes}
 use Rattle.model.specs.Policy.{Givens, numberAt, policyOf, startState, startTables, startGuard}
 use Rattle.model.specs.Questions.{firstNo, allBelow, inOrder, givensInRange, recordQuestions, Lengths, lengthsOf, lengthsFit, startQuestions}
 use Rattle.model.specs.Calls.{replyOf, outcomeBy, startOf}

@@ -8,7 +8,7 @@ use lib.ListN.{length, getD, take, replicate}
 use native.Mathlib.Omega.{arith}
 use borrow.Author.Tests.{ltb-true, ne-eqb}
 use Rattle.model.specs.Basics.{either, table, member, flag}
-use Rattle.model.specs.Keeps.{none, vectorBytes, byteOf, vectorOf, withBit}
+use Rattle.model.specs.Guard.{none, vectorBytes, byteOf, vectorOf, withBit}
 use Rattle.model.specs.Policy.{numberAt, numbersAt, policyOf, frameFor, approvalFor, named, firstEntry, entryPages, startTables}
 use Rattle.model.specs.Bits.{approved}
 use Rattle.model.specs.Questions.{allBelow}

@@ -8,7 +8,7 @@ use lib.ListN.{set}
 use Rattle.model.specs.declared.Answer.the-variants.{Done, Refused}
 use Rattle.model.specs.declared.Called.{Called}
 use Rattle.model.specs.Basics.{table}
-use Rattle.model.specs.Keeps.{withBit}
+use Rattle.model.specs.Guard.{withBit}
 use Rattle.model.specs.Policy.{Givens, numberAt, policyOf, startState, zeroState}
 use Rattle.model.specs.Bits.{approved}
 

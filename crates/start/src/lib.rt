@@ -5,7 +5,7 @@ ghost use mathlib.Core.Path.{_≡_};
 ghost use mathlib.Core.Bool.{true};
 ghost use Prim.Native.Nat.{_+_, _*_, _≤_};
 ghost use lib.ListN.{length, take, replicate};
-ghost use Rattle.model.specs.Keeps.{none, tables, vectorBytes};
+ghost use Rattle.model.specs.Guard.{none, tables, vectorBytes};
 ghost use Rattle.model.specs.Policy.{givenOf, numbersAt, policyOf, startTables};
 ghost use Rattle.model.specs.Questions.{firstNo, allBelow, lengths, startQuestions};
 ghost use Rattle.model.specs.Calls.{outcomeBy, startOf};
@@ -74,7 +74,7 @@ fn gather(bytes: &[u8], count: u16, vector: &mut [u8])
     let mut at = PAGES + 2 * count as usize;
     let mut left = count;
     while 0 < left {
-        bitmap::exclude(vector, policy::number_from(bytes, at) as u64);
+        bitmap::set_bit(vector, policy::number_from(bytes, at) as u64);
         at += 2;
         left -= 1;
     }
@@ -184,7 +184,7 @@ fn start_question(bytes: &[u8], devices: u64, shadow: usize, map: usize, exclusi
     }
     let pages = policy::number_from(bytes, 0);
     let frames = policy::number_from(bytes, 2);
-    if !questions::start_in_order(pages, frames, shadow, map, exclusion) {
+    if !lengths::start_in_order(pages, frames, shadow, map, exclusion) {
         return 7;
     }
     0

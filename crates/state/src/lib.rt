@@ -2,8 +2,8 @@
 
 ghost use mathlib.Core.Path.{_≡_};
 ghost use Rattle.model.specs.declared.Answer.the-variants.{Refused};
-ghost use Rattle.model.specs.Keeps;
-ghost use Rattle.model.specs.Keeps.{inUser, modeOf, isPending, pendingFrame, inMode, withPending};
+ghost use Rattle.model.specs.Guard;
+ghost use Rattle.model.specs.Guard.{inUser, modeOf, isPending, pendingFrame, inMode, withPending};
 use model::Answer;
 use model::Called;
 use model::Mode;
@@ -24,7 +24,7 @@ pub fn in_user(m: Mode) -> bool
 
 // The page now running.
 pub fn running(m: Mode) -> u16
-    ensures { λ r. ⌜ r ≡ Keeps.running m ⌝ }
+    ensures { λ r. ⌜ r ≡ Guard.running m ⌝ }
 {
     match m {
         Mode::Kernel(page) => page,

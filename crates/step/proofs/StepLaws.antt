@@ -12,7 +12,7 @@ use Rattle.model.specs.declared.Entry.{Entry}
 use Rattle.model.specs.declared.Entry.the-variants.{Absent, Present}
 use Rattle.model.specs.declared.Fields.{Fields}
 use Rattle.model.specs.Basics.{both, either, differs}
-use Rattle.model.specs.Keeps.{none, vectorBytes}
+use Rattle.model.specs.Guard.{none, vectorBytes}
 use Rattle.model.specs.Bits.{fieldsOf, valid, takenApart, approved, ordinaryNoExecute, ordinary, inspected}
 use Rattle.model.specs.Approvals.{maps, committedSlot}
 use Rattle.model.specs.Sync.{Rules, Slot, slot, stepOf, step, Sweep, sweep}

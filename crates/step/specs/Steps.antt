@@ -5,11 +5,11 @@ use mathlib.Core.Bool.{Bool}
 use mathlib.Core.List.{List}
 use lib.ListN.{getD, set}
 use Rattle.model.specs.Basics.{differs}
-use Rattle.model.specs.Keeps.{excludedIn}
+use Rattle.model.specs.Guard.{hasBit}
 use Rattle.model.specs.Sync.{Rules, rules, Slot, Sweep, sweep}
 
 abbrev pub rulesBy : Bool → ℕ → ℕ → List ℕ → Rules
-rulesBy user frames pending exclusion = rules user frames pending (excludedIn exclusion)
+rulesBy user frames pending exclusion = rules user frames pending (hasBit exclusion)
 
 -- The slot p stored at page i of both tables, and counted where that changed them.
 unfoldable pub stored : ℕ → Sweep → Slot → Sweep

@@ -8,7 +8,7 @@ ghost use mathlib.Core.Bool.{false};
 ghost use Prim.Native.Nat.{_+_, _<_, _≤_};
 ghost use lib.ListN.{length, getD, set};
 ghost use Rattle.model.specs.Basics.{differs};
-ghost use Rattle.model.specs.Keeps.{vectorBytes};
+ghost use Rattle.model.specs.Guard.{vectorBytes};
 ghost use Rattle.model.specs.Bits.{approved};
 ghost use Rattle.model.specs.Approvals.{committedSlot};
 ghost use Rattle.model.specs.Sync;
@@ -46,7 +46,7 @@ fn step(user: bool, frames: u16, pending: u16, exclusion: &[u8], entry: u64, app
             approval,
         };
     }
-    if bitmap::excluded_within(exclusion, x.frame) {
+    if bitmap::test_bit_within(exclusion, x.frame) {
         let frame = x.frame as u16;
         return Slot {
             entry: shadow_entry::approved(user, frame),

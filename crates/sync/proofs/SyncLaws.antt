@@ -11,7 +11,7 @@ use borrow.Author.Tests.{eqb-true, ltb-true, not-false}
 use Rattle.model.specs.declared.State.{State}
 use Rattle.model.specs.declared.Answer.the-variants.{Done, Refused}
 use Rattle.model.specs.Basics.{differs}
-use Rattle.model.specs.Keeps.{none, Tables, withThree, Guard, guardOf, vectorBytes, inUser, pendingFrame}
+use Rattle.model.specs.Guard.{none, Tables, withThree, Guard, guardOf, vectorBytes, inUser, pendingFrame}
 use Rattle.model.specs.Bits.{takenApart}
 use Rattle.model.specs.Sync.{Rules, Slot, step, Sweep, sweep, sweepFrom, entryIn, stepFrom}
 use Rattle.model.specs.Tree.{Tree, treeOf, treeInOrder, flatAt}

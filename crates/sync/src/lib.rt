@@ -11,7 +11,7 @@ ghost use mathlib.Core.Bool.{true};
 ghost use Prim.Native.Nat.{_+_, _-_, _%_, _<_, _≤_};
 ghost use lib.ListN.{length, getD};
 ghost use Rattle.model.specs.Bits.{takenApart};
-ghost use Rattle.model.specs.Keeps.{Tables, withThree, guardOf, vectorBytes};
+ghost use Rattle.model.specs.Guard.{Tables, withThree, guardOf, vectorBytes};
 ghost use Rattle.model.specs.Tree.{treeOf, treeInOrder, flatAt};
 ghost use Rattle.model.specs.Sync.{sweep, sweepFrom, entryIn, stepFrom};
 ghost use Rattle.model.specs.Calls.{keptBy, syncPage, syncAll, syncPageTree, syncAllTree, answer};
@@ -299,10 +299,10 @@ pub fn sync_page(
         ≡ answer (guardOf s (withThree (now (shadow .entry)) (now (map .entry)) (now (exclusion .entry)) t))
         (syncPage (now (kernel .entry)) page)) ⌝ }
 {
-    if !questions::sync_in_order(s, kernel.len(), shadow.len(), map.len(), exclusion.len()) {
+    if !lengths::sync_in_order(s, kernel.len(), shadow.len(), map.len(), exclusion.len()) {
         return Answer::Refused(7);
     }
-    if !edges::page_exists(page, s.pages) {
+    if !limits::page_exists(page, s.pages) {
         return Answer::Refused(9);
     }
     let i = page as usize;
@@ -338,7 +338,7 @@ pub fn sync_all(
         ≡ answer (guardOf s (withThree (now (shadow .entry)) (now (map .entry)) (now (exclusion .entry)) t))
         (syncAll (now (kernel .entry)))) ⌝ }
 {
-    if !questions::sync_in_order(s, kernel.len(), shadow.len(), map.len(), exclusion.len()) {
+    if !lengths::sync_in_order(s, kernel.len(), shadow.len(), map.len(), exclusion.len()) {
         return Answer::Refused(7);
     }
     let mode = s.mode;
@@ -368,13 +368,13 @@ pub fn sync_page_tree(
         ≡ answer (guardOf s (withThree (now (shadow .entry)) (now (map .entry)) (now (exclusion .entry)) t))
         (syncPageTree (treeOf (now (words .entry)) root depth) page)) ⌝ }
 {
-    if !questions::tree_sync_in_order(s, shadow.len(), map.len(), exclusion.len()) {
+    if !lengths::three_tables_in_order(s, shadow.len(), map.len(), exclusion.len()) {
         return Answer::Refused(7);
     }
     if !tree::in_order(words, root, depth) {
         return Answer::Refused(17);
     }
-    if !edges::page_exists(page, s.pages) {
+    if !limits::page_exists(page, s.pages) {
         return Answer::Refused(9);
     }
     let part = tree::part_of(words, root, depth, page);
@@ -414,7 +414,7 @@ pub fn sync_all_tree(
         ≡ answer (guardOf s (withThree (now (shadow .entry)) (now (map .entry)) (now (exclusion .entry)) t))
         (syncAllTree (treeOf (now (words .entry)) root depth))) ⌝ }
 {
-    if !questions::tree_sync_in_order(s, shadow.len(), map.len(), exclusion.len()) {
+    if !lengths::three_tables_in_order(s, shadow.len(), map.len(), exclusion.len()) {
         return Answer::Refused(7);
     }
     if !tree::in_order(words, root, depth) {

@@ -14,8 +14,8 @@ use Rattle.model.specs.declared.Device.{Device}
 use Rattle.model.specs.declared.Answer.{Answer}
 use Rattle.model.specs.declared.Answer.the-variants.{Done, Refused}
 use Rattle.model.specs.Basics.{both, within, everyFrom}
-use Rattle.model.specs.Edges.{lastByte, lastPage, touched}
-use Rattle.model.specs.Keeps.{Tables, withExclusion, guardOf, vectorBytes, excludedIn}
+use Rattle.model.specs.Sizes.{lastByte, lastPage, touched}
+use Rattle.model.specs.Guard.{Tables, withExclusion, guardOf, vectorBytes, hasBit}
 use Rattle.model.specs.Devices.{deviceAt, inWindow}
 use Rattle.model.specs.Questions.{Question, question, firstNo, View, seen, stateInOrder, inOrder, free, everyTouched, deviceWriteQuestions}
 use Rattle.model.specs.Calls.{replyOf, outcomeBy, keptBy, deviceWrite, questionsOf, effectOf, answer}
@@ -27,7 +27,7 @@ use Rattle.model.proofs.TouchLaws.{last-page-below, first-up-to-last, every-sam
 use Rattle.transfer.specs.TransferView.{transferView}
 
 abbrev pub freeFrom : List ℕ → ℕ → ℕ → Bool
-freeFrom exclusion frame left = everyFrom (λ f. not (excludedIn exclusion f)) frame left
+freeFrom exclusion frame left = everyFrom (λ f. not (hasBit exclusion f)) frame left
 
 -- Where every touched frame is below F, question 13 asks for exclusion alone.
 transfer-free : (listed frames address length : ℕ) (exclusion : List ℕ) → address / 4096 ≤ lastPage address length → lastPage address length < frames
@@ -35,7 +35,7 @@ transfer-free : (listed frames address length : ℕ) (exclusion : List ℕ) → 
     ≡ freeFrom exclusion (address / 4096) (suc (lastPage address length - address / 4096))
 unfolding everyTouched touched free both
 transfer-free listed frames address length exclusion p q =
-    every-same (free (transferView listed frames exclusion)) (λ f. not (excludedIn exclusion f)) (address / 4096) (suc (lastPage address length - address / 4096))
+    every-same (free (transferView listed frames exclusion)) (λ f. not (hasBit exclusion f)) (address / 4096) (suc (lastPage address length - address / 4096))
     (λ f l h. rw (lt-ltb f frames (omega arith)) refl)
 
 -- A transfer lies in a window where the window begins at its first frame or below, and ends at its last or above: the other ends follow.

@@ -6,7 +6,7 @@ ghost use mathlib.Core.List.{List};
 ghost use Prim.Native.Nat.{_≤_, _<_};
 ghost use lib.ListN.{length};
 ghost use Rattle.model.specs.Basics;
-ghost use Rattle.model.specs.Keeps.{Tables, withExclusion, guardOf, vectorBytes};
+ghost use Rattle.model.specs.Guard.{Tables, withExclusion, guardOf, vectorBytes};
 ghost use Rattle.model.specs.declared.Device.{Device};
 ghost use Rattle.model.specs.Devices.{deviceAt, inWindow};
 ghost use Rattle.model.specs.Questions.{firstNo, deviceWriteQuestions};
@@ -40,21 +40,21 @@ fn device_write_refusal(
     requires { ⌜ lib.ListN.length (now exclusion) ≡ vectorBytes frames ⌝ }
     ensures { λ r. ⌜ r ≡ firstNo (deviceWriteQuestions (transferView listed frames (now (exclusion .entry))) listed window device address length) ⌝ }
 {
-    if !edges::device_length(length) {
+    if !limits::device_length(length) {
         return 8;
     }
     if listed as u64 <= device {
         return 18;
     }
-    if !edges::transfer_exists(address, length, frames) {
+    if !limits::transfer_exists(address, length, frames) {
         return 9;
     }
     let first = address / PAGE_BYTES;
-    let last = edges::last_page(address, length);
+    let last = limits::last_page(address, length);
     if !in_window(window, first, last) {
         return 19;
     }
-    if !bitmap::none_excluded(exclusion, first, last) {
+    if !bitmap::none_set(exclusion, first, last) {
         return 13;
     }
     0
@@ -75,13 +75,13 @@ pub fn device_write(
         → keptBy r s (withExclusion (now (exclusion .entry)) t)
         ≡ answer (guardOf s (withExclusion (now (exclusion .entry)) t)) (deviceWrite devices device address length)) ⌝ }
 {
-    if !questions::device_write_in_order(s, exclusion.len(), listed) {
+    if !lengths::device_write_in_order(s, exclusion.len(), listed) {
         return Answer::Refused(7);
     }
     let number = device_write_refusal(s.frames, exclusion, listed, window, device, address, length);
     if number != 0 {
         return Answer::Refused(number);
     }
-    let last = edges::last_page(address, length);
+    let last = limits::last_page(address, length);
     Answer::Done(address / PAGE_BYTES, last)
 }

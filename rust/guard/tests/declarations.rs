@@ -1,4 +1,4 @@
-//! The declarations of src/archive.rs fit the exported functions of crates/exports, its constants those of crates/words, and its struct
+//! The declarations of src/archive.rs fit the exported functions of crates/exports, its constants those of crates/decode, and its struct
 //! that of crates/model.
 //! Names of parameters are compared too: of two runs of one type, only the name tells which comes first.
 
@@ -130,7 +130,7 @@ fn constants(source: &str) -> Vec<(String, String)> {
 
 #[test]
 fn the_layout_is_that_of_the_rattle_source() {
-    let expected = constants(&read("crates/words/src/lib.rt"));
+    let expected = constants(&read("crates/decode/src/lib.rt"));
     assert!(!expected.is_empty());
     assert_eq!(constants(&read("rust/guard/src/archive.rs")), expected);
 }

@@ -7,8 +7,8 @@ use Rattle.access.proofs.frame_free.Tie as tie
 returns : tie.Need-returns
 returns c = search (needs, frame-above)
 
-excluded-within-requires : tie.Need-excluded-within-requires
-excluded-within-requires c κs = search (needs, frame-in)
+test-bit-within-requires : tie.Need-test-bit-within-requires
+test-bit-within-requires c κs = search (needs, frame-in)
 
 returns-2 : tie.Need-returns-2
 returns-2 c = search (needs, frame-below)
@@ -16,4 +16,4 @@ returns-2 c = search (needs, frame-below)
 pub frame-free-spec : {M : Type 1} → statement M
 frame-free-spec =
     tie.close
-    (tie.spec returns excluded-within-requires returns-2)
+    (tie.spec returns test-bit-within-requires returns-2)

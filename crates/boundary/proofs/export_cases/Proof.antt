@@ -4,7 +4,7 @@ use Rattle.model.specs.Cases.{row, Hold}
 use Rattle.model.specs.Further.{twoEntries, threeDevices, sixPages, with6, shadow6, started6}
 use Rattle.record_model.proofs.Computed.{computed}
 use Rattle.model.proofs.CaseLaws.{hold}
-use Rattle.words.specs.Words.{narrow, field, entryPagesIn, pendingIn, pendingWords, stateIn, modeWord, wordsOf, withWords, overwritten, withNumbers, runsFit, lendable, runAfter, runStarted}
+use Rattle.decode.specs.Words.{narrow, field, entryPagesIn, pendingIn, pendingWords, stateIn, modeWord, wordsOf, withWords, overwritten, withNumbers, runsFit, lendable, runAfter, runStarted}
 use Rattle.boundary.specs.Boundary.{replied, startAt, callAt, recordAt, walkAt}
 use Rattle.boundary.specs.ExportCases.{listed3, exportCases, lastTable, shortTable, walkExportCases, runWith, callExportCases}
 use Rattle.boundary.proofs.export_cases.Statement.{statement}

@@ -10,7 +10,7 @@ use borrow.Author.Tests.{lt-ltb}
 use native.Mathlib.Omega.{arith}
 use Rattle.model.specs.declared.Pending.the-variants.{Pair}
 use Rattle.model.specs.declared.State.{State}
-use Rattle.model.specs.Keeps.{Tables, Guard, guardOf, running, modeOf, inMode, withPending}
+use Rattle.model.specs.Guard.{Tables, Guard, guardOf, running, modeOf, inMode, withPending}
 use Rattle.model.specs.Questions.{firstNo, seen, pendingInRange}
 use Rattle.model.specs.Calls.{settle, Outcome, refusedOf, Call, syncPage, syncAll, syncPageTree, syncAllTree, fetch, write, enter, leave, deviceWrite, ask, commit, drop, broughtBy, questionsOf, effectOf, answer, pageSynced, allSynced, pageFrom, allFrom, switchTo, bitPut, pairCommitted}
 use Rattle.model.proofs.StateLaws.{inUser-modeOf, running-modeOf}
@@ -18,8 +18,8 @@ use Rattle.model.proofs.CallLaws.{effect-reply, effect-state, effect-runs}
 use Rattle.model.proofs.AcceptedLaws.{ask-page, ask-frame}
 use Rattle.model.proofs.QuestionLaws.{both-yes}
 use Rattle.model.proofs.TableLaws.{length-table}
-use Rattle.words.specs.Words.{stateWords, pagesAt, framesAt, entryWords, modeAt, runningAt, entryPagesIn, stateIn, field, numbersBy, modePlaces, pendingPlaces, changedBy, withWords, lendable, runAfter}
-use Rattle.words.proofs.WordLaws.{narrow-below, run-lent}
+use Rattle.decode.specs.Words.{stateWords, pagesAt, framesAt, entryWords, modeAt, runningAt, entryPagesIn, stateIn, field, numbersBy, modePlaces, pendingPlaces, changedBy, withWords, lendable, runAfter}
+use Rattle.decode.proofs.WordLaws.{narrow-below, run-lent}
 use Rattle.encode.proofs.StateLaws.{mode-decoded, page-decoded, pending-decoded}
 use Rattle.boundary.specs.Boundary.{replied, callAt, StateHeld}
 use Rattle.boundary.proofs.state_held.Statement.{statement}

@@ -5,7 +5,7 @@ use lib.ListN.{length, length-set}
 use lib.Seq.{paste, paste-zero}
 use borrow.Author.Needs.{needs}
 use native.Mathlib.Omega.{arith}
-use Rattle.words.specs.Words.{entryPagesAt, entryWords}
+use Rattle.decode.specs.Words.{entryPagesAt, entryWords}
 use Rattle.encode.proofs.RunLaws.{paste-more, paste-over}
 use Rattle.encode.proofs.put_entry_pages.Statement.{statement}
 use Rattle.encode.proofs.put_entry_pages.Tie as tie

@@ -1,7 +1,7 @@
 -- `encode::put_state` meets its contract.
 use mathlib.Core.Path.{ap, _∙_}
 use borrow.Author.Needs.{needs}
-use Rattle.words.specs.Words.{stateIn}
+use Rattle.decode.specs.Words.{stateIn}
 use Rattle.encode.proofs.StateLaws.{words-written, words-decoded}
 use Rattle.encode.proofs.put_state.Statement.{statement}
 use Rattle.encode.proofs.put_state.Tie as tie

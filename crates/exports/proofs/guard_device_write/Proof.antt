@@ -38,8 +38,8 @@ use denote.Triple.Table.{entered, cited}
 use denote.Triple.Walked.{says, Stays, gave-slice, stay-none-slice, stay-none, walkOf, goes-gave-slice, goes-none-slice, goes-none, Walks, ends-at, walked, walk-meets}
 use denote.Exit.{yes}
 use Rattle.model.specs.declared.Device.{Device}
-use Rattle.model.specs.Keeps as Keeps
-use Rattle.model.specs.Keeps.{withExclusion}
+use Rattle.model.specs.Guard as Guards
+use Rattle.model.specs.Guard.{withExclusion}
 use Rattle.model.specs.Devices.{deviceAt}
 use Rattle.model.specs.Calls.{deviceWrite}
 use Rattle.model.proofs.Device as T
@@ -124,7 +124,7 @@ module _ {M : Type 1} (𝓤 : URA M) (H : Heap 𝓤) (A : Atoms 𝓤) (W : Given
   -- what the function says of its result and of the numbers run at its exit
   abbrev Says : ℕ → List ℕ → Type 0
   Says r zs =
-      (t : Keeps.Tables) → returned r (s₀ .now) zs (withExclusion (e₀ .now) t)
+      (t : Guards.Tables) → returned r (s₀ .now) zs (withExclusion (e₀ .now) t)
       ≡ callAt (s₀ .now) (n₀ .now) (withExclusion (e₀ .now) t) (deviceWrite ys i address size)
 
   exits : (r : ℕ) (zs : List ℕ) → r < 2 ^ 64 → length zs ≡ length (n₀ .now) → Says r zs
@@ -185,7 +185,7 @@ module _ {M : Type 1} (𝓤 : URA M) (H : Heap 𝓤) (A : Atoms 𝓤) (W : Given
   -- what it says, of every list so long and with this record for the device
   abbrev Said : Device → ℕ → List ℕ → Type 0
   Said d r zs =
-      (t : Keeps.Tables) (devices : List Device) → length devices ≡ length ys → (i < length ys → deviceAt devices i ≡ d) → returned r (s₀ .now) zs (withExclusion (e₀ .now) t)
+      (t : Guards.Tables) (devices : List Device) → length devices ≡ length ys → (i < length ys → deviceAt devices i ≡ d) → returned r (s₀ .now) zs (withExclusion (e₀ .now) t)
       ≡ callAt (s₀ .now) (n₀ .now) (withExclusion (e₀ .now) t) (deviceWrite devices i address size)
 
   abbrev Lasts : Type 0

@@ -7,7 +7,7 @@ use borrow.Author.Needs.{needs}
 use Rattle.model.specs.declared.Answer.the-variants.{Done}
 use Rattle.model.specs.declared.Mode.{Mode}
 use Rattle.model.specs.declared.State.{State}
-use Rattle.model.specs.Keeps.{Tables, withShadow, guardOf, inUser, inMode}
+use Rattle.model.specs.Guard.{Tables, withShadow, guardOf, inUser, inMode}
 use Rattle.model.specs.Switch.{switchedAll, changes}
 use Rattle.model.specs.Calls.{replyOf, outcomeBy, switchTo}
 use Rattle.modes.proofs.switch_to.Statement.{statement}

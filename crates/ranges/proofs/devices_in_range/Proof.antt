@@ -1,5 +1,5 @@
 -- `ranges::devices_in_range` meets its contract.
-use Rattle.model.specs.Edges.{devicesInRange}
+use Rattle.model.specs.Sizes.{devicesInRange}
 use borrow.Author.Needs.{needs}
 use Rattle.ranges.proofs.devices_in_range.Statement.{statement}
 use Rattle.ranges.proofs.devices_in_range.Tie as tie

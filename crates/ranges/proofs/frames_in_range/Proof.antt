@@ -1,5 +1,5 @@
 -- `ranges::frames_in_range` meets its contract.
-use Rattle.model.specs.Edges.{framesInRange}
+use Rattle.model.specs.Sizes.{framesInRange}
 use borrow.Author.Needs.{needs}
 use Rattle.ranges.proofs.frames_in_range.Statement.{statement}
 use Rattle.ranges.proofs.frames_in_range.Tie as tie

@@ -1,5 +1,5 @@
 -- `ranges::pages_in_range` meets its contract.
-use Rattle.model.specs.Edges.{pagesInRange}
+use Rattle.model.specs.Sizes.{pagesInRange}
 use borrow.Author.Needs.{needs}
 use Rattle.ranges.proofs.pages_in_range.Statement.{statement}
 use Rattle.ranges.proofs.pages_in_range.Tie as tie

@@ -3,7 +3,7 @@ use Prim.Native.Nat.{_+_, _-_, _≤_}
 use mathlib.Core.Path.{_≡_}
 use native.Mathlib.Omega.{arith}
 use borrow.Author.Needs.{needs}
-use Rattle.model.specs.Keeps.{excludedIn}
+use Rattle.model.specs.Guard.{hasBit}
 use Rattle.drill_model.specs.Drill.{countFrom}
 use Rattle.share.proofs.CountLaws.{count-begins, count-more, count-over}
 use Rattle.share.proofs.excluded_count.Statement.{statement}
@@ -11,7 +11,7 @@ use Rattle.share.proofs.excluded_count.Tie as tie
 
 abbrev Inv-loop : tie.InvT-loop
 Inv-loop frames exclusion count₀ frame₀ end count frame =
-    (count + countFrom (excludedIn exclusion) frame (end - frame) ≡ countFrom (excludedIn exclusion) 0 end) × (frame ≤ end) × (count ≤ frame)
+    (count + countFrom (hasBit exclusion) frame (end - frame) ≡ countFrom (hasBit exclusion) 0 end) × (frame ≤ end) × (count ≤ frame)
 
 abbrev μ-loop : tie.MeasureT-loop
 μ-loop frames exclusion count₀ frame₀ end count frame = end - frame
@@ -19,8 +19,8 @@ abbrev μ-loop : tie.MeasureT-loop
 loop-holds : tie.Need-loop-holds Inv-loop μ-loop
 loop-holds c = search (needs, count-begins)
 
-excluded-requires : tie.Need-excluded-requires Inv-loop μ-loop
-excluded-requires c κs = search needs
+test-bit-requires : tie.Need-test-bit-requires Inv-loop μ-loop
+test-bit-requires c κs = search needs
 
 one-requires : tie.Need-one-requires Inv-loop μ-loop
 one-requires c κs = search needs
@@ -43,4 +43,4 @@ returns c = search (needs, count-over)
 pub excluded-count-spec : {M : Type 1} → statement M
 excluded-count-spec =
     tie.close
-    (tie.spec Inv-loop μ-loop loop-holds excluded-requires one-requires add-count add-frame loop-less loop-again returns)
+    (tie.spec Inv-loop μ-loop loop-holds test-bit-requires one-requires add-count add-frame loop-less loop-again returns)

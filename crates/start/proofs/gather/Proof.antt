@@ -22,7 +22,7 @@ loop-again c = (
   search needs,
   search needs,
   gather-step _ _ _ _ _ _ _ (c .before .before .before .before .before .before .loop .inv .2) (c .before .before .before .number-from .ensures)
-      (c .before .before .before .before .before .loop-test .taken) (c .before .before .exclude .ensures),
+      (c .before .before .before .before .before .loop-test .taken) (c .before .before .set-bit .ensures),
 )
 
 returns : tie.Need-returns Inv-loop μ-loop

@@ -1,5 +1,5 @@
 -- `state::in_mode` meets its contract.
-use Rattle.model.specs.Keeps.{inMode}
+use Rattle.model.specs.Guard.{inMode}
 use mathlib.Core.Path.{refl}
 use Rattle.state.proofs.in_mode.Statement.{statement}
 use Rattle.state.proofs.in_mode.Tie as tie

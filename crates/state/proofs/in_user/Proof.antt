@@ -1,5 +1,5 @@
 -- `state::in_user` meets its contract.
-use Rattle.model.specs.Keeps.{inUser}
+use Rattle.model.specs.Guard.{inUser}
 use borrow.Author.Needs.{needs}
 use Rattle.state.proofs.in_user.Statement.{statement}
 use Rattle.state.proofs.in_user.Tie as tie

@@ -1,5 +1,5 @@
 -- `state::is_pending` meets its contract.
-use Rattle.model.specs.Keeps.{isPending}
+use Rattle.model.specs.Guard.{isPending}
 use borrow.Author.Needs.{needs}
 use Rattle.state.proofs.is_pending.Statement.{statement}
 use Rattle.state.proofs.is_pending.Tie as tie

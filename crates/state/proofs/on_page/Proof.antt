@@ -1,5 +1,5 @@
 -- `state::on_page` meets its contract.
-use Rattle.model.specs.Keeps.{inUser, modeOf}
+use Rattle.model.specs.Guard.{inUser, modeOf}
 use borrow.Author.Needs.{needs}
 use Rattle.state.proofs.on_page.Statement.{statement}
 use Rattle.state.proofs.on_page.Tie as tie

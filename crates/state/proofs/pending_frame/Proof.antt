@@ -1,5 +1,5 @@
 -- `state::pending_frame` meets its contract.
-use Rattle.model.specs.Keeps.{pendingFrame}
+use Rattle.model.specs.Guard.{pendingFrame}
 use borrow.Author.Needs.{needs}
 use Rattle.state.proofs.pending_frame.Statement.{statement}
 use Rattle.state.proofs.pending_frame.Tie as tie

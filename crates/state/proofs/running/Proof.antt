@@ -1,5 +1,5 @@
 -- `state::running` meets its contract.
-use Rattle.model.specs.Keeps.{running}
+use Rattle.model.specs.Guard.{running}
 use borrow.Author.Needs.{needs}
 use Rattle.state.proofs.running.Statement.{statement}
 use Rattle.state.proofs.running.Tie as tie

@@ -1,5 +1,5 @@
 -- `state::with_pending` meets its contract.
-use Rattle.model.specs.Keeps.{withPending}
+use Rattle.model.specs.Guard.{withPending}
 use mathlib.Core.Path.{refl}
 use Rattle.state.proofs.with_pending.Statement.{statement}
 use Rattle.state.proofs.with_pending.Tie as tie

@@ -19,8 +19,8 @@ inspected-of-requires c κs = search (needs, step-valid)
 returns-4 : tie.Need-returns-4
 returns-4 c = search (needs, step-pending)
 
-excluded-within-requires : tie.Need-excluded-within-requires
-excluded-within-requires c κs = search (needs, frame-in)
+test-bit-within-requires : tie.Need-test-bit-within-requires
+test-bit-within-requires c κs = search (needs, frame-in)
 
 returns-5 : tie.Need-returns-5
 returns-5 c = search (needs, step-excluded)
@@ -35,5 +35,5 @@ pub step-spec : {M : Type 1} → statement M
 step-spec =
     tie.close
     (tie.spec (λ c κs. search needs) (λ c. search needs) (λ c. search needs) returns (λ c κs. search needs) returns-2
-    returns-3 inspected-of-requires returns-4 excluded-within-requires (λ c. search needs) (λ c κs. search needs)
+    returns-3 inspected-of-requires returns-4 test-bit-within-requires (λ c. search needs) (λ c κs. search needs)
     returns-5 ordinary-of-requires returns-6)

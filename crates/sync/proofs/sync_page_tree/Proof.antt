@@ -21,7 +21,7 @@ part-of-requires c κs = tree-yes _ _ _ _ (c .before .before .before .in-order .
 
 sync-at-requires : tie.Need-sync-at-requires
 sync-at-requires c κs =
-    let seven = c .before .before .before .before .before .before .before .before .before .before .before .before .tree-sync-in-order .ensures in
+    let seven = c .before .before .before .before .before .before .before .before .before .before .before .before .three-tables-in-order .ensures in
     let nine = c .before .before .before .before .before .before .before .before .page-exists .ensures in (
       tree-page-shadow _ _ _ _ _ seven (c .before .before .before .before .before .before .before .before .before .before .before .if1 .left) _ _ nine (c .before .before .before .before .before .before .before .if3 .left),
       tree-page-map _ _ _ _ _ seven (c .before .before .before .before .before .before .before .before .before .before .before .if1 .left) _ _ nine (c .before .before .before .before .before .before .before .if3 .left),
@@ -34,7 +34,7 @@ returns-4 : tie.Need-returns-4
 returns-4 c =
     let part = c .before .before .before .before .before .before .before .before .before .before .before .part-of .ensures .1 _ refl in
     let apart = c .before .before .before .before .before .before .before .narrow .ensures ∙ ap takenApart (c .before .before .before .before .before .before .before .before .before .before .last-in .ensures ∙ sym (part .0)) in
-    page-tree-accepted _ _ _ _ _ _ _ _ (c .before .before .before .before .before .before .before .before .before .before .before .before .before .before .before .before .before .tree-sync-in-order .ensures) (c .before .before .before .before .before .before .before .before .before .before .before .before .before .before .before .before .if1 .left) _ (c .before .before .before .before .before .before .before .before .before .before .before .before .before .before .before .in-order .ensures) (c .before .before .before .before .before .before .before .before .before .before .before .before .before .before .if2 .left) _ _
+    page-tree-accepted _ _ _ _ _ _ _ _ (c .before .before .before .before .before .before .before .before .before .before .before .before .before .before .before .before .before .three-tables-in-order .ensures) (c .before .before .before .before .before .before .before .before .before .before .before .before .before .before .before .before .if1 .left) _ (c .before .before .before .before .before .before .before .before .before .before .before .before .before .before .before .in-order .ensures) (c .before .before .before .before .before .before .before .before .before .before .before .before .before .before .if2 .left) _ _
     (c .before .before .before .before .before .before .before .before .before .before .before .before .before .page-exists .ensures) _ _ _ _ _ _ _ (c .before .before .before .before .before .before .before .before .before .before .before .before .if3 .left) (c .before .before .before .before .before .before .before .before .before .in-user .ensures) (c .before .before .before .before .before .before .before .before .pending-frame .ensures) apart (c .before .before .before .before .sync-at .ensures .0)
 
 pub sync-page-tree-spec : {M : Type 1} → statement M

@@ -30,8 +30,8 @@ in-window-requires c κs =
 returns-4 : tie.Need-returns-4
 returns-4 c = search (needs, transfer-outside)
 
-none-excluded-requires : tie.Need-none-excluded-requires
-none-excluded-requires c κs =
+none-set-requires : tie.Need-none-set-requires
+none-set-requires c κs =
     let b = c .before .before .before in
     let d = b .before .before in
     let a = d .before .before .before .before .args in
@@ -48,4 +48,4 @@ pub device-write-refusal-spec : {M : Type 1} → statement M
 device-write-refusal-spec =
     tie.close
     (tie.spec (λ c κs. search needs) returns returns-2 (λ c κs. search needs) returns-3 last-page-requires
-    in-window-requires returns-4 none-excluded-requires returns-5 returns-6)
+    in-window-requires returns-4 none-set-requires returns-5 returns-6)

@@ -1,0 +1,12 @@
+-- `drill_calls::goes_on` meets its contract.
+use borrow.Author.Needs.{needs}
+use Rattle.drill_calls.specs.Turns.{goesOn}
+use Rattle.drill_calls.proofs.goes_on.Statement.{statement}
+use Rattle.drill_calls.proofs.goes_on.Tie as tie
+
+returns : tie.Need-returns
+unfolding goesOn
+returns c = search needs
+
+pub goes-on-spec : {M : Type 1} → statement M
+goes-on-spec = tie.close (tie.spec returns)
