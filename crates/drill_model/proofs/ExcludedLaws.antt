@@ -1,6 +1,6 @@
 -- K7: a started drill has a frame excluded, and its output ends with the start's share.
 use Prim.Native.Nat.{ℕ, zero, suc, _+_, _≤_, _<_}
-use mathlib.Core.Bool.{Bool, true, false, cond}
+use mathlib.Core.Bool.{Bool, true, cond}
 use mathlib.Core.List.{List, [], _∷_, _++_, append-assoc}
 use mathlib.Core.Logic.{_⊎_, inl, inr}
 use mathlib.Core.Path.{_≡_, refl, sym, ap, subst, _∙_}
@@ -8,17 +8,15 @@ use lib.Dec.{eqb}
 use lib.ListN.{length, take, drop, replicate}
 use native.Mathlib.Nat.{eq-or-lt-of-le}
 use native.Mathlib.Omega.{arith}
-use Rattle.model.specs.Basics.{either, member}
+use Rattle.model.specs.Basics.{member}
 use Rattle.model.specs.Guard.{Tables, Guard, vectorBytes, hasBit, inMode}
-use Rattle.model.specs.Policy.{policyOf, named, startGuard}
+use Rattle.model.specs.Policy.{policyOf, named, startState, startTables, startGuard}
 use Rattle.model.specs.Questions.{firstNo, seen, Lengths, lengthsOf, allBelow, startQuestions}
 use Rattle.model.specs.Calls.{Outcome, settle, startOf, Call, syncPage, syncAll, fetch, write, enter, leave, deviceWrite, broughtBy, questionsOf, pageFrom, allFrom, pageSynced, allSynced, switchTo, effectOf, refusedOf, answer}
-use Rattle.model.specs.Terms.{firstTerms, protected}
 use Rattle.model.proofs.PolicyLaws.{Passed, start-passed, length-numbersAt, allBelow-member, member-here}
 use Rattle.model.proofs.QuestionLaws.{settle-accepted, settle-refused}
-use Rattle.model.proofs.Invariant.{Invariant}
-use Rattle.model.proofs.ClaimPages.{cond-cases}
-use Rattle.model.proofs.ClaimStart.{start-kept}
+use Rattle.model.proofs.SyncLaws.{cond-cases}
+use Rattle.model.proofs.VectorLaws.{vectorOf-bit}
 use Rattle.drill_model.specs.Drill.{policyExtent, Drill, drillGiven, drillStart, begun, kindOf, indexOf, lengthOf, valueOf, Drilled, withGuard, edited, callOf, performed, startLine, Turn, turnOf, turn, entryLines, countFrom, shareLine, closing, callLimit, callLines, drillOutput}
 use Rattle.drill_model.specs.Share.{SomeExcluded, EndsWith, ShareLast}
 
@@ -44,21 +42,19 @@ module _ (bytes : List ℕ) (l : Lengths) (accepted : firstNo (startQuestions dr
   passed : Passed (policyOf bytes)
   passed = start-passed drillGiven bytes (policyOf bytes) l accepted
 
-  kept : Invariant (policyOf bytes) firstTerms (startGuard drillGiven (policyOf bytes))
-  kept = start-kept drillGiven bytes l accepted
-
   some-frame : 1 ≤ length (policyOf bytes .listedFrames)
   unfolding policyOf
   some-frame = rw length-numbersAt (passed .count-low)
 
   listed-excluded : (f : ℕ) → member f (policyOf bytes .listedFrames) ≡ true
       → hasBit (startGuard drillGiven (policyOf bytes) .tables .exclusion) f ≡ true
-  unfolding protected named either
-  listed-excluded f m = kept .excluded f ∙ rw m refl
+  unfolding startGuard startTables named
+  listed-excluded f m =
+      vectorOf-bit (policyOf bytes .frames) (named (policyOf bytes)) (λ g e. allBelow-member (policyOf bytes .frames) g (policyOf bytes .listedFrames) (passed .frames-below) e) f ∙ m
 
   started-some : 1 ≤ countFrom (hasBit (startGuard drillGiven (policyOf bytes) .tables .exclusion)) 0 (startGuard drillGiven (policyOf bytes) .state .frames)
+  unfolding startGuard startState
   started-some =
-      rw (kept .frames)
       (some-listed (policyOf bytes .listedFrames) _ (policyOf bytes .frames) some-frame (passed .frames-below)
       listed-excluded)
 

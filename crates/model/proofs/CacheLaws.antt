@@ -11,7 +11,7 @@ use Rattle.model.specs.Bits.{present, writable, writeThrough, cacheDisab
 use Rattle.model.specs.Sync.{Slot}
 use Rattle.model.specs.Cache.{ApartYields, isOrdinary, StepCarries, StepWrites}
 use Rattle.model.proofs.BitLaws.{bit-above, fields-apart, approvedMark-approved, approved-none, present-ordinary, writable-ordinary, approvedMark-ordinary, inspected-keeps, ordinary-carries}
-use Rattle.model.proofs.ClaimPages.{step-cases}
+use Rattle.model.proofs.SyncLaws.{step-cases}
 
 pub apart-yields : ApartYields
 unfolding fieldsOf writeThrough cacheDisable

@@ -13,13 +13,6 @@ pub mod AcceptedLaws
 pub mod SweepLaws
 pub mod SwitchLaws
 pub mod TreeLaws
-pub mod TermLaws
-pub mod ClaimPages
+pub mod SyncLaws
 mod CacheLaws
 mod DeviceLaws
-pub mod Invariant
-pub mod ClaimCalls
-pub mod ClaimSafe
-pub mod ClaimStart
-pub mod ClaimLists
-mod CommittingLaws

@@ -3,12 +3,12 @@ use Prim.Native.Nat.{ℕ, zero, suc, _+_, _≤_, _<_}
 use mathlib.Core.Bool.{Bool, true, false, cond}
 use mathlib.Core.List.{List}
 use mathlib.Core.Path.{_≡_, refl, sym, ap, _∙_}
-use lib.Dec.{eqb}
-use lib.ListN.{length, getD, set, take, replicate, length-set, length-replicate, getD-replicate}
+use lib.Dec.{ltb, eqb}
+use lib.ListN.{length, getD, set, take, replicate, length-set, length-replicate, getD-replicate, List·getD-eq-default}
 use lib.Seq.{ext-getD, getD-set-same, getD-set-other, getD-take, length-take-le}
 use native.Mathlib.Nat.{add-zero, zero-add, le-of-suc-le-suc}
 use native.Mathlib.Omega.{arith}
-use borrow.Author.Tests.{eqb-true, eqb-false}
+use borrow.Author.Tests.{ltb-true, ltb-false, eqb-true, eqb-false}
 use Rattle.model.specs.Basics.{tableFrom, table}
 
 length-from : (f : ℕ → ℕ) (first count : ℕ) → length (tableFrom f first count) ≡ count
@@ -67,3 +67,21 @@ take-table m count f h =
 pub table-const : (count v : ℕ) → replicate count v ≡ table count (λ _. v)
 table-const count v =
     is-table (replicate count v) count (λ _. v) (length-replicate count v) (λ i below. getD-replicate count i v 0 below)
+
+-- A test that holds only below a limit fails past it.
+pub past-no : (test : ℕ → Bool) (limit : ℕ) → ((x : ℕ) → test x ≡ true → x < limit) → (x : ℕ) → limit ≤ x → test x ≡ false
+past-no test limit below x past = at (test x) refl
+  where
+    at : (b : Bool) → test x ≡ b → b ≡ false
+    at true e = absurd (omega (arith, below x e))
+    at false e = refl
+
+-- A table, read past its end too: there its function gives the default.
+pub table-read : (count : ℕ) (f : ℕ → ℕ) (p d : ℕ) → (count ≤ p → f p ≡ d) → getD (table count f) p d ≡ f p
+table-read count f p d past = at (ltb p count) refl
+  where
+    at : (b : Bool) → ltb p count ≡ b → getD (table count f) p d ≡ f p
+    at true e = getD-table count f p d (ltb-true p count e)
+    at false e =
+        let over : count ≤ p = ltb-false p count e in
+        List·getD-eq-default (table count f) d (rw length-table over) ∙ sym (past over)

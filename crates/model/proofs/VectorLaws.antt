@@ -2,7 +2,7 @@
 use Prim.Native.Nat.{ℕ, zero, suc, _+_, _*_, _/_, _%_, _^_, _≤_, _<_}
 use mathlib.Core.Bool.{Bool, true, false, cond}
 use mathlib.Core.List.{List}
-use mathlib.Core.Path.{_≡_, refl, sym, _∙_}
+use mathlib.Core.Path.{_≡_, refl, sym, ap, _∙_}
 use native.Mathlib.Omega.{arith}
 use lib.Dec.{eqb}
 use lib.ListN.{length, getD, set, length-set}
@@ -11,7 +11,7 @@ use lib.Seq.{getD-set-same, getD-set-other, ext-getD}
 use borrow.Author.Tests.{eq-eqb, ne-eqb, eqb-true, eqb-false}
 use Rattle.model.specs.Basics.{bit, flag}
 use Rattle.model.specs.Guard.{vectorBytes, hasBit, byteOf, vectorOf, withBit}
-use Rattle.model.proofs.TableLaws.{length-table, getD-table}
+use Rattle.model.proofs.TableLaws.{length-table, getD-table, past-no, table-read}
 
 -- What holds of 0 to 7 holds of every number below 8.
 pub below8 : (P : ℕ → Type 0) → P 0 → P 1 → P 2 → P 3 → P 4 → P 5 → P 6 → P 7 → (j : ℕ) → j < 8 → P j
@@ -126,9 +126,9 @@ unfolding withBit
 withBit-length b x f = simp length-set
 
 -- A frame is excluded by its own bit, so that setting or clearing the bit of a frame that has one says it of that frame alone.
-pub excluded-withBit : (b : Bool) (x : List ℕ) (f : ℕ) → f / 8 < length x → (g : ℕ) → hasBit (withBit b x f) g ≡ cond (eqb g f) b (hasBit x g)
+pub hasBit-withBit : (b : Bool) (x : List ℕ) (f : ℕ) → f / 8 < length x → (g : ℕ) → hasBit (withBit b x f) g ≡ cond (eqb g f) b (hasBit x g)
 unfolding hasBit withBit
-excluded-withBit b x f here g = at (eqb (g / 8) (f / 8)) refl
+hasBit-withBit b x f here g = at (eqb (g / 8) (f / 8)) refl
   where
     new : ℕ → Bool
     new j = cond (eqb j (f % 8)) b (bit j (getD x (f / 8) 0))
@@ -182,3 +182,14 @@ withBit-vectorOf b frames h f l =
         let q : i ≡ f / 8 → ⊥ = eqb-false i (f / 8) e in
         rw (getD-set-other v (f / 8) i (byteOf new) 0 q, vectorOf-byte frames h i 0 c, vectorOf-byte frames both i 0 c)
         (byteOf-ext (λ j. h (i * 8 + j)) (λ j. both (i * 8 + j)) (λ j. bit-other i j q))
+
+-- A vector has the bits of just the frames that a test holds of, also past F, if it holds of none there.
+pub vectorOf-bit : (frames : ℕ) (test : ℕ → Bool) → ((f : ℕ) → test f ≡ true → f < frames) → (f : ℕ) → hasBit (vectorOf frames test) f ≡ test f
+unfolding hasBit vectorOf vectorBytes byteOf flag
+vectorOf-bit frames test below f =
+    ap (bit (f % 8)) (table-read (vectorBytes frames) (λ i. byteOf (λ j. test (i * 8 + j))) (f / 8) 0 past)
+    ∙ byteOf-bit (λ j. test (f / 8 * 8 + j)) (f % 8) (omega arith)
+    ∙ ap test (omega arith)
+  where
+    past : vectorBytes frames ≤ f / 8 → byteOf (λ j. test (f / 8 * 8 + j)) ≡ 0
+    past over = byteOf-ext (λ j. test (f / 8 * 8 + j)) (λ j. false) (λ j l. past-no test frames below (f / 8 * 8 + j) (omega arith))

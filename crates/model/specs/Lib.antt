@@ -15,10 +15,6 @@ pub mod Questions
 pub mod Walks
 pub mod Cache
 pub mod Windows
-pub mod OnePage
-pub mod Terms
-pub mod Claim
-pub mod Committing
 pub mod Cases
 pub mod Further
 pub mod Orders

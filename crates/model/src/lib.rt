@@ -1,13 +1,11 @@
 // The declared types of the guard, and the functions that carry the theorems about its definitions.
-// The definitions themselves stand in specs/, one file for each section of document 01 and for a request that adds to none; those of the drill and of
-// the record that is written (K2) are crates of their own.
+// The definitions themselves stand in specs/, one file for each section of document 01 and for a request that adds to none; those of demand 3, of the
+// drill and of the record that is written (K2) are crates of their own.
 
 ghost use mathlib.Core.List.{_++_};
 ghost use Rattle.model.specs.ApprovalCases.{askCases, commitCases, dropCases, pendingCases};
 ghost use Rattle.model.specs.Cache.{ApartYields, OrdinaryCarries, StepCarries, StepWrites, SwitchKeeps};
 ghost use Rattle.model.specs.Cases.{cases, Hold};
-ghost use Rattle.model.specs.Claim.{Claim};
-ghost use Rattle.model.specs.Committing.{CommittedKept};
 ghost use Rattle.model.specs.DeviceCases.{deviceCases};
 ghost use Rattle.model.specs.Further.{startCases, syncCases, orderCases, accessCases, switchCases, answerCases, apartCases, vectorCases};
 ghost use Rattle.model.specs.Orders.{startOrder, callOrder};
@@ -152,14 +150,4 @@ pub fn windows_independent()
 // Document 02, K6: what ask, commit and drop give, and what the other calls give while a pair is pending.
 pub fn approval_cases()
     ensures { λ _. ⌜ Hold (askCases ++ commitCases ++ dropCases ++ pendingCases) ⌝ }
-{}
-
-// Demand 3: one claim about every list of calls after an accepted start.
-pub fn every_list()
-    ensures { λ _. ⌜ Claim ⌝ }
-{}
-
-// Document 02, K6: "No write or transfer allowed from its ask onward covers a byte of a committed frame."
-pub fn committed_kept()
-    ensures { λ _. ⌜ CommittedKept ⌝ }
 {}

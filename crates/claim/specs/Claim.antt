@@ -5,15 +5,15 @@ use mathlib.Core.List.{List, [], _∷_}
 use mathlib.Core.Path.{_≡_}
 use lib.ListN.{length, getD}
 use lib.Dec.{eqb}
 use Rattle.model.specs.declared.Device.{Device}
 use Rattle.model.specs.Sizes.{pageBytes}
 use Rattle.model.specs.Guard.{none, Tables, Guard, vectorBytes, inUser}
 use Rattle.model.specs.Policy.{Givens, Policy, policyOf}
 use Rattle.model.specs.Bits.{frameOf}
 use Rattle.model.specs.Devices.{deviceAt, inWindow}
 use Rattle.model.specs.Calls.{Reply, Outcome, startOf, Call, syncPage, syncAll, syncPageTree, syncAllTree, fetch, write, enter, leave, deviceWrite, ask, commit, drop, answer}
-use Rattle.model.specs.OnePage.{Page, firstPage, settled, pagesAfter}
-use Rattle.model.specs.Terms.{Terms, firstTerms, termsAfter, protected, code}
+use Rattle.claim.specs.OnePage.{Page, firstPage, settled, pagesAfter}
+use Rattle.claim.specs.Terms.{Terms, firstTerms, termsAfter, protected, code}
 
 -- After the start and after every call: the tables have their lengths, "the state agrees on kernel or user", and each page's shadow entry
 -- and approval equal those of its one-page guard. Every page below V has its own place, so that no default of getD is compared.

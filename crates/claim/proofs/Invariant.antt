@@ -5,14 +5,14 @@ use mathlib.Core.Bool.{true, false}
 use mathlib.Core.Path.{_≡_, sym, ap, _∙_}
 use lib.ListN.{length, getD}
 use borrow.Author.Tests.{eq-eqb}
 use Rattle.model.specs.Guard.{none, Guard, vectorBytes, hasBit, inUser, pendingFrame, isAsked}
 use Rattle.model.specs.Policy.{Policy, named, entryPages}
 use Rattle.model.specs.Questions.{View, firstNo, seen, stateInOrder}
 use Rattle.model.specs.Calls.{settle, refusedOf, broughtBy, Call, questionsOf, effectOf, answer}
-use Rattle.model.specs.OnePage.{Page, seenBy, settled}
-use Rattle.model.specs.Terms.{Terms, protected, code}
-use Rattle.model.proofs.TermLaws.{isWaiting, awaited}
-use Rattle.model.proofs.ClaimPages.{Good}
+use Rattle.claim.specs.OnePage.{Page, seenBy, settled}
+use Rattle.claim.specs.Terms.{Terms, protected, code}
+use Rattle.claim.proofs.TermLaws.{isWaiting, awaited}
+use Rattle.claim.proofs.PageLaws.{Good}
 
 -- The one-page guard of a page, as the tables show it: in the proof only. Beyond V it reads 0 and 65535.
 abbrev pub pageOf : Guard → ℕ → Page

@@ -1,59 +1,30 @@
 -- Demand 3: an accepted start leaves what always holds, and its tables show the one-page guards as they begin.
-use Prim.Native.Nat.{ℕ, suc, _+_, _*_, _/_, _%_, _≤_, _<_}
+use Prim.Native.Nat.{ℕ, suc, _≤_, _<_}
 use mathlib.Core.Bool.{Bool, true, false, cond, true≢false, false≢true}
 use mathlib.Core.List.{List, [], _∷_}
 use mathlib.Core.Logic.{_⊎_, inl, inr}
-use mathlib.Core.Path.{_≡_, refl, sym, ap, subst, fun-ext, _∙_}
+use mathlib.Core.Path.{_≡_, refl, sym, subst, fun-ext, _∙_}
 use lib.Dec.{leb, ltb, eqb}
-use lib.ListN.{length, getD, List·getD-eq-default}
+use lib.ListN.{length, getD}
 use native.Mathlib.Nat.{suc-inj}
 use native.Mathlib.Omega.{arith}
-use borrow.Author.Tests.{leb-true, ltb-true, ltb-false, eqb-true, ne-eqb}
-use Rattle.model.specs.Basics.{both, either, table, member, bit, flag}
+use borrow.Author.Tests.{leb-true, eqb-true, ne-eqb}
+use Rattle.model.specs.Basics.{both, either, table, member}
 use Rattle.model.specs.Sizes.{pagesInRange, framesInRange}
-use Rattle.model.specs.Guard.{none, vectorBytes, hasBit, byteOf, vectorOf, inUser, running, pendingFrame, isAsked}
+use Rattle.model.specs.Guard.{none, inUser, running, pendingFrame, isAsked}
 use Rattle.model.specs.Policy.{Givens, Policy, policyOf, frameFor, approvalFor, named, firstEntry, startState, startTables, startGuard}
 use Rattle.model.specs.Bits.{approved}
 use Rattle.model.specs.Questions.{firstNo, pendingInRange, stateInOrder, givensInRange, Lengths, startQuestions, rising}
-use Rattle.model.specs.OnePage.{Page, indexIn, firstPage}
-use Rattle.model.specs.Terms.{firstTerms, inTerm, isCommitted, protected, code}
+use Rattle.claim.specs.OnePage.{Page, indexIn, firstPage}
+use Rattle.claim.specs.Terms.{firstTerms, inTerm, isCommitted, protected, code}
 use Rattle.model.proofs.QuestionLaws.{both-first, both-second, within-yes}
 use Rattle.model.proofs.StateLaws.{state-whole}
-use Rattle.model.proofs.TableLaws.{length-table, getD-table}
+use Rattle.model.proofs.TableLaws.{length-table, past-no, table-read}
 use Rattle.model.proofs.PolicyLaws.{Passed, start-passed, start-given, length-numbersAt, allBelow-getD, allBelow-member, member-here, member-there, member-later, frameFor-unlisted, frameFor-member}
-use Rattle.model.proofs.VectorLaws.{byteOf-bit, byteOf-ext, vectorOf-length}
-use Rattle.model.proofs.ClaimPages.{Good, good-absent, good-approved}
-use Rattle.model.proofs.TermLaws.{isWaiting, awaited}
-use Rattle.model.proofs.Invariant.{Invariant, pageOf}
-
--- A test that holds only below a limit fails past it.
-past-no : (test : ℕ → Bool) (limit : ℕ) → ((x : ℕ) → test x ≡ true → x < limit) → (x : ℕ) → limit ≤ x → test x ≡ false
-past-no test limit below x past = at (test x) refl
-  where
-    at : (b : Bool) → test x ≡ b → b ≡ false
-    at true e = absurd (omega (arith, below x e))
-    at false e = refl
-
--- A table, read past its end too: there its function gives the default.
-table-read : (count : ℕ) (f : ℕ → ℕ) (p d : ℕ) → (count ≤ p → f p ≡ d) → getD (table count f) p d ≡ f p
-table-read count f p d past = at (ltb p count) refl
-  where
-    at : (b : Bool) → ltb p count ≡ b → getD (table count f) p d ≡ f p
-    at true e = getD-table count f p d (ltb-true p count e)
-    at false e =
-        let over : count ≤ p = ltb-false p count e in
-        List·getD-eq-default (table count f) d (rw length-table over) ∙ sym (past over)
-
--- The start's vector excludes just the frames that a test holds of, also past F, if it holds of none there.
-excluded-is : (frames : ℕ) (test : ℕ → Bool) → ((f : ℕ) → test f ≡ true → f < frames) → (f : ℕ) → hasBit (vectorOf frames test) f ≡ test f
-unfolding hasBit vectorOf vectorBytes byteOf flag
-excluded-is frames test below f =
-    ap (bit (f % 8)) (table-read (vectorBytes frames) (λ i. byteOf (λ j. test (i * 8 + j))) (f / 8) 0 past)
-    ∙ byteOf-bit (λ j. test (f / 8 * 8 + j)) (f % 8) (omega arith)
-    ∙ ap test (omega arith)
-  where
-    past : vectorBytes frames ≤ f / 8 → byteOf (λ j. test (f / 8 * 8 + j)) ≡ 0
-    past over = byteOf-ext (λ j. test (f / 8 * 8 + j)) (λ j. false) (λ j l. past-no test frames below (f / 8 * 8 + j) (omega arith))
+use Rattle.model.proofs.VectorLaws.{vectorOf-length, vectorOf-bit}
+use Rattle.claim.proofs.PageLaws.{Good, good-absent, good-approved}
+use Rattle.claim.proofs.TermLaws.{isWaiting, awaited}
+use Rattle.claim.proofs.Invariant.{Invariant, pageOf}
 
 -- The frame listed for a listed page is one of the frames, where there is one for each page.
 frameFor-listed : (ps fs : List ℕ) (page other : ℕ) → length ps ≡ length fs → member page ps ≡ true → member (frameFor ps fs page other) fs ≡ true
@@ -180,7 +151,7 @@ module _ (given : Givens) (bytes : List ℕ) (l : Lengths) (accepted : firstNo (
         user = false;
         entry = (at-entry p ∙ first-entry p (listed p) refl) i;
         approval = (at-approval p ∙ first-approval p (listed p) refl) i;
-        excluded = (fun-ext (excluded-is (policy .frames) (named policy) (named-below))) i;
+        excluded = (fun-ext (vectorOf-bit (policy .frames) (named policy) (named-below))) i;
         pending = none;
         own = false;
       }
@@ -227,7 +198,7 @@ module _ (given : Givens) (bytes : List ℕ) (l : Lengths) (accepted : firstNo (
         shadowLength = length-table (policy .pages) (λ p. firstEntry (approvalFor policy p));
         mapLength = length-table (policy .pages) (approvalFor policy);
         exclusionLength = vectorOf-length (policy .frames) (named policy);
-        excluded = λ f. excluded-is (policy .frames) (named policy) (named-below) f ∙ sym (protected-first f);
+        excluded = λ f. vectorOf-bit (policy .frames) (named policy) (named-below) f ∙ sym (protected-first f);
         waiting = λ f. refl;
         unnamed = λ f e. absurd (false≢true e);
         below = λ f e. named-below f (rw code-first at e);

@@ -1,7 +1,7 @@
 -- K6: proved in CommittingLaws.
-use Rattle.model.proofs.CommittingLaws.{committed-kept}
-use Rattle.model.proofs.committed_kept.Statement.{statement}
-use Rattle.model.proofs.committed_kept.Tie as tie
+use Rattle.claim.proofs.CommittingLaws.{committed-kept}
+use Rattle.claim.proofs.committed_kept.Statement.{statement}
+use Rattle.claim.proofs.committed_kept.Tie as tie
 
 returns : tie.Need-returns
 returns c = committed-kept

@@ -6,20 +6,20 @@ use lib.Dec.{ltb}
 use lib.ListN.{length, getD}
 use native.Mathlib.Omega.{arith}
 use borrow.Author.Tests.{ltb-true, not-true}
 use Rattle.model.specs.Sizes.{pageBytes, lastByte, lastPage}
 use Rattle.model.specs.Guard.{Guard, hasBit}
 use Rattle.model.specs.Policy.{Policy}
 use Rattle.model.specs.Bits.{frameOf}
 use Rattle.model.specs.Devices.{deviceAt}
 use Rattle.model.specs.Questions.{free}
 use Rattle.model.specs.Calls.{Call, syncPage, syncAll, syncPageTree, syncAllTree, fetch, write, enter, leave, deviceWrite, ask, commit, drop, questionsOf, effectOf}
-use Rattle.model.specs.OnePage.{seenBy, settled}
-use Rattle.model.specs.Claim.{Clear, coveredBy, Safe}
-use Rattle.model.specs.Terms.{Terms, code}
+use Rattle.claim.specs.OnePage.{seenBy, settled}
+use Rattle.claim.specs.Claim.{Clear, coveredBy, Safe}
+use Rattle.claim.specs.Terms.{Terms, code}
 use Rattle.model.proofs.QuestionLaws.{both-first, both-second}
-use Rattle.model.proofs.ClaimPages.{good-code}
+use Rattle.claim.proofs.PageLaws.{good-code}
 use Rattle.model.proofs.AcceptedLaws.{fetch-there, fetch-executable, write-free, deviceWrite-free, deviceWrite-windowed}
-use Rattle.model.proofs.Invariant.{Invariant, pageOf}
+use Rattle.claim.proofs.Invariant.{Invariant, pageOf}
 
 module _ (policy : Policy) (terms : Terms) (g : Guard) (h : Invariant policy terms g) where
   -- Any byte of a frame that question 13 lets pass is clear.

@@ -1,23 +1,22 @@
 -- Demand 3: what is always true of a one-page guard, and that everything it is told keeps it so. The frames that kernel code may be fetched
 -- from are a predicate throughout.
 use Prim.Native.Nat.{ℕ, _≤_, _<_}
-use mathlib.Core.Bool.{Bool, true, false, not, cond, true≢false, false≢true}
+use mathlib.Core.Bool.{Bool, true, false, cond, true≢false, false≢true}
 use mathlib.Core.Path.{_≡_, refl, sym, _∙_}
-use lib.Dec.{leb, eqb}
+use lib.Dec.{eqb}
 use native.Mathlib.Omega.{arith}
-use borrow.Author.Tests.{leb-false, ne-eqb, not-true}
-use mathlib.Core.Logic.{_⊎_, inl, inr}
-use Rattle.model.specs.declared.Entry.the-variants.{Absent, Present}
+use borrow.Author.Tests.{ne-eqb}
 use Rattle.model.specs.declared.Fields.{Fields}
 use Rattle.model.specs.Basics.{bit, both, either}
 use Rattle.model.specs.Guard.{none}
 use Rattle.model.specs.Policy.{Policy}
-use Rattle.model.specs.Bits.{present, noExecute, frameOf, approvedMark, fieldsOf, valid, takenApart, approvedNoExecute, approved, ordinaryNoExecute, ordinary, inspected}
-use Rattle.model.specs.Sync.{Rules, rules, Slot, slot, stepOf, step}
+use Rattle.model.specs.Bits.{present, noExecute, frameOf, approvedMark, fieldsOf, approvedNoExecute, approved, ordinaryNoExecute, ordinary, inspected}
+use Rattle.model.specs.Sync.{rules, Slot, slot}
 use Rattle.model.specs.Switch.{noExecuteIn}
 use Rattle.model.specs.Approvals.{maps, committedSlot}
-use Rattle.model.specs.OnePage.{Page, withSlot, withPair, News, synchronised, entered, exited, asked, committed, dropped, nothing, switchedPage, stepped, askedPage, committedPage, droppedPage, told}
-use Rattle.model.proofs.BitLaws.{taken-apart, present-valid, approvedMark-approved, frameOf-approved, approvedMark-ordinary, noExecute-ordinary, present-switched, approvedMark-switched, frameOf-switched, noExecute-switched}
+use Rattle.model.proofs.SyncLaws.{cond-cases, step-cases}
+use Rattle.claim.specs.OnePage.{Page, withSlot, withPair, News, synchronised, entered, exited, asked, committed, dropped, nothing, switchedPage, stepped, askedPage, committedPage, droppedPage, told}
+use Rattle.model.proofs.BitLaws.{approvedMark-approved, frameOf-approved, approvedMark-ordinary, noExecute-ordinary, present-switched, approvedMark-switched, frameOf-switched, noExecute-switched}
 
 -- A good page: its approval, if it has one, is a frame of code; an entry with bits 0 and 10 has its approval for its frame; and in kernel
 -- mode an entry with bit 0 set and bit 63 clear has bit 10.
@@ -69,35 +68,6 @@ module _ (code : ℕ → Bool) (page : Page) where
         frame = λ p q. both-ways _ q (approvedMark-ordinary (page .user) x);
         executable = λ u p q. both-ways _ (noExecute-ordinary (page .user) x (omega arith) ∙ (rw u refl)) q;
       }
-
--- A choice has a property if each of the two has it where it is chosen.
-pub cond-cases : {A : Type 0} (P : A → Type 0) (b : Bool) {x y : A} → (b ≡ true → P x) → (b ≡ false → P y) → P (cond b x y)
-cond-cases P true p q = p refl
-cond-cases P false p q = q refl
-
--- Steps 1 to 5: the slot that a step gives has a property if an absent entry has it, an approved one with the map's frame, one with the pending
--- frame, an approved one with an excluded frame, and an ordinary one.
-pub step-cases : (P : Slot → Type 0) (rules : Rules) (k a : ℕ)
-    → P (slot 0 a)
-    → (eqb a none ≡ false → P (slot (approved (rules .user) a) a))
-    → (valid k ≡ true → frameOf k < rules .frames → eqb (frameOf k) (rules .pending) ≡ true → P (slot (ordinary (rules .user) (inspected (fieldsOf k))) a))
-    → (frameOf k < rules .frames → eqb (frameOf k) (rules .pending) ≡ false → rules .excluded (frameOf k) ≡ true
-    → P (slot (approved (rules .user) (frameOf k)) (frameOf k)))
-    → (valid k ≡ true → frameOf k < rules .frames → eqb (frameOf k) (rules .pending) ≡ false → P (slot (ordinary (rules .user) (fieldsOf k)) a))
-    → P (step rules k a)
-unfolding step fieldsOf stepOf
-step-cases P rules k a absent mapped waits joins plain = by (taken-apart k)
-  where
-    by : (takenApart k ≡ Absent) ⊎ (takenApart k ≡ Present (fieldsOf k)) → P (stepOf rules (takenApart k) a)
-    by (inl e) = rw e absent
-    by (inr there) =
-        rw there
-        (cond-cases P (not (eqb a none)) (λ e. mapped (not-true (eqb a none) e)) (λ e.
-        cond-cases P (leb (rules .frames) (frameOf k)) (λ e. absent) (λ e.
-        let below : frameOf k < rules .frames = leb-false (rules .frames) (frameOf k) e in
-        let there-valid : valid k ≡ true = present-valid k (fieldsOf k) there in
-        cond-cases P (eqb (frameOf k) (rules .pending)) (waits there-valid below) (λ other.
-        cond-cases P (rules .excluded (frameOf k)) (joins below other) (λ e. plain there-valid below other)))))
 
 -- A synchronisation keeps a page good, if code is below F and every excluded frame but the pending one is code.
 pub stepped-good : (policy : Policy) (code : ℕ → Bool) (page : Page) (k : ℕ) → policy .frames ≤ 4096

@@ -7,24 +7,24 @@ use lib.Dec.{eqb}
 use lib.ListN.{getD}
 use borrow.Author.Tests.{eqb-true, eq-eqb}
 use native.Mathlib.Omega.{arith}
 use Rattle.model.specs.Sizes.{pageBytes}
 use Rattle.model.specs.Guard.{Guard}
 use Rattle.model.specs.Policy.{Policy, policyOf, named, startGuard}
 use Rattle.model.specs.Bits.{frameOf}
 use Rattle.model.specs.Questions.{firstNo, lengthsOf, startQuestions}
 use Rattle.model.specs.Calls.{Outcome, settle, refusedOf, broughtBy, startOf, Call, syncPage, syncAll, syncPageTree, syncAllTree, fetch, write, enter, leave, deviceWrite, ask, commit, drop, questionsOf, effectOf, answer}
-use Rattle.model.specs.OnePage.{seenBy, settled}
-use Rattle.model.specs.Claim.{Safe, coveredBy}
-use Rattle.model.specs.Terms.{Term, pendingTerm, Terms, firstTerms, termAfter, termsAfter, inTerm, isCommitted, protected}
-use Rattle.model.specs.Committing.{Accepts, guardAfter, EachAccepted, Avoids, NoDrop, CommittedKept}
+use Rattle.claim.specs.OnePage.{seenBy, settled}
+use Rattle.claim.specs.Claim.{Safe, coveredBy}
+use Rattle.claim.specs.Terms.{Term, pendingTerm, Terms, firstTerms, termAfter, termsAfter, inTerm, isCommitted, protected}
+use Rattle.claim.specs.Committing.{Accepts, guardAfter, EachAccepted, Avoids, NoDrop, CommittedKept}
 use Rattle.model.proofs.QuestionLaws.{settle-accepted, settle-refused, settle-number, either-second}
 use Rattle.model.proofs.CallLaws.{effect-reply}
 use Rattle.model.proofs.AcceptedLaws.{ask-free}
-use Rattle.model.proofs.TermLaws.{commit-in, commit-code, drop-code, committed-in}
-use Rattle.model.proofs.Invariant.{Invariant, pageOf, answered}
-use Rattle.model.proofs.ClaimCalls.{kept}
-use Rattle.model.proofs.ClaimSafe.{safe}
-use Rattle.model.proofs.ClaimStart.{start-kept}
+use Rattle.claim.proofs.TermLaws.{commit-in, commit-code, drop-code, committed-in}
+use Rattle.claim.proofs.Invariant.{Invariant, pageOf, answered}
+use Rattle.claim.proofs.CommuteLaws.{kept}
+use Rattle.claim.proofs.SafeLaws.{safe}
+use Rattle.claim.proofs.StartLaws.{start-kept}
 
 module _ (policy : Policy) (terms : Terms) (g : Guard) (h : Invariant policy terms g) (call : Call) where
   -- The guard's number is the settled one.

@@ -4,13 +4,13 @@ use mathlib.Core.Bool.{Bool, true, false, false≢true, true≢false}
 use mathlib.Core.Path.{_≡_, refl}
 use lib.Dec.{ltb, eqb}
 use borrow.Author.Tests.{ltb-true, eqb-true}
 use Rattle.model.specs.declared.Pending.{Pending}
 use Rattle.model.specs.declared.Pending.the-variants.{Nothing, Pair}
 use Rattle.model.specs.Basics.{either}
 use Rattle.model.specs.Guard.{isPending, pendingFrame, isAsked}
 use Rattle.model.specs.Questions.{pendingInRange}
-use Rattle.model.specs.Terms.{Term, noTerm, pendingTerm, committedTerm, afterCommit, afterDrop, inTerm, isCommitted}
+use Rattle.claim.specs.Terms.{Term, noTerm, pendingTerm, committedTerm, afterCommit, afterDrop, inTerm, isCommitted}
 use Rattle.model.proofs.QuestionLaws.{both-first, both-second}
 
 -- A frame whose term is pending, and one that the state says is.
 unfoldable pub isWaiting : Term → Bool

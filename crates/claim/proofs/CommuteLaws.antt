@@ -9,31 +9,31 @@ use lib.Dec.{ltb, eqb}
 use native.Mathlib.Nat.{add-zero}
 use native.Mathlib.Omega.{arith}
 use borrow.Author.Tests.{lt-ltb, ltb-true, ltb-false, eq-eqb, eqb-true, eqb-false}
 use Rattle.model.specs.declared.Pending.{Pending}
 use Rattle.model.specs.declared.Pending.the-variants.{Nothing, Pair}
 use Rattle.model.specs.declared.Mode.{Mode}
 use Rattle.model.specs.declared.Mode.the-variants.{Kernel, User}
 use Rattle.model.specs.Basics.{bit, both, either}
 use Rattle.model.specs.Bits.{present}
 use Rattle.model.specs.Guard.{none, Tables, withShadow, withMap, Guard, guardOf, hasBit, withBit, inUser, running, modeOf, isPending, pendingFrame, isAsked, inMode, withPending}
 use Rattle.model.specs.Policy.{Policy, named}
 use Rattle.model.specs.Tree.{flatAt}
 use Rattle.model.specs.Sync.{Slot, slot, step, entryIn, stepFrom, Sweep, sweepFrom}
 use Rattle.model.specs.Switch.{switchedAll}
 use Rattle.model.specs.Questions.{View, pendingInRange}
 use Rattle.model.specs.Calls.{Call, syncPage, syncAll, syncPageTree, syncAllTree, fetch, write, enter, leave, deviceWrite, ask, commit, drop, settle, questionsOf, rulesOf, pageSynced, allSynced, pageFrom, allFrom, switchTo, bitPut, pairCommitted, effectOf}
-use Rattle.model.specs.OnePage.{Page, withPair, synchronised, nothing, seenBy, settled, stepped, switchedPage, excludedWith, askedPage, committedPage, droppedPage, told, newsOfOne, newsOfAll, news}
+use Rattle.claim.specs.OnePage.{Page, withPair, synchronised, nothing, seenBy, settled, stepped, switchedPage, excludedWith, askedPage, committedPage, droppedPage, told, newsOfOne, newsOfAll, news}
 use Rattle.model.specs.Approvals.{maps, committedSlot}
-use Rattle.model.specs.Terms.{Terms, pendingTerm, afterDrop, termAfter, termsAfter, inTerm, isCommitted, protected, code}
+use Rattle.claim.specs.Terms.{Terms, pendingTerm, afterDrop, termAfter, termsAfter, inTerm, isCommitted, protected, code}
 use Rattle.model.proofs.QuestionLaws.{both-yes, either-second}
 use Rattle.model.proofs.StateLaws.{inUser-modeOf, running-modeOf, state-parts, frames-few, mode-fits, pending-fits}
-use Rattle.model.proofs.ClaimPages.{Good, good-more, Allows, told-good}
+use Rattle.claim.proofs.PageLaws.{Good, good-more, Allows, told-good}
 use Rattle.model.proofs.SweepLaws.{sweep-shadow-length, sweep-map-length, sweep-at}
 use Rattle.model.proofs.SwitchLaws.{length-switched, switched-at}
 use Rattle.model.proofs.AcceptedLaws.{syncPage-page, syncPageTree-page, fetch-page, enter-page, leave-page, ask-page, ask-frame, ask-first, ask-free, commit-pending, drop-pending}
-use Rattle.model.proofs.VectorLaws.{byte-below, withBit-length, excluded-withBit}
-use Rattle.model.proofs.TermLaws.{isWaiting, awaited, commit-in, commit-over, commit-code, drop-over, drop-in, drop-out, drop-code, term-code, code-term, term-named, awaited-none, awaited-is, awaited-other, awaited-below, pending-below, asked-below, waiting-in}
-use Rattle.model.proofs.Invariant.{Invariant, pageOf}
+use Rattle.model.proofs.VectorLaws.{byte-below, withBit-length, hasBit-withBit}
+use Rattle.claim.proofs.TermLaws.{isWaiting, awaited, commit-in, commit-over, commit-code, drop-over, drop-in, drop-out, drop-code, term-code, code-term, term-named, awaited-none, awaited-is, awaited-other, awaited-below, pending-below, asked-below, waiting-in}
+use Rattle.claim.proofs.Invariant.{Invariant, pageOf}
 
 module _ (policy : Policy) (terms : Terms) (g : Guard) (h : Invariant policy terms g) where
   -- A synchronised page is as its one-page guard is told, if the tables have the step's slot at it.
@@ -107,7 +107,7 @@ module _ (policy : Policy) (terms : Terms) (g : Guard) (h : Invariant policy ter
   bit-put : (b : Bool) (frame : ℕ) → frame < policy .frames → (f : ℕ)
       → hasBit (withBit b (g .tables .exclusion) frame) f ≡ excludedWith b frame (hasBit (g .tables .exclusion)) f
   unfolding excludedWith
-  bit-put b frame small = excluded-withBit b (g .tables .exclusion) frame (rw (h .exclusionLength) (byte-below (policy .frames) frame small))
+  bit-put b frame small = hasBit-withBit b (g .tables .exclusion) frame (rw (h .exclusionLength) (byte-below (policy .frames) frame small))
 
   bit-commutes : (b : Bool) (frame : ℕ) (pending : Pending) (p : ℕ) → frame < policy .frames
       → withPair (pageOf g p) (excludedWith b frame (hasBit (g .tables .exclusion))) (pendingFrame pending) (isAsked pending p)

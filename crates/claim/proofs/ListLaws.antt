@@ -4,19 +4,19 @@ use mathlib.Core.List.{List, [], _∷_}
 use mathlib.Core.Path.{_≡_, refl, sym, ap, fun-ext, _∙_}
 use native.Mathlib.Omega.{arith}
 use borrow.Author.Tests.{ne-eqb}
 use Rattle.model.specs.Guard.{Guard}
 use Rattle.model.specs.Policy.{Policy, policyOf, startGuard}
 use Rattle.model.specs.Questions.{firstNo, lengthsOf, startQuestions}
 use Rattle.model.specs.Calls.{settle, Outcome, refusedOf, broughtBy, startOf, Call, effectOf, answer}
-use Rattle.model.specs.OnePage.{firstPage, settled, pagesAfter}
-use Rattle.model.specs.Claim.{Agree, Always, Claim}
-use Rattle.model.specs.Terms.{Terms, firstTerms, termsAfter}
+use Rattle.claim.specs.OnePage.{firstPage, settled, pagesAfter}
+use Rattle.claim.specs.Claim.{Agree, Always, Claim}
+use Rattle.claim.specs.Terms.{Terms, firstTerms, termsAfter}
 use Rattle.model.proofs.QuestionLaws.{settle-accepted, settle-refused}
 use Rattle.model.proofs.CallLaws.{effect-reply}
-use Rattle.model.proofs.Invariant.{Invariant, pageOf, answered}
-use Rattle.model.proofs.ClaimCalls.{commutes, kept}
-use Rattle.model.proofs.ClaimSafe.{safe}
-use Rattle.model.proofs.ClaimStart.{first-pages, start-kept}
+use Rattle.claim.proofs.Invariant.{Invariant, pageOf, answered}
+use Rattle.claim.proofs.CommuteLaws.{commutes, kept}
+use Rattle.claim.proofs.SafeLaws.{safe}
+use Rattle.claim.proofs.StartLaws.{first-pages, start-kept}
 
 -- A refused call changes no term.
 terms-refused : (n : ℕ) (call : Call) (terms : Terms) → termsAfter (suc n) call terms ≡ terms
