@@ -12,13 +12,15 @@ use Rattle.model.specs.Guard.{Guard}
 use Rattle.model.specs.Policy.{Policy, policyOf, named, startGuard}
 use Rattle.model.specs.Bits.{frameOf}
 use Rattle.model.specs.Questions.{firstNo, lengthsOf, startQuestions}
-use Rattle.model.specs.Calls.{Outcome, settle, refusedOf, broughtBy, startOf, Call, syncPage, syncAll, syncPageTree, syncAllTree, fetch, write, enter, leave, deviceWrite, ask, commit, drop, questionsOf, effectOf, answer}
-use Rattle.claim.specs.OnePage.{seenBy, settled}
+use Rattle.model.specs.Calls.{Outcome, settle, refusedOf, broughtBy, startOf, Call, ask, commit, questionsOf, effectOf, answer}
+use Rattle.claim.specs.CallKinds.{Touch, untouched, fetched, written, transferred, touchOf, TermChange, unchanged, begun, confirmed, ended, termChangeOf}
+use Rattle.claim.proofs.KindLaws.{Changing, keeps, asks, commits, drops, kinds}
+use Rattle.claim.specs.OnePage.{reachedIn, seenBy, settled}
 use Rattle.claim.specs.Claim.{Safe, coveredBy}
 use Rattle.claim.specs.Terms.{Term, pendingTerm, Terms, firstTerms, termAfter, termsAfter, inTerm, isCommitted, protected}
-use Rattle.claim.specs.Committing.{Accepts, guardAfter, EachAccepted, Avoids, NoDrop, CommittedKept}
+use Rattle.claim.specs.Committing.{Accepts, guardAfter, EachAccepted, Misses, Avoids, Undropped, NoDrop, CommittedKept}
 use Rattle.model.proofs.QuestionLaws.{settle-accepted, settle-refused, settle-number, either-second}
-use Rattle.model.proofs.CallLaws.{effect-reply}
+use Rattle.model.proofs.CallLaws.{effects}
 use Rattle.model.proofs.AcceptedLaws.{ask-free}
 use Rattle.claim.proofs.TermLaws.{commit-in, commit-code, drop-code, committed-in}
 use Rattle.claim.proofs.Invariant.{Invariant, pageOf, answered}
@@ -28,12 +30,12 @@ use Rattle.claim.proofs.StartLaws.{start-kept}
 
 module _ (policy : Policy) (terms : Terms) (g : Guard) (h : Invariant policy terms g) (call : Call) where
   -- The guard's number is the settled one.
-  number-settled : (answer g call) .reply .number ≡ settled policy (pageOf g) g call
+  number-settled : (answer g call) .reply .number ≡ settled policy (pageOf g) (reachedIn g) call
   number-settled =
       ap (λ (o : Outcome). o .reply .number) (answered policy terms g h call)
-      ∙ settle-number (λ (o : Outcome). o .reply .number) (settled policy (pageOf g) g call) (effectOf g call) (refusedOf g (broughtBy call)) (effect-reply g call .0) (λ k. refl)
+      ∙ settle-number (λ (o : Outcome). o .reply .number) (settled policy (pageOf g) (reachedIn g) call) (effectOf g call) (refusedOf g (broughtBy call)) (effects g call .number) (λ k. refl)
 
-  accepted-settled : Accepts g call → settled policy (pageOf g) g call ≡ 0
+  accepted-settled : Accepts g call → settled policy (pageOf g) (reachedIn g) call ≡ 0
   accepted-settled e = sym number-settled ∙ e
 
   accepted-guard : Accepts g call → (answer g call) .guard ≡ (effectOf g call) .guard
@@ -54,27 +56,20 @@ module _ (policy : Policy) (terms : Terms) (g : Guard) (h : Invariant policy ter
   -- A protected frame: an allowed write or transfer covers no byte of it.
   avoids : (f : ℕ) → protected policy terms f ≡ true → Accepts g call → Avoids f g call
   unfolding coveredBy
-  avoids f is e = by call (safe policy terms g h call (accepted-settled e))
+  avoids f is e = by (touchOf call) (safe policy terms g h call (accepted-settled e))
     where
       other : (x : ℕ) → protected policy terms (x / pageBytes) ≡ false → x / pageBytes ≡ f → ⊥
       other x clear same = true≢false (sym is ∙ (rw same at clear))
 
-      by : (c : Call) → Safe policy terms (pageOf g) c ((effectOf g call) .reply) → Avoids f g c
-      by (syncPage kernel page) s = tt
-      by (syncAll kernel) s = tt
-      by (syncPageTree tree page) s = tt
-      by (syncAllTree tree) s = tt
-      by (fetch page) s = tt
-      by (write address size) s =
+      by : (touch : Touch) → Safe policy terms (pageOf g) touch ((effectOf g call) .reply) → Misses f g touch
+      by untouched s = tt
+      by (fetched page) s = tt
+      by (written address size) s =
           λ a l m same.
           let frame : ℕ = frameOf (getD (g .tables .shadow) (a / pageBytes) 0) in
-          other (frame * pageBytes + a % pageBytes) (s .bytes a l m .unprotected) (let here : (frame * pageBytes + a % pageBytes) / pageBytes ≡ frame = omega arith in here ∙ same)
-      by (enter index) s = tt
-      by (leave page) s = tt
-      by (deviceWrite devices device address size) s = λ a l m same. other a (s .bytes a l m .unprotected) same
-      by (ask page frame) s = tt
-      by commit s = tt
-      by drop s = tt
+          let here : (frame * pageBytes + a % pageBytes) / pageBytes ≡ frame = omega arith in
+          other (frame * pageBytes + a % pageBytes) (s .bytes a l m .unprotected) (here ∙ same)
+      by (transferred window address size) s = λ a l m same. other a (s .bytes a l m .unprotected) same
 
 -- A term goes on at every accepted call that is no drop.
 asked-in : (b : Bool) (t : Term) → inTerm t ≡ true → inTerm (cond b pendingTerm t) ≡ true
@@ -82,23 +77,15 @@ unfolding inTerm
 asked-in true t p = refl
 asked-in false t p = p
 
-goes-on : (g : Guard) (call : Call) (f : ℕ) (t : Term) → NoDrop g call → inTerm t ≡ true → inTerm (termAfter call f t) ≡ true
+goes-on : (change : TermChange) (f : ℕ) (t : Term) → Undropped change → inTerm t ≡ true → inTerm (termAfter change f t) ≡ true
 unfolding termAfter
-goes-on g (syncPage kernel page) f t undropped p = p
-goes-on g (syncAll kernel) f t undropped p = p
-goes-on g (syncPageTree tree page) f t undropped p = p
-goes-on g (syncAllTree tree) f t undropped p = p
-goes-on g (fetch page) f t undropped p = p
-goes-on g (write address size) f t undropped p = p
-goes-on g (enter index) f t undropped p = p
-goes-on g (leave page) f t undropped p = p
-goes-on g (deviceWrite devices device address size) f t undropped p = p
-goes-on g (ask page frame) f t undropped p = asked-in (eqb f frame) t p
-goes-on g commit f t undropped p = commit-in t ∙ p
-goes-on g drop f t undropped p = absurd undropped
+goes-on unchanged f t undropped p = p
+goes-on (begun frame) f t undropped p = asked-in (eqb f frame) t p
+goes-on confirmed f t undropped p = commit-in t ∙ p
+goes-on ended f t undropped p = absurd undropped
 
 -- A refused call changes no term, so it is enough to look at an accepted one.
-after-call : (P : Term → Type 0) (n : ℕ) (call : Call) (terms : Terms) (f : ℕ) → P (terms f) → (n ≡ 0 → P (termAfter call f (terms f)))
+after-call : (P : Term → Type 0) (n : ℕ) (call : Call) (terms : Terms) (f : ℕ) → P (terms f) → (n ≡ 0 → P (termAfter (termChangeOf call) f (terms f)))
     → P (termsAfter n call terms f)
 unfolding termsAfter settle
 after-call P zero call terms f before accepted = accepted refl
@@ -116,28 +103,28 @@ module _ (policy : Policy) (f : ℕ) where
   open-protected terms p = either-second (named policy f) p
 
   -- A committed frame stays so: an ask for it is refused, since it is excluded.
-  lasts : (terms : Terms) (g : Guard) → Invariant policy terms g → (call : Call) → Lasts (terms f) → settled policy (pageOf g) g call ≡ 0
-      → Lasts (termAfter call f (terms f))
-  unfolding termAfter settled questionsOf
-  lasts terms g h (syncPage kernel page) p passed = p
-  lasts terms g h (syncAll kernel) p passed = p
-  lasts terms g h (syncPageTree tree page) p passed = p
-  lasts terms g h (syncAllTree tree) p passed = p
-  lasts terms g h (fetch page) p passed = p
-  lasts terms g h (write address size) p passed = p
-  lasts terms g h (enter index) p passed = p
-  lasts terms g h (leave page) p passed = p
-  lasts terms g h (deviceWrite devices device address size) p passed = p
-  lasts terms g h (ask page frame) p passed = by (eqb f frame) refl
+  asked-other : (terms : Terms) (g : Guard) → Invariant policy terms g → (page frame : ℕ) → Lasts (terms f)
+      → settled policy (pageOf g) (reachedIn g) (ask page frame) ≡ 0 → Lasts (cond (eqb f frame) pendingTerm (terms f))
+  unfolding settled questionsOf
+  asked-other terms g h page frame p passed = by (eqb f frame) refl
     where
       free : protected policy terms frame ≡ false
-      free = sym (h .excluded frame) ∙ ask-free (seenBy policy (pageOf g) g) page frame passed
+      free = sym (h .excluded frame) ∙ ask-free (seenBy policy (pageOf g) (reachedIn g)) page frame passed
 
       by : (b : Bool) → eqb f frame ≡ b → Lasts (cond b pendingTerm (terms f))
       by true e = absurd (true≢false (sym (open-protected terms (committed-in (terms f) p)) ∙ (rw (← (eqb-true f frame e)) at free)))
       by false e = p
-  lasts terms g h commit p passed = commit-code (terms f) ∙ committed-in (terms f) p
-  lasts terms g h drop p passed = drop-code (terms f) ∙ p
+
+  lasts : (terms : Terms) (g : Guard) → Invariant policy terms g → (call : Call) → Lasts (terms f)
+      → settled policy (pageOf g) (reachedIn g) call ≡ 0 → Lasts (termAfter (termChangeOf call) f (terms f))
+  unfolding termAfter termChangeOf
+  lasts terms g h call p passed = by (kinds call .1)
+    where
+      by : Changing call → Lasts (termAfter (termChangeOf call) f (terms f))
+      by (keeps e) = rw e p
+      by (asks page frame e) = rw e (asked-other terms g h page frame p (rw e at passed))
+      by (commits e) = rw e (commit-code (terms f) ∙ committed-in (terms f) p)
+      by (drops e) = rw e (drop-code (terms f) ∙ p)
 
   -- From its commit on.
   for-good : (calls : List Call) (terms : Terms) (g : Guard) → Invariant policy terms g → Lasts (terms f) → EachAccepted (Avoids f) g calls
@@ -157,7 +144,7 @@ module _ (policy : Policy) (f : ℕ) where
   until (call ∷ calls) rest terms g h p undropped then = (
     avoids policy terms g h call f (open-protected terms p),
     until calls rest _ ((answer g call) .guard) (step-kept policy terms g h call)
-        (after-call Open ((answer g call) .reply .number) call terms f p (λ e. goes-on g call f (terms f) (undropped .0 e) p)) (undropped .1) then,
+        (after-call Open ((answer g call) .reply .number) call terms f p (λ e. goes-on (termChangeOf call) f (terms f) (undropped .0 e) p)) (undropped .1) then,
   )
 
 -- The terms after a list of calls.
@@ -171,19 +158,19 @@ along policy (call ∷ calls) terms g h P then = along policy calls _ ((answer g
 from-ask : (policy : Policy) (terms : Terms) (g : Guard) → Invariant policy terms g → (page frame : ℕ) (between after : List Call) → Accepts g (ask page frame)
     → let asked : Guard = (answer g (ask page frame)) .guard in
     EachAccepted NoDrop asked between → Accepts (guardAfter asked between) commit → EachAccepted (Avoids frame) asked (between ++ (commit ∷ after))
-unfolding termsAfter settle termAfter inTerm
-from-ask policy terms g h page frame between after asks undropped commits =
-    until policy frame between (commit ∷ after) _ _ (step-kept policy terms g h (ask page frame)) begun undropped (λ terms′ h′ p. (
+unfolding termsAfter settle termAfter termChangeOf touchOf inTerm
+from-ask policy terms g h page frame between after asking undropped committing =
+    until policy frame between (commit ∷ after) _ _ (step-kept policy terms g h (ask page frame)) opened undropped (λ terms′ h′ p. (
       (λ _. tt),
       for-good policy frame after _ _ (step-kept policy terms′ _ h′ commit) (lasting terms′ p),
     ))
   where
-    begun : inTerm (termsAfter ((answer g (ask page frame)) .reply .number) (ask page frame) terms frame) ≡ true
-    begun = rw (asks, eq-eqb frame frame refl) refl
+    opened : inTerm (termsAfter ((answer g (ask page frame)) .reply .number) (ask page frame) terms frame) ≡ true
+    opened = rw (asking, eq-eqb frame frame refl) refl
 
     lasting : (terms′ : Terms) → inTerm (terms′ frame) ≡ true
         → isCommitted (termsAfter ((answer (guardAfter ((answer g (ask page frame)) .guard) between) commit) .reply .number) commit terms′ frame) ≡ true
-    lasting terms′ p = rw commits (commit-code (terms′ frame) ∙ p)
+    lasting terms′ p = rw committing (commit-code (terms′ frame) ∙ p)
 
 pub committed-kept : CommittedKept
 unfolding startOf

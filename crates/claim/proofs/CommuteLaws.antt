@@ -22,7 +22,8 @@ use Rattle.model.specs.Sync.{Slot, slot, step, entryIn, stepFrom, Sweep, sweepF
 use Rattle.model.specs.Switch.{switchedAll}
 use Rattle.model.specs.Questions.{View, pendingInRange}
 use Rattle.model.specs.Calls.{Call, syncPage, syncAll, syncPageTree, syncAllTree, fetch, write, enter, leave, deviceWrite, ask, commit, drop, settle, questionsOf, rulesOf, pageSynced, allSynced, pageFrom, allFrom, switchTo, bitPut, pairCommitted, effectOf}
-use Rattle.claim.specs.OnePage.{Page, withPair, synchronised, nothing, seenBy, settled, stepped, switchedPage, excludedWith, askedPage, committedPage, droppedPage, told, newsOfOne, newsOfAll, news}
+use Rattle.claim.specs.CallKinds.{termChangeOf}
+use Rattle.claim.specs.OnePage.{Page, withPair, synchronised, nothing, reachedIn, seenBy, settled, stepped, switchedPage, excludedWith, askedPage, committedPage, droppedPage, told, newsOfOne, newsOfAll, news}
 use Rattle.model.specs.Approvals.{maps, committedSlot}
 use Rattle.claim.specs.Terms.{Terms, pendingTerm, afterDrop, termAfter, termsAfter, inTerm, isCommitted, protected, code}
 use Rattle.model.proofs.QuestionLaws.{both-yes, either-second}
@@ -154,22 +155,22 @@ module _ (policy : Policy) (terms : Terms) (g : Guard) (h : Invariant policy ter
           rw (entry, approval, entry′, approval′, past-slot p past) refl
 
   -- Each accepted call, as the one-page guards are told of it.
-  pub commutes : (call : Call) → settled policy (pageOf g) g call ≡ 0 → (p : ℕ)
+  pub commutes : (call : Call) → settled policy (pageOf g) (reachedIn g) call ≡ 0 → (p : ℕ)
       → told policy (pageOf g p) (news policy p call) ≡ pageOf ((effectOf g call) .guard) p
   unfolding news told settled questionsOf effectOf switchTo inMode inUser switchedPage askedPage droppedPage pendingFrame isAsked
-  commutes (syncPage kernel page) passed p = one-commutes (entryIn kernel) page (syncPage-page (seenBy policy (pageOf g) g) (length kernel) page passed) p
+  commutes (syncPage kernel page) passed p = one-commutes (entryIn kernel) page (syncPage-page (seenBy policy (pageOf g) (reachedIn g)) (length kernel) page passed) p
   commutes (syncAll kernel) passed p = all-commutes (entryIn kernel) p
-  commutes (syncPageTree tree page) passed p = one-commutes (flatAt tree) page (syncPageTree-page (seenBy policy (pageOf g) g) tree page passed) p
+  commutes (syncPageTree tree page) passed p = one-commutes (flatAt tree) page (syncPageTree-page (seenBy policy (pageOf g) (reachedIn g)) tree page passed) p
   commutes (syncAllTree tree) passed p = all-commutes (flatAt tree) p
   commutes (fetch page) passed p = rw inUser-modeOf
   commutes (write address size) passed p = refl
   commutes (enter index) passed p = rw switched-at
   commutes (leave page) passed p = rw switched-at
   commutes (deviceWrite devices device address size) passed p = refl
-  commutes (ask page frame) passed p = bit-commutes true frame (Pair page frame) p (ask-frame (seenBy policy (pageOf g) g) page frame passed)
+  commutes (ask page frame) passed p = bit-commutes true frame (Pair page frame) p (ask-frame (seenBy policy (pageOf g) (reachedIn g)) page frame passed)
   commutes commit passed p = commit-commutes p
   commutes drop passed p =
-      bit-commutes false (pendingFrame (g .state .pending)) Nothing p (pending-small (drop-pending (seenBy policy (pageOf g) g) passed))
+      bit-commutes false (pendingFrame (g .state .pending)) Nothing p (pending-small (drop-pending (seenBy policy (pageOf g) (reachedIn g)) passed))
 
   -- Every page stays good, where there is as much code as before and the pending frame is code after a commit.
   most : policy .frames ≤ 4096
@@ -180,14 +181,14 @@ module _ (policy : Policy) (terms : Terms) (g : Guard) (h : Invariant policy ter
   joins-code f e other = term-code (named policy f) (terms f) (sym (h .excluded f) ∙ e) (h .waiting f ∙ awaited-other (g .state .pending) f other)
 
   good-with : (code′ : ℕ → Bool) → ((f : ℕ) → code policy terms f ≡ true → code′ f ≡ true) → ((f : ℕ) → code′ f ≡ true → f < policy .frames)
-      → (call : Call) → settled policy (pageOf g) g call ≡ 0 → ((p : ℕ) → Allows code′ (pageOf g p) (news policy p call))
+      → (call : Call) → settled policy (pageOf g) (reachedIn g) call ≡ 0 → ((p : ℕ) → Allows code′ (pageOf g p) (news policy p call))
       → (p : ℕ) → Good code′ (pageOf ((effectOf g call) .guard) p)
   good-with code′ more below′ call passed allows p =
       subst (Good code′) (commutes call passed p)
       (told-good policy code′ (pageOf g p) (news policy p call) most below′ (λ f e other. more f (joins-code f e other)) (allows p)
       (good-more (code policy terms) code′ (pageOf g p) more (h .good p)))
 
-  good-after : (call : Call) → settled policy (pageOf g) g call ≡ 0 → ((p : ℕ) → Allows (code policy terms) (pageOf g p) (news policy p call))
+  good-after : (call : Call) → settled policy (pageOf g) (reachedIn g) call ≡ 0 → ((p : ℕ) → Allows (code policy terms) (pageOf g p) (news policy p call))
       → (p : ℕ) → Good (code policy terms) (pageOf ((effectOf g call) .guard) p)
   good-after = good-with (code policy terms) (λ f e. e) (h .below)
 
@@ -282,21 +283,21 @@ module _ (policy : Policy) (terms : Terms) (g : Guard) (h : Invariant policy ter
       by false w = h .below f (term-code (named policy f) (terms f) e w)
 
   -- Every accepted call keeps what always holds.
-  pub kept : (call : Call) → settled policy (pageOf g) g call ≡ 0 → Invariant policy (termsAfter 0 call terms) ((effectOf g call) .guard)
-  unfolding termsAfter termAfter settle news settled questionsOf effectOf pageFrom allFrom pageSynced allSynced switchTo bitPut pairCommitted inMode running inUser pendingInRange isWaiting awaited protected code inTerm isCommitted either excludedWith
+  pub kept : (call : Call) → settled policy (pageOf g) (reachedIn g) call ≡ 0 → Invariant policy (termsAfter 0 call terms) ((effectOf g call) .guard)
+  unfolding termsAfter termAfter termChangeOf settle news settled questionsOf effectOf pageFrom allFrom pageSynced allSynced switchTo bitPut pairCommitted inMode running inUser pendingInRange isWaiting awaited protected code inTerm isCommitted either excludedWith
   kept (syncPage kernel page) passed = one-kept (entryIn kernel) page (good-after (syncPage kernel page) passed (allows-one (entryIn kernel) page))
   kept (syncAll kernel) passed = all-kept (entryIn kernel) (good-after (syncAll kernel) passed (allows-all (entryIn kernel)))
   kept (syncPageTree tree page) passed = one-kept (flatAt tree) page (good-after (syncPageTree tree page) passed (allows-one (flatAt tree) page))
   kept (syncAllTree tree) passed = all-kept (flatAt tree) (good-after (syncAllTree tree) passed (allows-all (flatAt tree)))
   kept (fetch page) passed =
       kept-with (modeOf (inUser (g .state .mode)) page) (g .tables .shadow) (g .tables .map)
-      (rw running-modeOf (fetch-page (seenBy policy (pageOf g) g) page passed)) (h .shadowLength) (h .mapLength) (good-after (fetch page) passed (λ p. tt))
+      (rw running-modeOf (fetch-page (seenBy policy (pageOf g) (reachedIn g)) page passed)) (h .shadowLength) (h .mapLength) (good-after (fetch page) passed (λ p. tt))
   kept (write address size) passed = h
   kept (enter index) passed =
       kept-with (Kernel (getD (g .state .«entry_pages») index 0)) (switchedAll false (g .tables .shadow)) (g .tables .map)
-      (rw (h .entryPages) (enter-page (seenBy policy (pageOf g) g) index passed)) (length-switched false (g .tables .shadow) ∙ h .shadowLength) (h .mapLength) (good-after (enter index) passed (λ p. tt))
+      (rw (h .entryPages) (enter-page (seenBy policy (pageOf g) (reachedIn g)) index passed)) (length-switched false (g .tables .shadow) ∙ h .shadowLength) (h .mapLength) (good-after (enter index) passed (λ p. tt))
   kept (leave page) passed =
-      kept-with (User page) (switchedAll true (g .tables .shadow)) (g .tables .map) (leave-page (seenBy policy (pageOf g) g) page passed) (length-switched true (g .tables .shadow) ∙ h .shadowLength)
+      kept-with (User page) (switchedAll true (g .tables .shadow)) (g .tables .map) (leave-page (seenBy policy (pageOf g) (reachedIn g)) page passed) (length-switched true (g .tables .shadow) ∙ h .shadowLength)
       (h .mapLength) (good-after (leave page) passed (λ p. tt))
   kept (deviceWrite devices device address size) passed = h
   kept (ask page frame) passed =
@@ -304,7 +305,7 @@ module _ (policy : Policy) (terms : Terms) (g : Guard) (h : Invariant policy ter
       (good-with _ more below (ask page frame) passed (λ p. tt))
     where
       v : View
-      v = seenBy policy (pageOf g) g
+      v = seenBy policy (pageOf g) (reachedIn g)
 
       pair-in : pendingInRange (policy .pages) (policy .frames) (Pair page frame) ≡ true
       pair-in = both-yes (lt-ltb page (policy .pages) (ask-page v page frame passed)) (lt-ltb frame (policy .frames) (ask-frame v page frame passed))
@@ -359,7 +360,7 @@ module _ (policy : Policy) (terms : Terms) (g : Guard) (h : Invariant policy ter
       more f c = code-is f ∙ code-term (named policy f) (terms f) c
 
       there : isPending (g .state .pending) ≡ true
-      there = commit-pending (seenBy policy (pageOf g) g) passed
+      there = commit-pending (seenBy policy (pageOf g) (reachedIn g)) passed
 
       now-code : code policy (termsAfter 0 commit terms) (pendingFrame (g .state .pending)) ≡ true
       now-code = code-is _ ∙ pending-protected there
@@ -372,7 +373,7 @@ module _ (policy : Policy) (terms : Terms) (g : Guard) (h : Invariant policy ter
       frame = pendingFrame (g .state .pending)
 
       there : isPending (g .state .pending) ≡ true
-      there = drop-pending (seenBy policy (pageOf g) g) passed
+      there = drop-pending (seenBy policy (pageOf g) (reachedIn g)) passed
 
       code-is : (f : ℕ) → code policy (termsAfter 0 drop terms) f ≡ code policy terms f
       code-is f = ap (either (named policy f)) (drop-code (terms f))

@@ -9,7 +9,7 @@ use Rattle.model.specs.Guard.{none, Guard, vectorBytes, hasBit, inUser, pending
 use Rattle.model.specs.Policy.{Policy, named, entryPages}
 use Rattle.model.specs.Questions.{View, firstNo, seen, stateInOrder}
 use Rattle.model.specs.Calls.{settle, refusedOf, broughtBy, Call, questionsOf, effectOf, answer}
-use Rattle.claim.specs.OnePage.{Page, seenBy, settled}
+use Rattle.claim.specs.OnePage.{Page, reachedIn, seenBy, settled}
 use Rattle.claim.specs.Terms.{Terms, protected, code}
 use Rattle.claim.proofs.TermLaws.{isWaiting, awaited}
 use Rattle.claim.proofs.PageLaws.{Good}
@@ -51,7 +51,7 @@ pub record Invariant (policy : Policy) (terms : Terms) (g : Guard) : Type 0 wher
 
 module _ (policy : Policy) (terms : Terms) (g : Guard) (h : Invariant policy terms g) where
   -- The questions see the same in the tables as in the one-page guards.
-  same-view : seen g ≡ seenBy policy (pageOf g) g
+  same-view : seen g ≡ seenBy policy (pageOf g) (reachedIn g)
   same-view i =
       record {
         pages = h .pages i;
@@ -71,6 +71,6 @@ module _ (policy : Policy) (terms : Terms) (g : Guard) (h : Invariant policy ter
       }
 
   -- The guard's outcome, by the number that the one-page guards settle.
-  pub answered : (call : Call) → answer g call ≡ settle (settled policy (pageOf g) g call) (effectOf g call) (refusedOf g (broughtBy call))
+  pub answered : (call : Call) → answer g call ≡ settle (settled policy (pageOf g) (reachedIn g) call) (effectOf g call) (refusedOf g (broughtBy call))
   unfolding answer settled
   answered call = ap (λ (v : View). settle (firstNo (questionsOf v call)) (effectOf g call) (refusedOf g (broughtBy call))) same-view

@@ -1,4 +1,5 @@
 -- The proof of the claim: what is always true of a page and of the guard, that every call keeps it, and the induction on the list.
+pub mod KindLaws
 pub mod TermLaws
 pub mod PageLaws
 pub mod Invariant

@@ -8,11 +8,11 @@ use Rattle.model.specs.Guard.{Guard}
 use Rattle.model.specs.Policy.{Policy, policyOf, startGuard}
 use Rattle.model.specs.Questions.{firstNo, lengthsOf, startQuestions}
 use Rattle.model.specs.Calls.{settle, Outcome, refusedOf, broughtBy, startOf, Call, effectOf, answer}
-use Rattle.claim.specs.OnePage.{firstPage, settled, pagesAfter}
+use Rattle.claim.specs.OnePage.{firstPage, reachedIn, settled, pagesAfter}
 use Rattle.claim.specs.Claim.{Agree, Always, Claim}
 use Rattle.claim.specs.Terms.{Terms, firstTerms, termsAfter}
 use Rattle.model.proofs.QuestionLaws.{settle-accepted, settle-refused}
-use Rattle.model.proofs.CallLaws.{effect-reply}
+use Rattle.model.proofs.CallLaws.{effects}
 use Rattle.claim.proofs.Invariant.{Invariant, pageOf, answered}
 use Rattle.claim.proofs.CommuteLaws.{commutes, kept}
 use Rattle.claim.proofs.SafeLaws.{safe}
@@ -40,10 +40,10 @@ always : (policy : Policy) (calls : List Call) (terms : Terms) (g : Guard) → I
     → Always policy terms g (pageOf g) calls
 unfolding pagesAfter
 always policy [] terms g h = agree policy terms g h
-always policy (call ∷ calls) terms g h = by-number (settled policy (pageOf g) g call) refl (always policy calls)
+always policy (call ∷ calls) terms g h = by-number (settled policy (pageOf g) (reachedIn g) call) refl (always policy calls)
   where
     number : ℕ
-    number = settled policy (pageOf g) g call
+    number = settled policy (pageOf g) (reachedIn g) call
 
     by-number : (n : ℕ) → number ≡ n
         → ((still : Terms) (after : Guard) → Invariant policy still after → Always policy still after (pageOf after) calls)
@@ -54,8 +54,8 @@ always policy (call ∷ calls) terms g h = by-number (settled policy (pageOf g) 
         let pages : pagesAfter policy number call (pageOf g) ≡ pageOf ((effectOf g call) .guard) =
         fun-ext (λ p. settle-accepted _ _ e ∙ commutes policy terms g h call e p) in (
           agree policy terms g h,
-          rw (outcome, e) (effect-reply g call .0),
-          rw (outcome, e) (effect-reply g call .1),
+          rw (outcome, e) (effects g call .number),
+          rw (outcome, e) (effects g call .allowed),
           (λ _. rw outcome (safe policy terms g h call e)),
           rw (outcome, pages, e) (rest _ _ (kept policy terms g h call e)),
         )

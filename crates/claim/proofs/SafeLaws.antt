@@ -1,29 +1,33 @@
 -- Demand 3: what an accepted fetch reads is code in kernel mode, and what an accepted write or device write covers is clear.
 use Prim.Native.Nat.{ℕ, _+_, _*_, _/_, _%_, _<_}
 use mathlib.Core.Bool.{true, not}
+use mathlib.Core.List.{List}
 use mathlib.Core.Path.{_≡_, refl, sym, _∙_}
 use lib.Dec.{ltb}
 use lib.ListN.{length, getD}
 use native.Mathlib.Omega.{arith}
 use borrow.Author.Tests.{ltb-true, not-true}
+use Rattle.model.specs.declared.Device.{Device}
 use Rattle.model.specs.Sizes.{pageBytes, lastByte, lastPage}
 use Rattle.model.specs.Guard.{Guard, hasBit}
 use Rattle.model.specs.Policy.{Policy}
 use Rattle.model.specs.Bits.{frameOf}
 use Rattle.model.specs.Devices.{deviceAt}
 use Rattle.model.specs.Questions.{free}
-use Rattle.model.specs.Calls.{Call, syncPage, syncAll, syncPageTree, syncAllTree, fetch, write, enter, leave, deviceWrite, ask, commit, drop, questionsOf, effectOf}
-use Rattle.claim.specs.OnePage.{seenBy, settled}
-use Rattle.claim.specs.Claim.{Clear, coveredBy, Safe}
+use Rattle.model.specs.Calls.{Call, fetch, write, deviceWrite, questionsOf, effectOf}
+use Rattle.claim.specs.CallKinds.{touchOf}
+use Rattle.claim.specs.OnePage.{reachedIn, seenBy, settled}
+use Rattle.claim.specs.Claim.{Clear, coveredBy, FetchSafe, WriteSafe, DeviceWriteSafe, Safe}
 use Rattle.claim.specs.Terms.{Terms, code}
 use Rattle.model.proofs.QuestionLaws.{both-first, both-second}
 use Rattle.claim.proofs.PageLaws.{good-code}
 use Rattle.model.proofs.AcceptedLaws.{fetch-there, fetch-executable, write-free, deviceWrite-free, deviceWrite-windowed}
+use Rattle.claim.proofs.KindLaws.{Touching, touchless, fetches, writes, transfers, kinds}
 use Rattle.claim.proofs.Invariant.{Invariant, pageOf}
 
 module _ (policy : Policy) (terms : Terms) (g : Guard) (h : Invariant policy terms g) where
   -- Any byte of a frame that question 13 lets pass is clear.
-  free-clear : (f x : ℕ) → free (seenBy policy (pageOf g) g) f ≡ true → x / pageBytes ≡ f → Clear policy terms x
+  free-clear : (f x : ℕ) → free (seenBy policy (pageOf g) (reachedIn g)) f ≡ true → x / pageBytes ≡ f → Clear policy terms x
   unfolding free
   free-clear f x passed e =
       let below : f < policy .frames = ltb-true f (policy .frames) (both-first _ _ passed) in
@@ -32,37 +36,51 @@ module _ (policy : Policy) (terms : Terms) (g : Guard) (h : Invariant policy ter
         unprotected = rw e (sym (h .excluded f) ∙ not-true (hasBit (g .tables .exclusion) f) (both-second (ltb f (policy .frames)) (not (hasBit (g .tables .exclusion) f)) passed));
       }
 
-  -- Every accepted call is safe.
-  pub safe : (call : Call) → settled policy (pageOf g) g call ≡ 0 → Safe policy terms (pageOf g) call ((effectOf g call) .reply)
-  unfolding settled questionsOf effectOf coveredBy lastPage lastByte
-  safe (syncPage kernel page) passed = tt
-  safe (syncAll kernel) passed = tt
-  safe (syncPageTree tree page) passed = tt
-  safe (syncAllTree tree) passed = tt
-  safe (fetch page) passed =
+  -- Every accepted call is safe: by what it touches.
+  fetch-safe : (page : ℕ) → settled policy (pageOf g) (reachedIn g) (fetch page) ≡ 0
+      → FetchSafe policy terms (pageOf g) page ((effectOf g (fetch page)) .reply)
+  unfolding settled questionsOf effectOf
+  fetch-safe page passed =
+      let v = seenBy policy (pageOf g) (reachedIn g) in
       record {
         first = refl;
         second = refl;
         approved = λ kernel.
-            good-code (code policy terms) (pageOf g page) (h .good page) kernel (fetch-there (seenBy policy (pageOf g) g) page passed)
-            (fetch-executable (seenBy policy (pageOf g) g) page passed);
+            good-code (code policy terms) (pageOf g page) (h .good page) kernel (fetch-there v page passed) (fetch-executable v page passed);
       }
-  safe (write address size) passed =
+
+  write-safe : (address size : ℕ) → settled policy (pageOf g) (reachedIn g) (write address size) ≡ 0
+      → WriteSafe policy terms (pageOf g) address size ((effectOf g (write address size)) .reply)
+  unfolding settled questionsOf effectOf coveredBy lastPage lastByte
+  write-safe address size passed =
       record {
         first = refl;
         second = refl;
         bytes = λ a l m.
-            free-clear (frameOf (getD (g .tables .shadow) (a / pageBytes) 0)) (frameOf (getD (g .tables .shadow) (a / pageBytes) 0) * pageBytes + a % pageBytes)
-            (write-free (seenBy policy (pageOf g) g) address size a passed l m) (omega arith);
+            let frame : ℕ = frameOf (getD (g .tables .shadow) (a / pageBytes) 0) in
+            free-clear frame (frame * pageBytes + a % pageBytes)
+            (write-free (seenBy policy (pageOf g) (reachedIn g)) address size a passed l m) (omega arith);
       }
-  safe (enter index) passed = tt
-  safe (leave page) passed = tt
-  safe (deviceWrite devices device address size) passed =
-      let v = seenBy policy (pageOf g) g in
+
+  transfer-safe : (devices : List Device) (device address size : ℕ)
+      → settled policy (pageOf g) (reachedIn g) (deviceWrite devices device address size) ≡ 0
+      → DeviceWriteSafe policy terms (deviceAt devices device) address size
+  unfolding settled questionsOf
+  transfer-safe devices device address size passed =
+      let v = seenBy policy (pageOf g) (reachedIn g) in
+      let window : Device = deviceAt devices device in
       record {
-        bytes = λ a l m. free-clear (a / pageBytes) a (deviceWrite-free v (length devices) (deviceAt devices device) device address size passed a l m) refl;
-        windowed = λ a l m. deviceWrite-windowed v (length devices) (deviceAt devices device) device address size passed a l m;
+        bytes = λ a l m. free-clear (a / pageBytes) a (deviceWrite-free v (length devices) window device address size passed a l m) refl;
+        windowed = λ a l m. deviceWrite-windowed v (length devices) window device address size passed a l m;
       }
-  safe (ask page frame) passed = tt
-  safe commit passed = tt
-  safe drop passed = tt
+
+  pub safe : (call : Call) → settled policy (pageOf g) (reachedIn g) call ≡ 0
+      → Safe policy terms (pageOf g) (touchOf call) ((effectOf g call) .reply)
+  unfolding touchOf
+  safe call passed = by (kinds call .0)
+    where
+      by : Touching call → Safe policy terms (pageOf g) (touchOf call) ((effectOf g call) .reply)
+      by (touchless e) = rw e tt
+      by (fetches page e) = rw e (fetch-safe page (rw e at passed))
+      by (writes address size e) = rw e (write-safe address size (rw e at passed))
+      by (transfers devices device address size e) = rw e (transfer-safe devices device address size (rw e at passed))

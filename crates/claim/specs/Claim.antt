@@ -1,6 +1,6 @@
 -- Demand 3: one claim about every list of calls after an accepted start.
 use Prim.Native.Nat.{ℕ, _+_, _-_, _*_, _/_, _%_, _<_, _≤_}
-use mathlib.Core.Bool.{Bool, true, false}
+use mathlib.Core.Bool.{true, false}
 use mathlib.Core.List.{List, [], _∷_}
 use mathlib.Core.Path.{_≡_}
 use lib.ListN.{length, getD}
@@ -10,9 +10,10 @@ use Rattle.model.specs.Sizes.{pageBytes}
 use Rattle.model.specs.Guard.{none, Tables, Guard, vectorBytes, inUser}
 use Rattle.model.specs.Policy.{Givens, Policy, policyOf}
 use Rattle.model.specs.Bits.{frameOf}
-use Rattle.model.specs.Devices.{deviceAt, inWindow}
-use Rattle.model.specs.Calls.{Reply, Outcome, startOf, Call, syncPage, syncAll, syncPageTree, syncAllTree, fetch, write, enter, leave, deviceWrite, ask, commit, drop, answer}
-use Rattle.claim.specs.OnePage.{Page, firstPage, settled, pagesAfter}
+use Rattle.model.specs.Devices.{inWindow}
+use Rattle.model.specs.Calls.{Reply, Outcome, startOf, Call, answer}
+use Rattle.claim.specs.CallKinds.{Touch, untouched, fetched, written, transferred, touchOf}
+use Rattle.claim.specs.OnePage.{Page, firstPage, reachedIn, settled, pagesAfter}
 use Rattle.claim.specs.Terms.{Terms, firstTerms, termsAfter, protected, code}
 
 -- After the start and after every call: the tables have their lengths, "the state agrees on kernel or user", and each page's shadow entry
@@ -54,32 +55,24 @@ pub record DeviceWriteSafe (policy : Policy) (terms : Terms) (window : Device) (
   pub bytes : (a : ℕ) → address ≤ a → a < address + size → Clear policy terms a
   pub windowed : (a : ℕ) → address ≤ a → a < address + size → inWindow window (a / pageBytes) ≡ true
 
--- What an allowed call reads and covers, by the one-page guards as they are at the call.
-abbrev pub Safe : Policy → Terms → (ℕ → Page) → Call → Reply → Type 0
-Safe policy terms ps (syncPage kernel page) reply = Unit {0}
-Safe policy terms ps (syncAll kernel) reply = Unit {0}
-Safe policy terms ps (syncPageTree tree page) reply = Unit {0}
-Safe policy terms ps (syncAllTree tree) reply = Unit {0}
-Safe policy terms ps (fetch page) reply = FetchSafe policy terms ps page reply
-Safe policy terms ps (write address size) reply = WriteSafe policy terms ps address size reply
-Safe policy terms ps (enter index) reply = Unit {0}
-Safe policy terms ps (leave page) reply = Unit {0}
-Safe policy terms ps (deviceWrite devices device address size) reply = DeviceWriteSafe policy terms (deviceAt devices device) address size
-Safe policy terms ps (ask page frame) reply = Unit {0}
-Safe policy terms ps commit reply = Unit {0}
-Safe policy terms ps drop reply = Unit {0}
+-- What an allowed call reads and covers, by what it touches and by the one-page guards as they are at the call.
+abbrev pub Safe : Policy → Terms → (ℕ → Page) → Touch → Reply → Type 0
+Safe policy terms ps untouched reply = Unit {0}
+Safe policy terms ps (fetched page) reply = FetchSafe policy terms ps page reply
+Safe policy terms ps (written address size) reply = WriteSafe policy terms ps address size reply
+Safe policy terms ps (transferred window address size) reply = DeviceWriteSafe policy terms window address size
 
 -- The guard and the one-page guards agree now; "the guard answers the same number, or none" as they settle, and says that the call is
 -- allowed just where there is none; an allowed call is safe; and all of this again after the call, for the rest of the list.
 abbrev pub Always : Policy → Terms → Guard → (ℕ → Page) → List Call → Type 0
 Always policy terms g ps [] = Agree policy g ps
 Always policy terms g ps (call ∷ calls) =
-    let number : ℕ = settled policy ps g call in
+    let number : ℕ = settled policy ps (reachedIn g) call in
     let outcome : Outcome = answer g call in
     Agree policy g ps
     × (outcome .reply .number ≡ number)
     × (outcome .reply .allowed ≡ eqb number 0)
-    × (number ≡ 0 → Safe policy terms ps call (outcome .reply))
+    × (number ≡ 0 → Safe policy terms ps (touchOf call) (outcome .reply))
     × Always policy (termsAfter number call terms) (outcome .guard) (pagesAfter policy number call ps) calls
 
 -- For every policy record, what else the start is given, and lent tables, whose start is accepted, and every list of calls: no other premise.

@@ -6,6 +6,7 @@ use mathlib.Core.List.{List, [], _∷_}
 use lib.ListN.{getD}
 use lib.Dec.{ltb, eqb}
 use Rattle.model.specs.Basics.{member}
+use Rattle.model.specs.declared.Pending.{Pending}
 use Rattle.model.specs.Guard.{none, Guard}
 use Rattle.model.specs.Policy.{Policy, named, entryPages}
 use Rattle.model.specs.Bits.{approved}
@@ -131,18 +132,26 @@ news policy p (ask page frame) = asked (eqb p page) frame
 news policy p commit = committed
 news policy p drop = dropped
 
--- What the questions look at, made of the policy and the one-page guards. They were all told the same switches, so that the mode, and the
--- excluded frames, are read off page 0's. "the state and guard tables pass question 7". "Only what else a later request asks about is read from
--- the state and tables that reach the call": the number of devices (K5), and whether and what is pending (K6).
-abbrev pub seenBy : Policy → (ℕ → Page) → Guard → View
-seenBy policy ps reaching =
+-- "Only what else a later request asks about is read from the state and tables that reach the call": the number of devices (K5), and whether and
+-- what is pending (K6). A question reads nothing else of the guard.
+pub record Reached : Type 0 where
+  pub devices : ℕ
+  pub pending : Pending
+
+abbrev pub reachedIn : Guard → Reached
+reachedIn g = record { devices = g .state .devices; pending = g .state .pending }
+
+-- What the questions look at, made of the policy, the one-page guards and what else they may read. The one-page guards were all told the same
+-- switches, so that the mode, and the excluded frames, are read off page 0's. "the state and guard tables pass question 7".
+abbrev pub seenBy : Policy → (ℕ → Page) → Reached → View
+seenBy policy ps reached =
     record {
       pages = policy .pages;
       frames = policy .frames;
       entryCount = policy .entryCount;
       entryPage = λ i. getD (entryPages policy) i 0;
-      devices = reaching .state .devices;
-      pending = reaching .state .pending;
+      devices = reached .devices;
+      pending = reached .pending;
       user = (ps 0) .user;
       shadow = λ p. (ps p) .entry;
       approval = λ p. (ps p) .approval;
@@ -155,8 +164,8 @@ seenBy policy ps reaching =
 
 -- "Whether a call is accepted, and else its number, is settled by the questions in order from its arguments and the policy, with the mode,
 -- entries, approvals and excluded frames of the one-page guards".
-unfoldable pub settled : Policy → (ℕ → Page) → Guard → Call → ℕ
-settled policy ps reaching call = firstNo (questionsOf (seenBy policy ps reaching) call)
+unfoldable pub settled : Policy → (ℕ → Page) → Reached → Call → ℕ
+settled policy ps reached call = firstNo (questionsOf (seenBy policy ps reached) call)
 
 -- The one-page guards after a call that was settled with this number: told of it if it was accepted. "any refused call: no change"
 unfoldable pub pagesAfter : Policy → ℕ → Call → (ℕ → Page) → ℕ → Page

@@ -5,7 +5,8 @@ use mathlib.Core.Bool.{Bool, true, false, cond}
 use lib.Dec.{eqb}
 use Rattle.model.specs.Basics.{either}
 use Rattle.model.specs.Policy.{Policy, named}
-use Rattle.model.specs.Calls.{settle, Call, syncPage, syncAll, syncPageTree, syncAllTree, fetch, write, enter, leave, deviceWrite, ask, commit, drop}
+use Rattle.model.specs.Calls.{settle, Call}
+use Rattle.claim.specs.CallKinds.{TermChange, unchanged, begun, confirmed, ended, termChangeOf}
 
 -- The term of a frame begins with an accepted ask for it and ends with the drop of that ask. A commit makes it lasting.
 pub data Term : Type 0 where
@@ -24,20 +25,12 @@ afterDrop noTerm = noTerm
 afterDrop pendingTerm = noTerm
 afterDrop committedTerm = committedTerm
 
--- The term of frame f after an accepted call.
-unfoldable pub termAfter : Call → ℕ → Term → Term
-termAfter (syncPage kernel page) f term = term
-termAfter (syncAll kernel) f term = term
-termAfter (syncPageTree tree page) f term = term
-termAfter (syncAllTree tree) f term = term
-termAfter (fetch page) f term = term
-termAfter (write address size) f term = term
-termAfter (enter index) f term = term
-termAfter (leave page) f term = term
-termAfter (deviceWrite devices device address size) f term = term
-termAfter (ask page frame) f term = cond (eqb f frame) pendingTerm term
-termAfter commit f term = afterCommit term
-termAfter drop f term = afterDrop term
+-- The term of frame f after an accepted call, by what that does to terms.
+unfoldable pub termAfter : TermChange → ℕ → Term → Term
+termAfter unchanged f term = term
+termAfter (begun frame) f term = cond (eqb f frame) pendingTerm term
+termAfter confirmed f term = afterCommit term
+termAfter ended f term = afterDrop term
 
 -- The term of each frame: none at first, and after a call that was settled with this number. A refused call changes none.
 abbrev pub Terms : Type 0
@@ -47,7 +40,7 @@ unfoldable pub firstTerms : Terms
 firstTerms f = noTerm
 
 unfoldable pub termsAfter : ℕ → Call → Terms → Terms
-termsAfter number call terms f = settle number (termAfter call f (terms f)) (λ n. terms f)
+termsAfter number call terms f = settle number (termAfter (termChangeOf call) f (terms f)) (λ n. terms f)
 
 unfoldable pub inTerm : Term → Bool
 inTerm noTerm = false

@@ -2,8 +2,8 @@
 use Prim.Native.Nat.{ℕ, zero, suc, _≤_, _<_}
 use mathlib.Core.Bool.{Bool, true, false, not}
 use mathlib.Core.List.{List, [], _∷_}
+use mathlib.Core.Logic.{_⊎_, inl, inr}
 use mathlib.Core.Path.{_≡_, refl, sym, _∙_}
-use lib.ListN.{getD}
 use native.Mathlib.Omega.{arith}
 use borrow.Author.Tests.{not-true, not-false}
 use Rattle.model.specs.declared.Answer.the-variants.{Refused}
@@ -63,54 +63,41 @@ state-refused v (ask page frame) p = firstNo-no 7 _ (state-no _ _ p)
 state-refused v commit p = firstNo-no 7 _ (state-no _ _ p)
 state-refused v drop p = firstNo-no 7 _ (state-no _ _ p)
 
--- An accepted call has no number, and says that it is allowed.
-pub effect-reply : (g : Guard) (call : Call) → ((effectOf g call) .reply .number ≡ 0) × ((effectOf g call) .reply .allowed ≡ true)
-unfolding effectOf pageFrom allFrom pageSynced allSynced switchTo bitPut pairCommitted
-effect-reply g (syncPage kernel page) = (refl, refl)
-effect-reply g (syncAll kernel) = (refl, refl)
-effect-reply g (syncPageTree tree page) = (refl, refl)
-effect-reply g (syncAllTree tree) = (refl, refl)
-effect-reply g (fetch page) = (refl, refl)
-effect-reply g (write address length) = (refl, refl)
-effect-reply g (enter index) = (refl, refl)
-effect-reply g (leave page) = (refl, refl)
-effect-reply g (deviceWrite devices device address size) = (refl, refl)
-effect-reply g (ask page frame) = (refl, refl)
-effect-reply g commit = (refl, refl)
-effect-reply g drop = (refl, refl)
+-- An accepted call has no number and says that it is allowed; it changes the mode of the state and what is pending alone; and the page that runs
+-- then ran before, or is below V.
+pub record Effect (g : Guard) (call : Call) : Type 0 where
+  pub number : effectOf g call .reply .number ≡ 0
+  pub allowed : effectOf g call .reply .allowed ≡ true
+  pub state : effectOf g call .guard .state
+      ≡ withPending (inMode (g .state) (effectOf g call .guard .state .mode)) (effectOf g call .guard .state .pending)
+  pub runs : firstNo (questionsOf (seen g) call) ≡ 0
+      → (running (effectOf g call .guard .state .mode) ≡ running (g .state .mode)) ⊎ (running (effectOf g call .guard .state .mode) < g .state .pages)
 
--- An accepted call changes the mode of the state and what is pending alone, and a page that runs then is below V, where one ran below V before.
-pub effect-state : (g : Guard) (call : Call)
-    → effectOf g call .guard .state ≡ withPending (inMode (g .state) (effectOf g call .guard .state .mode)) (effectOf g call .guard .state .pending)
-unfolding effectOf pageFrom allFrom pageSynced allSynced switchTo bitPut pairCommitted inMode withPending
-effect-state g (syncPage kernel page) = refl
-effect-state g (syncAll kernel) = refl
-effect-state g (syncPageTree tree page) = refl
-effect-state g (syncAllTree tree) = refl
-effect-state g (fetch page) = refl
-effect-state g (write address length) = refl
-effect-state g (enter index) = refl
-effect-state g (leave page) = refl
-effect-state g (deviceWrite devices device address size) = refl
-effect-state g (ask page frame) = refl
-effect-state g commit = refl
-effect-state g drop = refl
+pub effects : (g : Guard) (call : Call) → Effect g call
+unfolding questionsOf effectOf pageFrom allFrom pageSynced allSynced switchTo bitPut pairCommitted inMode withPending running
+effects g (syncPage kernel page) = record { number = refl; allowed = refl; state = refl; runs = λ passed. inl refl }
+effects g (syncAll kernel) = record { number = refl; allowed = refl; state = refl; runs = λ passed. inl refl }
+effects g (syncPageTree tree page) = record { number = refl; allowed = refl; state = refl; runs = λ passed. inl refl }
+effects g (syncAllTree tree) = record { number = refl; allowed = refl; state = refl; runs = λ passed. inl refl }
+effects g (fetch page) = record { number = refl; allowed = refl; state = refl; runs = λ passed. inr (rw running-modeOf (fetch-page (seen g) page passed)) }
+effects g (write address length) = record { number = refl; allowed = refl; state = refl; runs = λ passed. inl refl }
+effects g (enter index) = record { number = refl; allowed = refl; state = refl; runs = λ passed. inr (enter-page (seen g) index passed) }
+effects g (leave page) = record { number = refl; allowed = refl; state = refl; runs = λ passed. inr (leave-page (seen g) page passed) }
+effects g (deviceWrite devices device address size) = record { number = refl; allowed = refl; state = refl; runs = λ passed. inl refl }
+effects g (ask page frame) = record { number = refl; allowed = refl; state = refl; runs = λ passed. inl refl }
+effects g commit = record { number = refl; allowed = refl; state = refl; runs = λ passed. inl refl }
+effects g drop = record { number = refl; allowed = refl; state = refl; runs = λ passed. inl refl }
 
 pub effect-runs : (g : Guard) (call : Call) (limit : ℕ) → g .state .pages ≤ limit → running (g .state .mode) < limit
     → firstNo (questionsOf (seen g) call) ≡ 0 → running (effectOf g call .guard .state .mode) < limit
-unfolding questionsOf effectOf pageFrom allFrom pageSynced allSynced switchTo bitPut pairCommitted inMode withPending running
-effect-runs g (syncPage kernel page) limit few now passed = now
-effect-runs g (syncAll kernel) limit few now passed = now
-effect-runs g (syncPageTree tree page) limit few now passed = now
-effect-runs g (syncAllTree tree) limit few now passed = now
-effect-runs g (fetch page) limit few now passed = rw running-modeOf (let b : page < g .state .pages = fetch-page (seen g) page passed in omega arith)
-effect-runs g (write address length) limit few now passed = now
-effect-runs g (enter index) limit few now passed = let b : getD (g .state .«entry_pages») index 0 < g .state .pages = enter-page (seen g) index passed in omega arith
-effect-runs g (leave page) limit few now passed = let b : page < g .state .pages = leave-page (seen g) page passed in omega arith
-effect-runs g (deviceWrite devices device address size) limit few now passed = now
-effect-runs g (ask page frame) limit few now passed = now
-effect-runs g commit limit few now passed = now
-effect-runs g drop limit few now passed = now
+effect-runs g call limit few now passed = by (effects g call .runs passed)
+  where
+    page : ℕ
+    page = running (effectOf g call .guard .state .mode)
+
+    by : (page ≡ running (g .state .mode)) ⊎ (page < g .state .pages) → page < limit
+    by (inl e) = rw e now
+    by (inr below) = omega arith
 
 pub answer-unfit : (g : Guard) (call : Call) → stateInOrder (g .state) ≡ false → answer g call ≡ refusedOf g (broughtBy call) 7
 unfolding answer

@@ -6,7 +6,7 @@ use Rattle.model.specs.Guard.{Guard, inMode, withPending}
 use Rattle.model.specs.Questions.{firstNo, seen, deviceWriteQuestions}
 use Rattle.model.specs.Calls.{Outcome, settle, Call, questionsOf, effectOf, broughtBy, refusedOf, answer}
 use Rattle.model.specs.Windows.{SameBut, WindowsIndependent, DevicesKept}
-use Rattle.model.proofs.CallLaws.{effect-state}
+use Rattle.model.proofs.CallLaws.{effects}
 
 pub windows-independent : WindowsIndependent
 unfolding WindowsIndependent answer questionsOf effectOf broughtBy deviceWriteQuestions
@@ -22,4 +22,4 @@ pub devices-kept : DevicesKept
 unfolding DevicesKept answer inMode withPending
 devices-kept g call =
     settled-devices g (firstNo (questionsOf (seen g) call)) (g .state .devices) (effectOf g call) (refusedOf g (broughtBy call))
-    (ap (λ (s : State). s .devices) (effect-state g call)) (λ k. refl)
+    (ap (λ (s : State). s .devices) (effects g call .state)) (λ k. refl)

@@ -14,7 +14,7 @@ use Rattle.model.specs.Guard.{Tables, Guard, guardOf, running, modeOf, inMode, 
 use Rattle.model.specs.Questions.{firstNo, seen, pendingInRange}
 use Rattle.model.specs.Calls.{settle, Outcome, refusedOf, Call, syncPage, syncAll, syncPageTree, syncAllTree, fetch, write, enter, leave, deviceWrite, ask, commit, drop, broughtBy, questionsOf, effectOf, answer, pageSynced, allSynced, pageFrom, allFrom, switchTo, bitPut, pairCommitted}
 use Rattle.model.proofs.StateLaws.{inUser-modeOf, running-modeOf}
-use Rattle.model.proofs.CallLaws.{effect-reply, effect-state, effect-runs}
+use Rattle.model.proofs.CallLaws.{effects, effect-runs}
 use Rattle.model.proofs.AcceptedLaws.{ask-page, ask-frame}
 use Rattle.model.proofs.QuestionLaws.{both-yes}
 use Rattle.model.proofs.TableLaws.{length-table}
@@ -47,7 +47,7 @@ module _ (run : List ℕ) (t : Tables) where
 
   entries-long : (call : Call) → length (after call .«entry_pages») ≡ entryWords
   unfolding stateIn inMode withPending entryPagesIn
-  entries-long call = rw (effect-state g call) (length-table entryWords _)
+  entries-long call = rw (effects g call .state) (length-table entryWords _)
 
   -- A fetch keeps kernel or user.
   mode-stays : (page : ℕ) → modeOf (eqb (getD run modeAt 0) 1) (running (after (fetch page) .mode)) ≡ after (fetch page) .mode
@@ -92,7 +92,7 @@ module _ (run : List ℕ) (t : Tables) where
         → let o : Outcome = settle n (effectOf g call) (refusedOf g (broughtBy call)) in
         stateIn (runAfter run (changedBy call) (o .reply) (o .guard .state)) ≡ o .guard .state
     unfolding settle runAfter
-    held call zero e = rw (effect-reply g call .0) (words-hold call e (effect-runs g call 65536 narrow-pages narrow-running e))
+    held call zero e = rw (effects g call .number) (words-hold call e (effect-runs g call 65536 narrow-pages narrow-running e))
     held call (suc n) e = refl
 
 whole : (run numbers : List ℕ) (t : Tables) (call : Call) → lendable (numbersBy call) run numbers ≡ true
