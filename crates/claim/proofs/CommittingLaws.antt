@@ -33,13 +33,15 @@ module _ (policy : Policy) (terms : Terms) (g : Guard) (h : Invariant policy ter
   number-settled : (answer g call) .reply .number ≡ settled policy (pageOf g) (reachedIn g) call
   number-settled =
       ap (λ (o : Outcome). o .reply .number) (answered policy terms g h call)
-      ∙ settle-number (λ (o : Outcome). o .reply .number) (settled policy (pageOf g) (reachedIn g) call) (effectOf g call) (refusedOf g (broughtBy call)) (effects g call .number) (λ k. refl)
+      ∙ settle-number (λ (o : Outcome). o .reply .number) (settled policy (pageOf g) (reachedIn g) call) (effectOf g call) (refusedOf g (broughtBy call))
+      (effects g call .number) (λ k. refl)
 
   accepted-settled : Accepts g call → settled policy (pageOf g) (reachedIn g) call ≡ 0
   accepted-settled e = sym number-settled ∙ e
 
   accepted-guard : Accepts g call → (answer g call) .guard ≡ (effectOf g call) .guard
-  accepted-guard e = ap (λ (o : Outcome). o .guard) (answered policy terms g h call ∙ settle-accepted (effectOf g call) (refusedOf g (broughtBy call)) (accepted-settled e))
+  accepted-guard e =
+      ap (λ (o : Outcome). o .guard) (answered policy terms g h call ∙ settle-accepted (effectOf g call) (refusedOf g (broughtBy call)) (accepted-settled e))
 
   -- After a call, refused or accepted.
   pub step-kept : Invariant policy (termsAfter ((answer g call) .reply .number) call terms) ((answer g call) .guard)
@@ -50,7 +52,8 @@ module _ (policy : Policy) (terms : Terms) (g : Guard) (h : Invariant policy ter
       by zero e = rw (accepted-guard e) (kept policy terms g h call (accepted-settled e))
       by (suc n) e =
           let guard : (answer g call) .guard ≡ g =
-          ap (λ (o : Outcome). o .guard) (answered policy terms g h call ∙ settle-refused n (effectOf g call) (refusedOf g (broughtBy call)) (sym number-settled ∙ e)) in
+          ap (λ (o : Outcome). o .guard)
+          (answered policy terms g h call ∙ settle-refused n (effectOf g call) (refusedOf g (broughtBy call)) (sym number-settled ∙ e)) in
           rw guard h
 
   -- A protected frame: an allowed write or transfer covers no byte of it.

@@ -15,15 +15,18 @@ use Rattle.model.specs.declared.Mode.{Mode}
 use Rattle.model.specs.declared.Mode.the-variants.{Kernel, User}
 use Rattle.model.specs.Basics.{bit, both, either}
 use Rattle.model.specs.Bits.{present}
-use Rattle.model.specs.Guard.{none, Tables, withShadow, withMap, Guard, guardOf, hasBit, withBit, inUser, running, modeOf, isPending, pendingFrame, isAsked, inMode, withPending}
+use Rattle.model.specs.Guard.{none, Tables, withShadow, withMap, Guard, guardOf, hasBit, withBit, inUser, running, modeOf, isPending, pendingFrame, isAsked}
+use Rattle.model.specs.Guard.{inMode, withPending}
 use Rattle.model.specs.Policy.{Policy, named}
 use Rattle.model.specs.Tree.{flatAt}
 use Rattle.model.specs.Sync.{Slot, slot, step, entryIn, stepFrom, Sweep, sweepFrom}
 use Rattle.model.specs.Switch.{switchedAll}
 use Rattle.model.specs.Questions.{View, pendingInRange}
-use Rattle.model.specs.Calls.{Call, syncPage, syncAll, syncPageTree, syncAllTree, fetch, write, enter, leave, deviceWrite, ask, commit, drop, settle, questionsOf, rulesOf, pageSynced, allSynced, pageFrom, allFrom, switchTo, bitPut, pairCommitted, effectOf}
+use Rattle.model.specs.Calls.{Call, syncPage, syncAll, syncPageTree, syncAllTree, fetch, write, enter, leave, deviceWrite, ask, commit, drop, settle}
+use Rattle.model.specs.Calls.{questionsOf, rulesOf, pageSynced, allSynced, pageFrom, allFrom, switchTo, bitPut, pairCommitted, effectOf}
 use Rattle.claim.specs.CallKinds.{termChangeOf}
-use Rattle.claim.specs.OnePage.{Page, withPair, synchronised, nothing, reachedIn, seenBy, settled, stepped, switchedPage, excludedWith, askedPage, committedPage, droppedPage, told, newsOfOne, newsOfAll, news}
+use Rattle.claim.specs.OnePage.{Page, withPair, synchronised, nothing, reachedIn, seenBy, settled, stepped, switchedPage, excludedWith, askedPage}
+use Rattle.claim.specs.OnePage.{committedPage, droppedPage, told, newsOfOne, newsOfAll, news}
 use Rattle.model.specs.Approvals.{maps, committedSlot}
 use Rattle.claim.specs.Terms.{Terms, pendingTerm, afterDrop, termAfter, termsAfter, inTerm, isCommitted, protected, code}
 use Rattle.model.proofs.QuestionLaws.{both-yes, either-second}
@@ -31,9 +34,11 @@ use Rattle.model.proofs.StateLaws.{inUser-modeOf, running-modeOf, state-parts, 
 use Rattle.claim.proofs.PageLaws.{Good, good-more, Allows, told-good}
 use Rattle.model.proofs.SweepLaws.{sweep-shadow-length, sweep-map-length, sweep-at}
 use Rattle.model.proofs.SwitchLaws.{length-switched, switched-at}
-use Rattle.model.proofs.AcceptedLaws.{syncPage-page, syncPageTree-page, fetch-page, enter-page, leave-page, ask-page, ask-frame, ask-first, ask-free, commit-pending, drop-pending}
+use Rattle.model.proofs.AcceptedLaws.{syncPage-page, syncPageTree-page, fetch-page, enter-page, leave-page, ask-page, ask-frame, ask-first, ask-free}
+use Rattle.model.proofs.AcceptedLaws.{commit-pending, drop-pending}
 use Rattle.model.proofs.VectorLaws.{byte-below, withBit-length, hasBit-withBit}
-use Rattle.claim.proofs.TermLaws.{isWaiting, awaited, commit-in, commit-over, commit-code, drop-over, drop-in, drop-out, drop-code, term-code, code-term, term-named, awaited-none, awaited-is, awaited-other, awaited-below, pending-below, asked-below, waiting-in}
+use Rattle.claim.proofs.TermLaws.{isWaiting, awaited, commit-in, commit-over, commit-code, drop-over, drop-in, drop-out, drop-code, term-code, code-term}
+use Rattle.claim.proofs.TermLaws.{term-named, awaited-none, awaited-is, awaited-other, awaited-below, pending-below, asked-below, waiting-in}
 use Rattle.claim.proofs.Invariant.{Invariant, pageOf}
 
 module _ (policy : Policy) (terms : Terms) (g : Guard) (h : Invariant policy terms g) where
@@ -92,10 +97,13 @@ module _ (policy : Policy) (terms : Terms) (g : Guard) (h : Invariant policy ter
             → told policy (pageOf g p) (cond b (synchronised (kernel p)) nothing) ≡ pageOf ((allFrom g kernel) .guard) p
         at true e =
             let below : p < policy .pages = ltb-true p (policy .pages) e in
-            let there = rw add-zero at (sweep-at f 0 (g .tables .shadow) (g .tables .map) p 0 none (omega (arith, h .shadowLength)) (omega (arith, h .mapLength))) in
+            let there =
+            rw add-zero at (sweep-at f 0 (g .tables .shadow) (g .tables .map) p 0 none (omega (arith, h .shadowLength)) (omega (arith, h .mapLength))) in
             stepped-at (after .shadow) (after .map) p (kernel p) (there .0) (there .1)
         at false e =
-            past-kept (after .shadow) (after .map) p (ltb-false p (policy .pages) e) (sweep-shadow-length f 0 (g .tables .shadow) (g .tables .map) ∙ h .shadowLength) (sweep-map-length f 0 (g .tables .shadow) (g .tables .map) ∙ h .mapLength)
+            past-kept (after .shadow) (after .map) p (ltb-false p (policy .pages) e)
+            (sweep-shadow-length f 0 (g .tables .shadow) (g .tables .map) ∙ h .shadowLength)
+            (sweep-map-length f 0 (g .tables .shadow) (g .tables .map) ∙ h .mapLength)
 
   -- The pending pair is below V and F.
   pair-fits : pendingInRange (policy .pages) (policy .frames) (g .state .pending) ≡ true
@@ -144,21 +152,25 @@ module _ (policy : Policy) (terms : Terms) (g : Guard) (h : Invariant policy ter
       at : (b : Bool) → ltb p (policy .pages) ≡ b → committedPage (pageOf g p) ≡ pageOf ((pairCommitted g) .guard) p
       at true e =
           let below : p < policy .pages = ltb-true p (policy .pages) e in
-          let there = rw add-zero at (sweep-at f 0 (g .tables .shadow) (g .tables .map) p 0 none (omega (arith, h .shadowLength)) (omega (arith, h .mapLength))) in
+          let there =
+          rw add-zero at (sweep-at f 0 (g .tables .shadow) (g .tables .map) p 0 none (omega (arith, h .shadowLength)) (omega (arith, h .mapLength))) in
           rw (there .0, there .1) refl
       at false e =
           let past : policy .pages ≤ p = ltb-false p (policy .pages) e in
           let entry : getD (g .tables .shadow) p 0 ≡ 0 = List·getD-eq-default (g .tables .shadow) 0 (omega (arith, h .shadowLength)) in
           let approval : getD (g .tables .map) p none ≡ none = List·getD-eq-default (g .tables .map) none (omega (arith, h .mapLength)) in
-          let entry′ : getD (after .shadow) p 0 ≡ 0 = List·getD-eq-default (after .shadow) 0 (omega (arith, sweep-shadow-length f 0 (g .tables .shadow) (g .tables .map), h .shadowLength)) in
-          let approval′ : getD (after .map) p none ≡ none = List·getD-eq-default (after .map) none (omega (arith, sweep-map-length f 0 (g .tables .shadow) (g .tables .map), h .mapLength)) in
+          let entry′ : getD (after .shadow) p 0 ≡ 0 =
+          List·getD-eq-default (after .shadow) 0 (omega (arith, sweep-shadow-length f 0 (g .tables .shadow) (g .tables .map), h .shadowLength)) in
+          let approval′ : getD (after .map) p none ≡ none =
+          List·getD-eq-default (after .map) none (omega (arith, sweep-map-length f 0 (g .tables .shadow) (g .tables .map), h .mapLength)) in
           rw (entry, approval, entry′, approval′, past-slot p past) refl
 
   -- Each accepted call, as the one-page guards are told of it.
   pub commutes : (call : Call) → settled policy (pageOf g) (reachedIn g) call ≡ 0 → (p : ℕ)
       → told policy (pageOf g p) (news policy p call) ≡ pageOf ((effectOf g call) .guard) p
   unfolding news told settled questionsOf effectOf switchTo inMode inUser switchedPage askedPage droppedPage pendingFrame isAsked
-  commutes (syncPage kernel page) passed p = one-commutes (entryIn kernel) page (syncPage-page (seenBy policy (pageOf g) (reachedIn g)) (length kernel) page passed) p
+  commutes (syncPage kernel page) passed p =
+      one-commutes (entryIn kernel) page (syncPage-page (seenBy policy (pageOf g) (reachedIn g)) (length kernel) page passed) p
   commutes (syncAll kernel) passed p = all-commutes (entryIn kernel) p
   commutes (syncPageTree tree page) passed p = one-commutes (flatAt tree) page (syncPageTree-page (seenBy policy (pageOf g) (reachedIn g)) tree page passed) p
   commutes (syncAllTree tree) passed p = all-commutes (flatAt tree) p
@@ -284,24 +296,29 @@ module _ (policy : Policy) (terms : Terms) (g : Guard) (h : Invariant policy ter
 
   -- Every accepted call keeps what always holds.
   pub kept : (call : Call) → settled policy (pageOf g) (reachedIn g) call ≡ 0 → Invariant policy (termsAfter 0 call terms) ((effectOf g call) .guard)
-  unfolding termsAfter termAfter termChangeOf settle news settled questionsOf effectOf pageFrom allFrom pageSynced allSynced switchTo bitPut pairCommitted inMode running inUser pendingInRange isWaiting awaited protected code inTerm isCommitted either excludedWith
+  unfolding termsAfter termAfter termChangeOf settle news settled questionsOf effectOf pageFrom allFrom pageSynced allSynced switchTo
+      bitPut pairCommitted inMode running inUser pendingInRange isWaiting awaited protected code inTerm isCommitted either excludedWith
   kept (syncPage kernel page) passed = one-kept (entryIn kernel) page (good-after (syncPage kernel page) passed (allows-one (entryIn kernel) page))
   kept (syncAll kernel) passed = all-kept (entryIn kernel) (good-after (syncAll kernel) passed (allows-all (entryIn kernel)))
   kept (syncPageTree tree page) passed = one-kept (flatAt tree) page (good-after (syncPageTree tree page) passed (allows-one (flatAt tree) page))
   kept (syncAllTree tree) passed = all-kept (flatAt tree) (good-after (syncAllTree tree) passed (allows-all (flatAt tree)))
   kept (fetch page) passed =
       kept-with (modeOf (inUser (g .state .mode)) page) (g .tables .shadow) (g .tables .map)
-      (rw running-modeOf (fetch-page (seenBy policy (pageOf g) (reachedIn g)) page passed)) (h .shadowLength) (h .mapLength) (good-after (fetch page) passed (λ p. tt))
+      (rw running-modeOf (fetch-page (seenBy policy (pageOf g) (reachedIn g)) page passed)) (h .shadowLength) (h .mapLength)
+      (good-after (fetch page) passed (λ p. tt))
   kept (write address size) passed = h
   kept (enter index) passed =
       kept-with (Kernel (getD (g .state .«entry_pages») index 0)) (switchedAll false (g .tables .shadow)) (g .tables .map)
-      (rw (h .entryPages) (enter-page (seenBy policy (pageOf g) (reachedIn g)) index passed)) (length-switched false (g .tables .shadow) ∙ h .shadowLength) (h .mapLength) (good-after (enter index) passed (λ p. tt))
+      (rw (h .entryPages) (enter-page (seenBy policy (pageOf g) (reachedIn g)) index passed)) (length-switched false (g .tables .shadow) ∙ h .shadowLength)
+      (h .mapLength) (good-after (enter index) passed (λ p. tt))
   kept (leave page) passed =
-      kept-with (User page) (switchedAll true (g .tables .shadow)) (g .tables .map) (leave-page (seenBy policy (pageOf g) (reachedIn g)) page passed) (length-switched true (g .tables .shadow) ∙ h .shadowLength)
+      kept-with (User page) (switchedAll true (g .tables .shadow)) (g .tables .map) (leave-page (seenBy policy (pageOf g) (reachedIn g)) page passed)
+      (length-switched true (g .tables .shadow) ∙ h .shadowLength)
       (h .mapLength) (good-after (leave page) passed (λ p. tt))
   kept (deviceWrite devices device address size) passed = h
   kept (ask page frame) passed =
-      kept-pair (termsAfter 0 (ask page frame) terms) (Pair page frame) _ pair-in refl refl (withBit-length true (g .tables .exclusion) frame) excluded waiting unnamed below
+      kept-pair (termsAfter 0 (ask page frame) terms) (Pair page frame) _ pair-in refl refl
+      (withBit-length true (g .tables .exclusion) frame) excluded waiting unnamed below
       (good-with _ more below (ask page frame) passed (λ p. tt))
     where
       v : View
@@ -345,7 +362,8 @@ module _ (policy : Policy) (terms : Terms) (g : Guard) (h : Invariant policy ter
           by true e c = absurd (true≢false (sym (rw (eqb-true f frame e) at (code-term (named policy f) (terms f) c)) ∙ free))
           by false e c = c
   kept commit passed =
-      kept-pair (termsAfter 0 commit terms) Nothing _ refl (sweep-shadow-length _ 0 (g .tables .shadow) (g .tables .map)) (sweep-map-length _ 0 (g .tables .shadow) (g .tables .map)) refl
+      kept-pair (termsAfter 0 commit terms) Nothing _ refl (sweep-shadow-length _ 0 (g .tables .shadow) (g .tables .map))
+      (sweep-map-length _ 0 (g .tables .shadow) (g .tables .map)) refl
       (λ f. h .excluded f ∙ sym (ap (either (named policy f)) (commit-in (terms f)))) (λ f. commit-over (terms f))
       (λ f w. absurd (true≢false (sym w ∙ commit-over (terms f)))) below
       (good-with _ more below commit passed (λ p. now-code))

@@ -15,8 +15,10 @@ use Rattle.model.specs.Sync.{rules, Slot, slot}
 use Rattle.model.specs.Switch.{noExecuteIn}
 use Rattle.model.specs.Approvals.{maps, committedSlot}
 use Rattle.model.proofs.SyncLaws.{cond-cases, step-cases}
-use Rattle.claim.specs.OnePage.{Page, withSlot, withPair, News, synchronised, entered, exited, asked, committed, dropped, nothing, switchedPage, stepped, askedPage, committedPage, droppedPage, told}
-use Rattle.model.proofs.BitLaws.{approvedMark-approved, frameOf-approved, approvedMark-ordinary, noExecute-ordinary, present-switched, approvedMark-switched, frameOf-switched, noExecute-switched}
+use Rattle.claim.specs.OnePage.{Page, withSlot, withPair, News, synchronised, entered, exited, asked, committed, dropped, nothing, switchedPage, stepped}
+use Rattle.claim.specs.OnePage.{askedPage, committedPage, droppedPage, told}
+use Rattle.model.proofs.BitLaws.{approvedMark-approved, frameOf-approved, approvedMark-ordinary, noExecute-ordinary, present-switched, approvedMark-switched}
+use Rattle.model.proofs.BitLaws.{frameOf-switched, noExecute-switched}
 
 -- A good page: its approval, if it has one, is a frame of code; an entry with bits 0 and 10 has its approval for its frame; and in kernel
 -- mode an entry with bit 0 set and bit 63 clear has bit 10.
@@ -105,7 +107,8 @@ switched-good user code page h =
     }
 
 -- Other excluded frames and another pending one keep a page good, and so does more code.
-pub good-pair : (code : ℕ → Bool) (page : Page) (excluded : ℕ → Bool) (pending : ℕ) (own : Bool) → Good code page → Good code (withPair page excluded pending own)
+pub good-pair : (code : ℕ → Bool) (page : Page) (excluded : ℕ → Bool) (pending : ℕ) (own : Bool) → Good code page
+    → Good code (withPair page excluded pending own)
 good-pair code page excluded pending own h =
     record { approval = h .approval; marked = h .marked; frame = h .frame; executable = h .executable }
 

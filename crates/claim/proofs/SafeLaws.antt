@@ -1,6 +1,6 @@
 -- Demand 3: what an accepted fetch reads is code in kernel mode, and what an accepted write or device write covers is clear.
 use Prim.Native.Nat.{ℕ, _+_, _*_, _/_, _%_, _<_}
-use mathlib.Core.Bool.{true, not}
+use mathlib.Core.Bool.{Bool, true, not}
 use mathlib.Core.List.{List}
 use mathlib.Core.Path.{_≡_, refl, sym, _∙_}
 use lib.Dec.{ltb}
@@ -33,7 +33,9 @@ module _ (policy : Policy) (terms : Terms) (g : Guard) (h : Invariant policy ter
       let below : f < policy .frames = ltb-true f (policy .frames) (both-first _ _ passed) in
       record {
         below = omega arith;
-        unprotected = rw e (sym (h .excluded f) ∙ not-true (hasBit (g .tables .exclusion) f) (both-second (ltb f (policy .frames)) (not (hasBit (g .tables .exclusion) f)) passed));
+        unprotected =
+            let bit : Bool = hasBit (g .tables .exclusion) f in
+            rw e (sym (h .excluded f) ∙ not-true bit (both-second (ltb f (policy .frames)) (not bit) passed));
       }
 
   -- Every accepted call is safe: by what it touches.

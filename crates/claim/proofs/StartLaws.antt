@@ -20,7 +20,8 @@ use Rattle.claim.specs.Terms.{firstTerms, inTerm, isCommitted, protected
 use Rattle.model.proofs.QuestionLaws.{both-first, both-second, within-yes}
 use Rattle.model.proofs.StateLaws.{state-whole}
 use Rattle.model.proofs.TableLaws.{length-table, past-no, table-read}
-use Rattle.model.proofs.PolicyLaws.{Passed, start-passed, start-given, length-numbersAt, allBelow-getD, allBelow-member, member-here, member-there, member-later, frameFor-unlisted, frameFor-member}
+use Rattle.model.proofs.PolicyLaws.{Passed, start-passed, start-given, length-numbersAt, allBelow-getD, allBelow-member, member-here, member-there}
+use Rattle.model.proofs.PolicyLaws.{member-later, frameFor-unlisted, frameFor-member}
 use Rattle.model.proofs.VectorLaws.{vectorOf-length, vectorOf-bit}
 use Rattle.claim.proofs.PageLaws.{Good, good-absent, good-approved}
 use Rattle.claim.proofs.TermLaws.{isWaiting, awaited}
@@ -49,7 +50,8 @@ unfolding rising member either
 rising-unlisted pages least [] page up low = refl
 rising-unlisted pages least (p ∷ ps) page up low =
     let above : least ≤ p = leb-true least p (both-first _ _ (both-first _ _ up)) in
-    rw (ne-eqb page p (λ e. omega arith)) (rising-unlisted pages (suc p) ps page (both-second (both (leb least p) (ltb p pages)) (rising pages (suc p) ps) up) (omega arith))
+    rw (ne-eqb page p (λ e. omega arith))
+    (rising-unlisted pages (suc p) ps page (both-second (both (leb least p) (ltb p pages)) (rising pages (suc p) ps) up) (omega arith))
 
 -- Of rising pages with a frame each, the frame that the start gives a listed page is the one at the page's own place.
 frameFor-own : (pages least : ℕ) (ps fs : List ℕ) (page other : ℕ) → length ps ≡ length fs → rising pages least ps ≡ true → member page ps ≡ true
@@ -168,7 +170,14 @@ module _ (given : Givens) (bytes : List ℕ) (l : Lengths) (accepted : firstNo (
     where
       at : (b : Bool) → listed p ≡ b
           → Good (named policy)
-          (record { user = false; entry = cond b (approved false (ownFrame p)) 0; approval = cond b (ownFrame p) none; excluded = named policy; pending = none; own = false })
+          (record {
+            user = false;
+            entry = cond b (approved false (ownFrame p)) 0;
+            approval = cond b (ownFrame p) none;
+            excluded = named policy;
+            pending = none;
+            own = false;
+          })
       at true e = good-approved (named policy) (firstPage policy p) (ownFrame p) (own-named p e) (own-small p e)
       at false e = good-absent (named policy) (firstPage policy p) none (λ k. absurd (true≢false k))
 

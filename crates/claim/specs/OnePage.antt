@@ -15,7 +15,8 @@ use Rattle.model.specs.Sync.{rules, Slot, step, entryIn}
 use Rattle.model.specs.Switch.{switched}
 use Rattle.model.specs.Approvals.{committedSlot}
 use Rattle.model.specs.Questions.{View, firstNo}
-use Rattle.model.specs.Calls.{settle, Call, syncPage, syncAll, syncPageTree, syncAllTree, fetch, write, enter, leave, deviceWrite, ask, commit, drop, questionsOf}
+use Rattle.model.specs.Calls.{settle, Call, syncPage, syncAll, syncPageTree, syncAllTree, fetch, write, enter, leave, deviceWrite, ask, commit, drop}
+use Rattle.model.specs.Calls.{questionsOf}
 
 -- "The one-page guard of a page p holds a mode (kernel or user alone, with no running page), an entry and an approval." It keeps its own
 -- set of excluded frames, which are the policy's at first, its own pending frame, or 65535 for none, and whether that was asked for p (K6).
