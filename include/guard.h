@@ -12,8 +12,12 @@
  *     struct as C aligns it), and is not NULL, even where the length is 0.
  *   - A run that is lent for writing overlaps no other run of the same call.
  *   - One run is lent to one call at a time, and nobody else writes it during the call, neither processor nor device.
- * These three are the caller's part, and the only part that the guard does not test. State, shadow, map and exclusion go from
- * one call to the next as the last one left them: that is what the guarantee about all calls rests on.
+ * These three are the caller's part, and the guard does not test them. It does not test either
+ *   - that state, shadow, map and exclusion go from one call to the next as the last one left them, which is what the guarantee
+ *     about all calls rests on: question 7 asks for lengths, and for ranges of the state's words, and no more;
+ *   - that the TLB is flushed where a call below says so;
+ *   - that the processor runs at ring 0 in kernel mode and at ring 3 in user mode.
+ * docs/INTEGRATION.md has these and the rest of the caller's part.
  *
  * Numbers. Sizes, counts, roots, depths, the pages, frames and devices that a call names, entry indices, addresses and lengths are
  * 64 bits wide and are never cut: page 65537 is refused with 9, and is not taken for page 1. Sums of address and length are exact.

@@ -1,9 +1,9 @@
 //! The functions of the proved archive, as include/guard.h documents them, and a safe function over each.
 //! All `unsafe` of the crate is here; tests/declarations.rs compares both halves with the Rattle source.
 //!
-//! A safe function takes the runs as slices, which settles the three things that the archive leaves to its caller: a pointer
-//! is valid for its length, a run lent for writing overlaps no other, and one run is lent to one call at a time. All else is
-//! tested by the archive, so slices of any length and contents may be passed.
+//! A safe function takes the runs as slices, which settles the three things that the header asks of every run: a pointer is
+//! valid for its length, a run lent for writing overlaps no other, and one run is lent to one call at a time. So slices of any
+//! length and contents may be passed. What else the header leaves to the caller is the caller's here too.
 //!
 //! Each returns 0 where the call is accepted, else the number of the question that refused it.
 
