@@ -43,6 +43,34 @@ extern "C" {
 #endif
 
 /*
+ * The boundary is every prototype, struct and layout of this header. A version that changes one of them has another number here, and
+ * its archive has a function of another name. Every source file that includes this header points to that function, so a
+ * program that was compiled with the header of another boundary does not link: the linker finds no guard_boundary_N. Compile it
+ * again with the header that came with the archive. The cost is a pointer for each source file, which nothing reads.
+ *
+ * guard_boundary() returns the archive's number, which is GUARD_BOUNDARY. No program has to call it. But a compiler that does not
+ * know the attributes below may leave the pointer out, and so may a linker that collects garbage, from a compiler that does not
+ * know `retain` (before GCC 11 or Clang 13): call it once there.
+ *
+ * A program that takes constants from this header and links no archive defines GUARD_NOT_LINKED before it includes it.
+ */
+#define GUARD_BOUNDARY UINT64_C(1)
+
+uint64_t guard_boundary_1(void);
+
+#ifndef GUARD_NOT_LINKED
+#ifdef __GNUC__
+__attribute__((used))
+#endif
+#ifdef __has_attribute
+#if __has_attribute(retain)
+__attribute__((retain))
+#endif
+#endif
+static uint64_t (*const guard_boundary)(void) = guard_boundary_1;
+#endif
+
+/*
  * The layout of a state run. V, F, e, the running page and the number of devices are 16-bit fields, each in a word of its own. An
  * entry page that is wider than 16 bits counts as one that is not below V. The pending page and frame are compared with V and F at
  * their full width, and mean nothing where none is pending. guard_start writes all words; guard_enter and guard_leave write

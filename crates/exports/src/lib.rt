@@ -10,6 +10,15 @@ ghost use Rattle.record_model.specs.Record.{policyBy};
 ghost use Rattle.boundary.specs.Boundary.{returned, startAt, callAt, recorded, recordAt, walked, walkAt};
 use model::Device;
 
+// The number of the boundary, which is in the name too. include/guard.h and rust/guard refer to this function by its address, so a
+// program that was compiled for another boundary does not link. docs/DECISIONS.md, "The boundary", says what raises the number.
+#[no_mangle]
+pub extern "C" fn guard_boundary_1() -> u64
+    ensures { λ r. ⌜ r ≡ 1 ⌝ }
+{
+    1
+}
+
 #[no_mangle]
 pub extern "C" fn guard_start(
     policy: &[u8],

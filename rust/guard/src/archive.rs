@@ -55,6 +55,7 @@ impl Device {
 }
 
 extern "C" {
+    fn guard_boundary_1() -> u64;
     fn guard_start(
         policy: *const u8,
         policy_length: usize,
@@ -240,6 +241,11 @@ extern "C" {
         numbers_length: usize,
     ) -> u64;
 }
+
+/// Points to the function that is named for the boundary of these declarations: an archive of another boundary has none of that
+/// name, and does not link. Nothing reads it.
+#[used]
+static BOUNDARY: unsafe extern "C" fn() -> u64 = guard_boundary_1;
 
 /// Starts the guard by a policy record and the number of its devices: n and e.
 #[inline]

@@ -5,6 +5,9 @@
 use std::fs;
 use std::path::Path;
 
+/// How the name of the function begins that ends with the boundary's number.
+const BOUNDARY: &str = "guard_boundary_";
+
 /// A function's name, its parameters as name and type, and the type that it returns.
 #[derive(Clone, Debug, PartialEq, Eq)]
 struct Signature {
@@ -115,7 +118,9 @@ fn each_safe_function_has_the_parameters_of_the_rattle_source() {
         name: function.name.strip_prefix("guard_").expect("one prefix").into(),
         ..function.clone()
     };
-    let expected: Vec<_> = exported().iter().map(named).collect();
+    // The function of the boundary's number is pointed to, and never called: tests/boundary.rs.
+    let calls = exported().into_iter().filter(|function| !function.name.starts_with(BOUNDARY));
+    let expected: Vec<_> = calls.map(|function| named(&function)).collect();
     assert_same(&safe, &expected);
 }
 
