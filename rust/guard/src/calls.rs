@@ -57,8 +57,9 @@ pub struct Frames {
     pub last: u64,
 }
 
-/// A started guard.
-#[derive(Clone, Debug, PartialEq, Eq)]
+/// A started guard. It is not `Clone`: a clone from before an ask, put in the guard's place later, would undo the commit, while the
+/// processor runs on with what was approved.
+#[derive(Debug, PartialEq, Eq)]
 pub struct Guard {
     state: [u64; STATE_WORDS],
     shadow: Vec<u64>,

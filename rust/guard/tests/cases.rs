@@ -2,8 +2,10 @@
 //! C6 to C8 stand on the started guard with the mode replaced by user, so they call the archive's functions.
 
 mod common;
+mod contents;
 
 use common::one_device;
+use contents::contents;
 use guard::archive::{self, MODE_USER, NUMBERS, STATE_MODE};
 use guard::{Frames, Guard, Mode, Refusal, Synchronised, NO_FRAME};
 use inputs::{record, KernelEntry, Random};
@@ -172,18 +174,18 @@ fn largest_policy_and_other_kernel_tables() {
     let listed: Vec<_> = (0..2048).map(|page| (page, 4095 - page)).collect();
     let mut guard = Guard::start(&record(2048, 4096, 16, &listed), one_device()).unwrap();
     assert_eq!(guard.entry_pages(), (0..16).collect::<Vec<_>>());
-    let before = guard.clone();
+    let before = contents(&guard);
     for length in [0, 1, 2047, 2049, 4096] {
         let kernel = vec![1; length];
         assert_eq!(guard.synchronise_page(&kernel, 0), Err(Refusal::StateOrTable));
         assert_eq!(guard.synchronise_all(&kernel), Err(Refusal::StateOrTable));
     }
-    assert_eq!(guard, before);
+    assert_eq!(contents(&guard), before);
     assert_eq!(
         guard.synchronise_all(&vec![0; 2048]),
         Ok(Synchronised { changed: 2048, joined: 0 })
     );
-    assert_eq!(guard.map(), before.map());
+    assert_eq!(guard.map(), before.map);
 }
 
 /// Random arguments at full width: every call returns, and a refused one changes nothing.
@@ -199,7 +201,7 @@ fn every_call_is_safe_on_every_input() {
         let (wide, near) = (random.word(), random.below(6));
         let number = if random.one_in(2) { wide } else { near };
         let device = if random.one_in(4) { random.word() } else { 0 };
-        let before = guard.clone();
+        let before = contents(&guard);
         let accepted = match random.below(10) {
             0 => guard.synchronise_page(&kernel, number).is_ok(),
             1 => guard.synchronise_all(&kernel).is_ok(),
@@ -212,7 +214,7 @@ fn every_call_is_safe_on_every_input() {
             8 => guard.drop_pending().is_ok(),
             _ => guard.device_write(device, number.wrapping_mul(4090), near).is_ok(),
         };
-        assert!(accepted || guard == before);
+        assert!(accepted || contents(&guard) == before);
         accepted_calls += u64::from(accepted);
     }
     assert!(accepted_calls > 1000, "{accepted_calls}");

@@ -45,7 +45,7 @@ fn the_words_of_the_pair() {
     assert_eq!((words(&guard), pair(&guard)), ([0, 0, 0], None));
     guard.ask(DRIVER, FRAME).unwrap();
     assert_eq!((words(&guard), pair(&guard)), ([1, DRIVER, FRAME], Some((DRIVER, FRAME))));
-    let mut dropped = guard.clone();
+    let mut dropped = asked();
     dropped.drop_pending().unwrap();
     assert_eq!((words(&dropped), pair(&dropped)), ([0, 0, 0], None));
     guard.commit().unwrap();
