@@ -3,7 +3,7 @@
 //! on tables around a pending pair.
 
 use inputs::Random;
-use reference::Fault;
+use reference::Mistake;
 
 use crate::aim::{policy, sizes};
 use crate::call::{Call, Lent};
@@ -26,12 +26,12 @@ const PENDING: u64 = 20;
 pub fn run_list(plan: &Plan, seed: u64, tally: &mut Tally) -> Result<(), String> {
     let mut list = List::new(seed);
     let mut lent = list.garbage();
-    by_reference(Fault::None, &mut lent, &list.start());
+    by_reference(Mistake::None, &mut lent, &list.start());
     damage_contents(&mut list.random, &mut lent);
     let mut random = Random::new(seed);
     for _ in 0..plan.calls {
         if list.random.one_in(6) {
-            start_call(plan.fault, &mut list.random, tally)?;
+            start_call(plan.mistake, &mut list.random, tally)?;
             continue;
         }
         if list.random.one_in(20) {
@@ -43,7 +43,7 @@ pub fn run_list(plan: &Plan, seed: u64, tally: &mut Tally) -> Result<(), String>
         let listed = list.next_call(&lent, &damaged.state);
         let call = Call::Listed(listed);
         let before = damaged.clone();
-        let number = compare(plan.fault, &mut damaged, &call)?;
+        let number = compare(plan.mistake, &mut damaged, &call)?;
         if number == 0 {
             check_flat(&call, &before, &damaged)?;
         }
@@ -59,19 +59,19 @@ pub fn run_list(plan: &Plan, seed: u64, tally: &mut Tally) -> Result<(), String>
         }
     }
     for _ in 0..RECORDS {
-        write_call(plan.fault, &mut list.random, tally)?;
+        write_call(plan.mistake, &mut list.random, tally)?;
     }
     for _ in 0..WALKS {
-        walk_call(plan.fault, &mut list.random, &list.trees, tally)?;
+        walk_call(plan.mistake, &mut list.random, &list.trees, tally)?;
     }
     for _ in 0..PENDING {
-        pending_call(plan.fault, &mut list.random, tally)?;
+        pending_call(plan.mistake, &mut list.random, tally)?;
     }
     Ok(())
 }
 
 /// A start: half of them on a damaged record, half of them on damaged runs or tables, some with a number of devices out of range.
-fn start_call(fault: Fault, random: &mut Random, tally: &mut Tally) -> Result<(), String> {
+fn start_call(mistake: Mistake, random: &mut Random, tally: &mut Tally) -> Result<(), String> {
     let mut policy = policy(random);
     let [v, f, ..] = sizes(&policy);
     if random.one_in(2) {
@@ -83,8 +83,8 @@ fn start_call(fault: Fault, random: &mut Random, tally: &mut Tally) -> Result<()
     let devices = any_count(random);
     let call = Call::Start { policy: &policy, devices };
     let with_one = Call::Start { policy: &policy, devices: 1 };
-    let otherwise = by_reference(Fault::None, &mut lent.clone(), &with_one);
-    let number = compare(fault, &mut lent, &call)?;
+    let otherwise = by_reference(Mistake::None, &mut lent.clone(), &with_one);
+    let number = compare(mistake, &mut lent, &call)?;
     if number == 0 {
         check_written_again(&policy)?;
     }

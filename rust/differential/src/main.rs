@@ -7,7 +7,7 @@ use std::process::ExitCode;
 use std::time::{SystemTime, UNIX_EPOCH};
 
 use differential::{run, Plan};
-use reference::Fault;
+use reference::Mistake;
 
 fn seed_of_clock() -> u64 {
     let since = SystemTime::now().duration_since(UNIX_EPOCH);
@@ -22,7 +22,7 @@ fn plan() -> Option<Plan> {
         [Some(seed), Some(lists)] => (seed, lists),
         _ => return None,
     };
-    Some(Plan { seed, lists, calls: Plan::CALLS, fault: Fault::None })
+    Some(Plan { seed, lists, calls: Plan::CALLS, mistake: Mistake::None })
 }
 
 fn main() -> ExitCode {

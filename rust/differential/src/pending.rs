@@ -8,7 +8,7 @@ use guard::archive::{
 use guard::NO_FRAME;
 use inputs::{KernelEntry, Random};
 use reference::claim::Call as Listed;
-use reference::{vector_len, Fault, Tree};
+use reference::{vector_len, Mistake, Tree};
 
 use crate::call::{Call, Lent};
 use crate::damage::{shadow_entry, Damage};
@@ -30,7 +30,11 @@ struct About {
     other: u64,
 }
 
-pub fn pending_call(fault: Fault, random: &mut Random, tally: &mut Tally) -> Result<(), String> {
+pub fn pending_call(
+    mistake: Mistake,
+    random: &mut Random,
+    tally: &mut Tally,
+) -> Result<(), String> {
     let (v, f) = (1 + random.below(PAGES), 1 + random.below(FRAMES));
     let frame = random.below(f);
     let about = About { v, f, page: random.below(v), frame, other: (frame + 1) % f };
@@ -40,14 +44,14 @@ pub fn pending_call(fault: Fault, random: &mut Random, tally: &mut Tally) -> Res
         0..3 => Listed::Ask { page, frame },
         3..6 => Listed::Commit,
         6 => Listed::Drop,
-        _ => return synchronise(fault, random, &about, &before, tally),
+        _ => return synchronise(mistake, random, &about, &before, tally),
     };
-    check(fault, listed, &before, tally)
+    check(mistake, listed, &before, tally)
 }
 
 /// A synchronisation from a flat table, or from a tree of depth 1 with the same entries.
 fn synchronise(
-    fault: Fault,
+    mistake: Mistake,
     random: &mut Random,
     about: &About,
     before: &Lent,
@@ -65,13 +69,13 @@ fn synchronise(
         2..6 => Listed::SynchroniseOne { kernel, page },
         _ => Listed::SynchroniseOneFromTree { tree, page },
     };
-    check(fault, listed, before, tally)
+    check(mistake, listed, before, tally)
 }
 
-fn check(fault: Fault, listed: Listed, before: &Lent, tally: &mut Tally) -> Result<(), String> {
+fn check(mistake: Mistake, listed: Listed, before: &Lent, tally: &mut Tally) -> Result<(), String> {
     let mut lent = before.clone();
     let call = Call::Listed(listed);
-    let number = compare(fault, &mut lent, &call)?;
+    let number = compare(mistake, &mut lent, &call)?;
     if number == 0 {
         check_flat(&call, before, &lent)?;
     }

@@ -5,7 +5,7 @@ use std::fmt;
 
 use reference::claim::Call as Listed;
 use reference::path::Path;
-use reference::Fault;
+use reference::Mistake;
 
 use crate::call::{Call, Lent};
 use crate::sides::{by_archive, by_reference};
@@ -21,7 +21,7 @@ pub struct Plan {
     /// The calls of a list, without the start, the records written after it and the bare walks.
     pub calls: u64,
     /// A mistake that the reference makes.
-    pub fault: Fault,
+    pub mistake: Mistake,
 }
 
 impl Plan {
@@ -59,10 +59,10 @@ pub fn run(plan: &Plan) -> Result<Tally, Difference> {
 }
 
 /// The call on both sides: the number, where number, runs and tables are the same, and what is lent as it was left.
-pub(crate) fn compare(fault: Fault, lent: &mut Lent, call: &Call) -> Result<u64, String> {
+pub(crate) fn compare(mistake: Mistake, lent: &mut Lent, call: &Call) -> Result<u64, String> {
     let mut expected = lent.clone();
     let number = by_archive(lent, call);
-    let expected_number = by_reference(fault, &mut expected, call);
+    let expected_number = by_reference(mistake, &mut expected, call);
     if number == expected_number && *lent == expected {
         return Ok(number);
     }

@@ -7,7 +7,7 @@ use guard::archive::{self, NUMBERS};
 use guard::Guard;
 use inputs::Parts;
 use reference::claim::Call as Listed;
-use reference::{boundary, fault, Device, Fault, Tree};
+use reference::{boundary, mistake, Device, Mistake, Tree};
 
 use crate::call::{Call, Lent};
 
@@ -64,58 +64,60 @@ pub fn by_archive(lent: &mut Lent, call: &Call) -> u64 {
 }
 
 /// The reference's number for a call.
-pub fn by_reference(fault: Fault, lent: &mut Lent, call: &Call) -> u64 {
+pub fn by_reference(mistake: Mistake, lent: &mut Lent, call: &Call) -> u64 {
     let Lent { state: run, numbers, shadow, map, exclusion, buffer } = lent;
     let call = match *call {
         Call::Start { policy, devices } => {
-            return fault::start(fault, policy, devices, run, shadow, map, exclusion, numbers)
+            return mistake::start(mistake, policy, devices, run, shadow, map, exclusion, numbers)
         }
         Call::WriteRecord(Parts { sizes, pages, frames }) => {
-            return fault::write_record(fault, *sizes, pages, frames, buffer, numbers)
+            return mistake::write_record(mistake, *sizes, pages, frames, buffer, numbers)
         }
-        Call::Walk { tree, page } => return fault::walk(fault, tree, page, numbers),
+        Call::Walk { tree, page } => return mistake::walk(mistake, tree, page, numbers),
         Call::Listed(call) => call,
     };
-    fault::on_run(fault, &call, run, |run| match call {
+    mistake::on_run(mistake, &call, run, |run| match call {
         Listed::SynchroniseOne { kernel, page } => boundary::with_state(run, numbers, |state| {
-            fault::synchronise_one(fault, state, kernel, shadow, map, exclusion, page)
+            mistake::synchronise_one(mistake, state, kernel, shadow, map, exclusion, page)
         }),
         Listed::SynchroniseAll { kernel } => boundary::with_state(run, numbers, |state| {
-            fault::synchronise_all(fault, state, kernel, shadow, map, exclusion)
+            mistake::synchronise_all(mistake, state, kernel, shadow, map, exclusion)
         }),
         Listed::Fetch { page } => {
-            boundary::with_mode(run, numbers, |state| fault::fetch(fault, state, shadow, page))
+            boundary::with_mode(run, numbers, |state| mistake::fetch(mistake, state, shadow, page))
         }
         Listed::Write { address, length } => boundary::with_state(run, numbers, |state| {
-            fault::write(fault, state, shadow, exclusion, address, length)
+            mistake::write(mistake, state, shadow, exclusion, address, length)
         }),
         Listed::Enter { index } => {
-            boundary::with_mode(run, numbers, |state| fault::enter(fault, state, shadow, index))
+            boundary::with_mode(run, numbers, |state| mistake::enter(mistake, state, shadow, index))
         }
         Listed::Leave { page } => {
-            boundary::with_mode(run, numbers, |state| fault::leave(fault, state, shadow, page))
+            boundary::with_mode(run, numbers, |state| mistake::leave(mistake, state, shadow, page))
         }
         Listed::DeviceWrite { devices, device, address, length } => {
             boundary::with_state(run, numbers, |state| {
-                fault::device_write(fault, state, exclusion, devices, device, address, length)
+                mistake::device_write(mistake, state, exclusion, devices, device, address, length)
             })
         }
         Listed::SynchroniseOneFromTree { tree, page } => {
             boundary::with_state(run, numbers, |state| {
-                fault::synchronise_one_from_tree(fault, state, tree, shadow, map, exclusion, page)
+                mistake::synchronise_one_from_tree(
+                    mistake, state, tree, shadow, map, exclusion, page,
+                )
             })
         }
         Listed::SynchroniseAllFromTree { tree } => boundary::with_state(run, numbers, |state| {
-            fault::synchronise_all_from_tree(fault, state, tree, shadow, map, exclusion)
+            mistake::synchronise_all_from_tree(mistake, state, tree, shadow, map, exclusion)
         }),
         Listed::Ask { page, frame } => boundary::with_pending(run, numbers, |state| {
-            fault::ask(fault, state, shadow, map, exclusion, page, frame)
+            mistake::ask(mistake, state, shadow, map, exclusion, page, frame)
         }),
-        Listed::Commit => {
-            boundary::with_pending(run, numbers, |state| fault::commit(fault, state, shadow, map))
-        }
+        Listed::Commit => boundary::with_pending(run, numbers, |state| {
+            mistake::commit(mistake, state, shadow, map)
+        }),
         Listed::Drop => {
-            boundary::with_pending(run, numbers, |state| fault::drop(fault, state, exclusion))
+            boundary::with_pending(run, numbers, |state| mistake::drop(mistake, state, exclusion))
         }
     })
 }

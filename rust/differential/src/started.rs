@@ -19,7 +19,7 @@ pub fn run_list(plan: &Plan, seed: u64, tally: &mut Tally) -> Result<(), String>
     let mut list = List::new(seed);
     let mut lent = list.garbage();
     let start = list.start();
-    let number = compare(plan.fault, &mut lent, &start)?;
+    let number = compare(plan.mistake, &mut lent, &start)?;
     tally.count_started(start.kind(), number)?;
     let mut guard = start_guard(&list)?;
     let mut claim = Claim::told_start(&list.policy);
@@ -29,7 +29,7 @@ pub fn run_list(plan: &Plan, seed: u64, tally: &mut Tally) -> Result<(), String>
         let listed = list.next_call(&lent, &lent.state);
         let call = Call::Listed(listed);
         let before = lent.clone();
-        let number = compare(plan.fault, &mut lent, &call)?;
+        let number = compare(plan.mistake, &mut lent, &call)?;
         tally.count_started(call.kind(), number)?;
         if number == 0 {
             tally.count_entries(&listed, &before, &lent);
@@ -57,12 +57,12 @@ fn start_guard(list: &List) -> Result<Guard, String> {
 pub fn run_claim(plan: &Plan, seed: u64) -> Result<(), String> {
     let mut list = List::new(seed);
     let mut lent = list.garbage();
-    by_reference(plan.fault, &mut lent, &list.start());
+    by_reference(plan.mistake, &mut lent, &list.start());
     let mut claim = Claim::told_start(&list.policy);
     for _ in 0..plan.calls {
         let listed = list.next_call(&lent, &lent.state);
         let before = lent.clone();
-        let number = by_reference(plan.fault, &mut lent, &Call::Listed(listed));
+        let number = by_reference(plan.mistake, &mut lent, &Call::Listed(listed));
         check_claim(&mut claim, &listed, number, &before, &lent)?;
     }
     Ok(())
@@ -72,13 +72,13 @@ pub fn run_claim(plan: &Plan, seed: u64) -> Result<(), String> {
 pub fn run_from_ask_on(plan: &Plan, seed: u64) -> Result<(), String> {
     let mut list = List::new(seed);
     let mut lent = list.garbage();
-    by_reference(plan.fault, &mut lent, &list.start());
+    by_reference(plan.mistake, &mut lent, &list.start());
     let mut claim = Claim::told_start(&list.policy);
     let mut sentence = AskToCommit::default();
     for _ in 0..plan.calls {
         let listed = list.next_call(&lent, &lent.state);
         let settled = claim.settled(&listed, &reaching(&lent));
-        let number = by_reference(plan.fault, &mut lent, &Call::Listed(listed));
+        let number = by_reference(plan.mistake, &mut lent, &Call::Listed(listed));
         check_from_ask_on(&mut sentence, &claim, &listed, number)?;
         if settled == 0 {
             claim.tell(&listed);
@@ -92,7 +92,7 @@ pub fn run_windows(plan: &Plan, seed: u64) -> Result<(), String> {
     let mut list = List::new(seed);
     let mut lent = list.garbage();
     let mut random = Random::new(seed);
-    let side = |lent: &mut Lent, call: &Call| by_reference(plan.fault, lent, call);
+    let side = |lent: &mut Lent, call: &Call| by_reference(plan.mistake, lent, call);
     side(&mut lent, &list.start());
     for _ in 0..plan.calls {
         let listed = list.next_call(&lent, &lent.state);

@@ -5,7 +5,7 @@ use guard::archive::{self, NUMBERS, STATE_PAGES};
 use inputs::Random;
 use reference::claim::Call as Listed;
 use reference::path::Path;
-use reference::{Fault, Tree};
+use reference::{Mistake, Tree};
 
 use crate::call::{Call, Lent};
 use crate::damage::Damage;
@@ -16,7 +16,7 @@ use crate::trees::Trees;
 
 /// Walks to a page; one in eight has a numbers run of another length.
 pub fn walk_call(
-    fault: Fault,
+    mistake: Mistake,
     random: &mut Random,
     trees: &Trees,
     tally: &mut Tally,
@@ -27,7 +27,7 @@ pub fn walk_call(
     let damage = if random.one_in(8) { Damage::NumbersRun } else { Damage::Contents };
     damage.apply(random, &mut lent);
     let call = Call::Walk { tree, page };
-    let number = compare(fault, &mut lent, &call)?;
+    let number = compare(mistake, &mut lent, &call)?;
     if number == 0 {
         check_path(&tree, page, &lent.numbers)?;
     }

@@ -4,7 +4,7 @@
 use guard::archive::{self, NUMBERS};
 use guard::{Device, Guard, Mode, Options, NO_FRAME};
 use inputs::{Parts, Random};
-use reference::{vector_len, Fault};
+use reference::{vector_len, Mistake};
 
 use crate::aim::policy;
 use crate::call::{Call, Lent};
@@ -16,7 +16,7 @@ use crate::tally::Tally;
 const PAST: u64 = 20;
 
 /// Writes a record: half of them from damaged parts, half of them on a damaged run or into a buffer that is too short.
-pub fn write_call(fault: Fault, random: &mut Random, tally: &mut Tally) -> Result<(), String> {
+pub fn write_call(mistake: Mistake, random: &mut Random, tally: &mut Tally) -> Result<(), String> {
     let policy = policy(random);
     let mut parts = Parts::of(&policy);
     if random.one_in(2) {
@@ -34,7 +34,7 @@ pub fn write_call(fault: Fault, random: &mut Random, tally: &mut Tally) -> Resul
         lent.buffer.extend((0..past).map(|_| random.word() as u8));
     }
     let call = Call::WriteRecord(&parts);
-    let number = compare(fault, &mut lent, &call)?;
+    let number = compare(mistake, &mut lent, &call)?;
     if number == 0 {
         let record = &lent.buffer[..lent.numbers[0] as usize];
         check_start(&parts, record)?;

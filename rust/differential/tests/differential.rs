@@ -5,13 +5,13 @@
 use std::io::{self, Write};
 
 use differential::{run, run_claim, run_from_ask_on, run_windows, Damage, Plan, Tally};
-use reference::Fault;
+use reference::Mistake;
 
 const SEED: u64 = 1;
 
 #[test]
 fn a_million_calls_agree() {
-    let plan = Plan { seed: SEED, lists: Plan::LISTS, calls: Plan::CALLS, fault: Fault::None };
+    let plan = Plan { seed: SEED, lists: Plan::LISTS, calls: Plan::CALLS, mistake: Mistake::None };
     let tally = run(&plan).unwrap_or_else(|difference| panic!("seed {SEED}, {difference}"));
     let mut out = io::stdout().lock();
     writeln!(out, "seed {SEED}, {} calls", tally.calls()).unwrap();
@@ -22,49 +22,49 @@ fn a_million_calls_agree() {
 }
 
 /// The mistakes that a list of demand 3 shows.
-fn of_lists() -> impl Iterator<Item = Fault> {
-    let of_calls = Fault::PLANTED.into_iter().chain(Fault::OF_TREES).chain(Fault::OF_DEVICES);
-    of_calls.chain(Fault::OF_PENDING)
+fn of_lists() -> impl Iterator<Item = Mistake> {
+    let of_calls = Mistake::PLANTED.into_iter().chain(Mistake::OF_TREES).chain(Mistake::OF_DEVICES);
+    of_calls.chain(Mistake::OF_PENDING)
 }
 
 #[test]
 fn every_planted_mistake_is_found() {
-    let of_others = Fault::OF_WRITING_RECORDS.into_iter().chain(Fault::OF_WALKS);
-    let of_states = Fault::OF_DEVICE_COUNTS.into_iter().chain(Fault::OF_PENDING_STATES);
-    for fault in of_lists().chain(of_others).chain(of_states) {
-        let plan = Plan { seed: SEED, lists: 200, calls: Plan::CALLS, fault };
-        let difference = run(&plan).expect_err(&format!("{fault:?} is not found"));
-        println!("{fault:?}: {difference}");
+    let of_others = Mistake::OF_WRITING_RECORDS.into_iter().chain(Mistake::OF_WALKS);
+    let of_states = Mistake::OF_DEVICE_COUNTS.into_iter().chain(Mistake::OF_PENDING_STATES);
+    for mistake in of_lists().chain(of_others).chain(of_states) {
+        let plan = Plan { seed: SEED, lists: 200, calls: Plan::CALLS, mistake };
+        let difference = run(&plan).expect_err(&format!("{mistake:?} is not found"));
+        println!("{mistake:?}: {difference}");
     }
 }
 
 /// The first of some lists that breaks by this check, with a mistake.
 fn first_broken(
-    fault: Fault,
+    mistake: Mistake,
     lists: u64,
     check: impl Fn(&Plan, u64) -> Result<(), String>,
 ) -> Option<(u64, String)> {
-    let plan = Plan { seed: SEED, lists: 0, calls: Plan::CALLS, fault };
+    let plan = Plan { seed: SEED, lists: 0, calls: Plan::CALLS, mistake };
     (0..lists).find_map(|seed| check(&plan, seed).err().map(|what| (seed, what)))
 }
 
 /// The one-page guards alone find every mistake, and none where there is none.
 #[test]
 fn demand_3_sees_every_planted_mistake() {
-    for fault in std::iter::once(Fault::None).chain(of_lists()) {
-        let broken = first_broken(fault, 1000, run_claim);
-        assert_eq!(broken.is_some(), fault != Fault::None, "{fault:?}: {broken:?}");
+    for mistake in std::iter::once(Mistake::None).chain(of_lists()) {
+        let broken = first_broken(mistake, 1000, run_claim);
+        assert_eq!(broken.is_some(), mistake != Mistake::None, "{mistake:?}: {broken:?}");
     }
 }
 
 /// K5's own sentence alone finds a window that is another device's, and no other mistake of device writes.
 #[test]
 fn the_window_of_another_device_is_seen() {
-    for fault in std::iter::once(Fault::None).chain(Fault::OF_DEVICES) {
-        let broken = first_broken(fault, 200, run_windows);
+    for mistake in std::iter::once(Mistake::None).chain(Mistake::OF_DEVICES) {
+        let broken = first_broken(mistake, 200, run_windows);
         let is_of_another =
-            matches!(fault, Fault::CutDevice | Fault::NeighbourWindow | Fault::AnyWindow);
-        assert_eq!(broken.is_some(), is_of_another, "{fault:?}: {broken:?}");
+            matches!(mistake, Mistake::CutDevice | Mistake::NeighbourWindow | Mistake::AnyWindow);
+        assert_eq!(broken.is_some(), is_of_another, "{mistake:?}: {broken:?}");
     }
 }
 
@@ -72,16 +72,16 @@ fn the_window_of_another_device_is_seen() {
 /// mistake.
 #[test]
 fn a_committed_frame_that_was_covered_is_seen() {
-    let opened = [Fault::AskDoesNotExclude, Fault::AskExcludedFrame, Fault::DropClearsByte];
-    for fault in std::iter::once(Fault::None).chain(opened) {
-        let broken = first_broken(fault, 1000, run_from_ask_on);
-        assert_eq!(broken.is_some(), fault != Fault::None, "{fault:?}: {broken:?}");
+    let opened = [Mistake::AskDoesNotExclude, Mistake::AskExcludedFrame, Mistake::DropClearsByte];
+    for mistake in std::iter::once(Mistake::None).chain(opened) {
+        let broken = first_broken(mistake, 1000, run_from_ask_on);
+        assert_eq!(broken.is_some(), mistake != Mistake::None, "{mistake:?}: {broken:?}");
     }
 }
 
 #[test]
 fn too_few_calls_are_noticed() {
-    let plan = Plan { seed: SEED, lists: 20, calls: Plan::CALLS, fault: Fault::None };
+    let plan = Plan { seed: SEED, lists: 20, calls: Plan::CALLS, mistake: Mistake::None };
     let tally = run(&plan).unwrap_or_else(|difference| panic!("seed {SEED}, {difference}"));
     assert!(!tally.complaints().is_empty());
 }

@@ -8,7 +8,7 @@ use std::path::Path;
 use std::process::{Command, Stdio};
 
 use inputs::{random_record, KernelEntry, Parts, Random};
-use reference::{drill_with_fault, Fault};
+use reference::{drill_with_mistake, Mistake};
 
 const INPUTS: u64 = 600;
 
@@ -93,17 +93,17 @@ fn built(input: &[u8]) -> String {
     String::from_utf8(output.stdout).unwrap()
 }
 
-fn of_reference(fault: Fault, input: &[u8]) -> String {
+fn of_reference(mistake: Mistake, input: &[u8]) -> String {
     let mut printed = Vec::new();
-    drill_with_fault(fault, input, &mut printed).unwrap();
+    drill_with_mistake(mistake, input, &mut printed).unwrap();
     String::from_utf8(printed).unwrap()
 }
 
 /// The first line in which the built drill differs from the reference with this mistake, and the input's seed.
-fn first_difference(fault: Fault) -> Option<String> {
+fn first_difference(mistake: Mistake) -> Option<String> {
     (0..INPUTS).find_map(|seed| {
         let input = input(seed);
-        let (built, wanted) = (built(&input), of_reference(fault, &input));
+        let (built, wanted) = (built(&input), of_reference(mistake, &input));
         if built == wanted {
             return None;
         }
@@ -114,7 +114,7 @@ fn first_difference(fault: Fault) -> Option<String> {
 
 #[test]
 fn the_built_drill_agrees() {
-    let difference = first_difference(Fault::None);
+    let difference = first_difference(Mistake::None);
     assert!(difference.is_none(), "{difference:?}");
 }
 
@@ -122,7 +122,7 @@ fn the_built_drill_agrees() {
 #[test]
 fn the_calls_are_of_every_kind() {
     let printed: Vec<String> =
-        (0..INPUTS).map(|seed| of_reference(Fault::None, &input(seed))).collect();
+        (0..INPUTS).map(|seed| of_reference(Mistake::None, &input(seed))).collect();
     let starts =
         |line: &str| printed.iter().flat_map(|text| text.lines()).any(|l| l.starts_with(line));
     let missing: Vec<&str> = [
@@ -138,10 +138,10 @@ fn the_calls_are_of_every_kind() {
 
 #[test]
 fn every_mistake_of_the_share_is_found() {
-    for fault in Fault::OF_SHARES {
+    for mistake in Mistake::OF_SHARES {
         let difference =
-            first_difference(fault).unwrap_or_else(|| panic!("{fault:?} is not found"));
-        assert!(difference.contains("share "), "{fault:?}: {difference}");
+            first_difference(mistake).unwrap_or_else(|| panic!("{mistake:?} is not found"));
+        assert!(difference.contains("share "), "{mistake:?}: {difference}");
     }
 }
 

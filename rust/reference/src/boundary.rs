@@ -1,7 +1,7 @@
 //! The reference behind the boundary of include/guard.h: the state in a run of 25 words, the two numbers in a run of two.
 //! Both runs are part of question 7; a refused call changes no state run, table or buffer, and a numbers run of two gets zeros.
 
-use crate::fault;
+use crate::mistake;
 use crate::record::write_where;
 use crate::start::start_where;
 use crate::state::{Answer, Mode, Pair, Refusal, State};
@@ -82,7 +82,7 @@ pub fn start(
     exclusion: &mut [u8],
     numbers: &mut [u64],
 ) -> u64 {
-    start_variant::<{ fault::NONE }>(policy, devices, run, shadow, map, exclusion, numbers)
+    start_variant::<{ mistake::NONE }>(policy, devices, run, shadow, map, exclusion, numbers)
 }
 
 #[inline(always)]
@@ -116,7 +116,7 @@ pub fn write_record(
     buffer: &mut [u8],
     numbers: &mut [u64],
 ) -> u64 {
-    write_variant::<{ fault::NONE }>([v, f, n, e], pages, frames, buffer, numbers)
+    write_variant::<{ mistake::NONE }>([v, f, n, e], pages, frames, buffer, numbers)
 }
 
 #[inline(always)]
@@ -135,7 +135,7 @@ pub(crate) fn write_variant<const VARIANT: u8>(
 /// The bare walk, which has no state. The numbers run is asked for before question 17.
 #[inline(always)]
 pub fn walk(tree: Tree, page: u64, numbers: &mut [u64]) -> u64 {
-    walk_variant::<{ fault::NONE }>(tree, page, numbers)
+    walk_variant::<{ mistake::NONE }>(tree, page, numbers)
 }
 
 #[inline(always)]

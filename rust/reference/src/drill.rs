@@ -4,7 +4,7 @@
 use std::io::{self, BufWriter, ErrorKind, Read, Write};
 
 use crate::device::Device;
-use crate::fault::{self, Fault};
+use crate::mistake::{self, Mistake};
 use crate::record::{record_len, SIZES_BYTES};
 use crate::start;
 use crate::state::{
@@ -17,21 +17,25 @@ const MAX_RECORD: usize = record_len(MAX_PAGES);
 
 /// Runs the drill.
 pub fn drill(input: impl Read, out: impl Write) -> io::Result<()> {
-    drill_with_fault(Fault::None, input, out)
+    drill_with_mistake(Mistake::None, input, out)
 }
 
 /// Runs the drill over a guard with a planted mistake.
-pub fn drill_with_fault(fault: Fault, mut input: impl Read, out: impl Write) -> io::Result<()> {
+pub fn drill_with_mistake(
+    mistake: Mistake,
+    mut input: impl Read,
+    out: impl Write,
+) -> io::Result<()> {
     let mut out = BufWriter::new(out);
     let mut record = [0; MAX_RECORD];
     let taken = read_record(&mut input, &mut record)?;
     let mut tables = Tables::new();
     let (state, answer) = tables.start(&record[..taken]);
-    let mut drill = Drill { fault, state, tables };
+    let mut drill = Drill { mistake, state, tables };
     drill.line(&mut out, 'S', answer)?;
     if answer.is_ok() {
         drill.calls(&mut input, &mut out)?;
-        drill.tables.print(fault, &mut out)?;
+        drill.tables.print(mistake, &mut out)?;
     }
     out.flush()
 }
@@ -110,12 +114,12 @@ impl Tables {
     }
 
     /// The shadow entries in rising order, and the share of excluded frames.
-    fn print(&self, fault: Fault, out: &mut impl Write) -> io::Result<()> {
+    fn print(&self, mistake: Mistake, out: &mut impl Write) -> io::Result<()> {
         for entry in &self.shadow[..self.v] {
             writeln!(out, "{entry:016x}")?;
         }
         let excluded: u32 = self.exclusion().iter().map(|byte| byte.count_ones()).sum();
-        writeln!(out, "share {}", fault::share(fault, excluded, self.f.into()))
+        writeln!(out, "share {}", mistake::share(mistake, excluded, self.f.into()))
     }
 }
 
@@ -157,7 +161,7 @@ impl Call {
 
 /// A started guard with its tables.
 struct Drill {
-    fault: Fault,
+    mistake: Mistake,
     state: State,
     tables: Tables,
 }
@@ -182,7 +186,7 @@ impl Drill {
     }
 
     fn run(&mut self, call: &Call) -> Answer {
-        let Drill { fault, state, tables } = self;
+        let Drill { mistake, state, tables } = self;
         let (v, bytes) = (tables.v, vector_len(tables.f));
         let (index, length) = (u64::from(call.index), u64::from(call.length));
         let kernel = &tables.kernel[..v];
@@ -191,15 +195,17 @@ impl Drill {
         let exclusion = &tables.exclusion[..bytes];
         match call.kind {
             0 => tables.edit(call.index, call.value),
-            1 => fault::synchronise_one(*fault, state, kernel, shadow, map, exclusion, index),
-            2 => fault::synchronise_all(*fault, state, kernel, shadow, map, exclusion),
-            3 => fault::fetch(*fault, state, shadow, index),
-            4 => fault::write(*fault, state, shadow, exclusion, call.value, length),
-            5 => fault::enter(*fault, state, shadow, index),
-            6 => fault::leave(*fault, state, shadow, index),
+            1 => mistake::synchronise_one(*mistake, state, kernel, shadow, map, exclusion, index),
+            2 => mistake::synchronise_all(*mistake, state, kernel, shadow, map, exclusion),
+            3 => mistake::fetch(*mistake, state, shadow, index),
+            4 => mistake::write(*mistake, state, shadow, exclusion, call.value, length),
+            5 => mistake::enter(*mistake, state, shadow, index),
+            6 => mistake::leave(*mistake, state, shadow, index),
             7 => {
                 let devices = &tables.devices();
-                fault::device_write(*fault, state, exclusion, devices, index, call.value, length)
+                mistake::device_write(
+                    *mistake, state, exclusion, devices, index, call.value, length,
+                )
             }
             _ => Err(Refusal::UnknownKind),
         }

@@ -1,7 +1,7 @@
 //! The policy record: the questions that its reader and its writer share, and the writer of K2.
 //! All questions come before the first store, so a refused call leaves the buffer as it was.
 
-use crate::fault;
+use crate::mistake;
 use crate::state::{Answer, Refusal, ENTRY_PAGES, MAX_FRAMES, MAX_PAGES};
 
 /// The bytes of V, F, n and e.
@@ -53,7 +53,7 @@ pub fn write_record(
     frames: &[u16],
     buffer: &mut [u8],
 ) -> Answer {
-    write_where::<{ fault::NONE }>(true, [v, f, n, e], pages, frames, buffer)
+    write_where::<{ mistake::NONE }>(true, [v, f, n, e], pages, frames, buffer)
 }
 
 /// Writes a record where what question 7 asks for is in order.
@@ -65,7 +65,7 @@ pub(crate) fn write_where<const VARIANT: u8>(
     frames: &[u16],
     buffer: &mut [u8],
 ) -> Answer {
-    if VARIANT == fault::CUT_SIZES {
+    if VARIANT == mistake::CUT_SIZES {
         sizes = sizes.map(|size| u64::from(size as u16));
     }
     ask_sizes(sizes)?;
@@ -81,7 +81,7 @@ pub(crate) fn write_where<const VARIANT: u8>(
         return Err(Refusal::ListedFrame);
     }
     let length = record_len(n);
-    if VARIANT == fault::BUFFER_BEFORE_RUN && buffer.len() < length {
+    if VARIANT == mistake::BUFFER_BEFORE_RUN && buffer.len() < length {
         return Err(Refusal::BufferTooShort);
     }
     if !in_order {
@@ -89,7 +89,7 @@ pub(crate) fn write_where<const VARIANT: u8>(
     }
     let (record, past) = buffer.split_at_mut_checked(length).ok_or(Refusal::BufferTooShort)?;
     put(record, sizes, pages, frames);
-    if VARIANT == fault::BYTE_PAST_RECORD {
+    if VARIANT == mistake::BYTE_PAST_RECORD {
         past.iter_mut().take(1).for_each(|byte| *byte = 0);
     }
     Ok((length as u64, 0))

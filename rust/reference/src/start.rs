@@ -2,7 +2,7 @@
 //! All questions come before the first store, so a refused start leaves the tables as they were.
 
 use crate::entry::{approved, framed, NO_FRAME};
-use crate::fault;
+use crate::mistake;
 use crate::record::{are_below, are_rising_below, ask_sizes};
 use crate::state::{
     vector_len, Answer, Mode, Refusal, State, ENTRY_PAGES, MAX_DEVICES, MAX_VECTOR,
@@ -51,11 +51,11 @@ impl<'a> Policy<'a> {
         let mut reader = Reader::new(record);
         let sizes = reader.words(4).ok_or(Refusal::RecordTooShort)?;
         let [v, f, n, e] = [0, 1, 2, 3].map(|i| u16::from_le_bytes(sizes[i]));
-        if VARIANT == fault::COUNT_BEFORE_SIZES {
+        if VARIANT == mistake::COUNT_BEFORE_SIZES {
             ask_devices::<VARIANT>(devices)?;
         }
         ask_sizes([v, f, n, e])?;
-        if VARIANT != fault::COUNT_AFTER_LENGTH {
+        if VARIANT != mistake::COUNT_AFTER_LENGTH {
             ask_devices::<VARIANT>(devices)?;
         }
         let pages = reader.words(n.into()).ok_or(Refusal::RecordLength)?;
@@ -63,7 +63,7 @@ impl<'a> Policy<'a> {
         if !reader.is_at_end() {
             return Err(Refusal::RecordLength);
         }
-        if VARIANT == fault::COUNT_AFTER_LENGTH {
+        if VARIANT == mistake::COUNT_AFTER_LENGTH {
             ask_devices::<VARIANT>(devices)?;
         }
         if !are_rising_below(numbers(pages), v) {
@@ -72,7 +72,7 @@ impl<'a> Policy<'a> {
         if !are_below(numbers(frames), f) {
             return Err(Refusal::ListedFrame);
         }
-        let devices = if VARIANT == fault::COUNT_NOT_KEPT { MAX_DEVICES } else { devices as u16 };
+        let devices = if VARIANT == mistake::COUNT_NOT_KEPT { MAX_DEVICES } else { devices as u16 };
         Ok(Policy { v, f, e, devices, pages, frames })
     }
 
@@ -97,9 +97,9 @@ impl<'a> Policy<'a> {
 #[inline(always)]
 fn ask_devices<const VARIANT: u8>(devices: u64) -> Result<(), Refusal> {
     let (devices, least, most) = match VARIANT {
-        fault::CUT_COUNT => (u64::from(devices as u16), 1, MAX_DEVICES),
-        fault::NO_DEVICE_AT_ALL => (devices, 0, MAX_DEVICES),
-        fault::ONE_DEVICE_MORE => (devices, 1, MAX_DEVICES + 1),
+        mistake::CUT_COUNT => (u64::from(devices as u16), 1, MAX_DEVICES),
+        mistake::NO_DEVICE_AT_ALL => (devices, 0, MAX_DEVICES),
+        mistake::ONE_DEVICE_MORE => (devices, 1, MAX_DEVICES + 1),
         _ => (devices, 1, MAX_DEVICES),
     };
     if (least..=u64::from(most)).contains(&devices) {
@@ -123,7 +123,7 @@ pub fn start(
     map: &mut [u16],
     exclusion: &mut [u8],
 ) -> (State, Answer) {
-    start_where::<{ fault::NONE }>(true, record, devices, shadow, map, exclusion)
+    start_where::<{ mistake::NONE }>(true, record, devices, shadow, map, exclusion)
 }
 
 /// Starts the guard where what else question 7 asks for is in order.

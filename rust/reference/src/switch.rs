@@ -2,13 +2,13 @@
 //! A switch reads no kernel table; it assigns bit 63 of each present shadow entry and keeps all other bits.
 
 use crate::entry::{no_execute, APPROVED, CACHE_BITS, KERNEL_NO_EXECUTE, PRESENT, USER};
-use crate::fault;
+use crate::mistake;
 use crate::state::{Answer, Mode, Refusal, State, ENTRY_PAGES};
 
 /// Enters the kernel by an entry index: how many shadow entries changed, and 0.
 #[inline(always)]
 pub fn enter(state: &mut State, shadow: &mut [u64], index: u64) -> Answer {
-    enter_variant::<{ fault::NONE }>(state, shadow, index)
+    enter_variant::<{ mistake::NONE }>(state, shadow, index)
 }
 
 #[inline(always)]
@@ -44,7 +44,7 @@ pub(crate) fn enter_variant<const VARIANT: u8>(
 /// Leaves the kernel to a page: how many shadow entries changed, and 0.
 #[inline(always)]
 pub fn leave(state: &mut State, shadow: &mut [u64], page: u64) -> Answer {
-    leave_variant::<{ fault::NONE }>(state, shadow, page)
+    leave_variant::<{ mistake::NONE }>(state, shadow, page)
 }
 
 #[inline(always)]
@@ -81,7 +81,7 @@ fn switch<const IN_USER: bool, const VARIANT: u8>(shadow: &mut [u64]) -> u64 {
         // The present bit, brought to bit 63, lets the difference through.
         let difference = (*entry ^ no_execute::<IN_USER>(*entry)) & (*entry << 63);
         let cleared = match VARIANT {
-            fault::SWITCH_CLEARS_CACHE_BITS if *entry & PRESENT != 0 => *entry & CACHE_BITS,
+            mistake::SWITCH_CLEARS_CACHE_BITS if *entry & PRESENT != 0 => *entry & CACHE_BITS,
             _ => 0,
         };
         *entry ^= difference | cleared;

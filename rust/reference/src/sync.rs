@@ -5,7 +5,7 @@ use crate::entry::{
     approved, framed, is_excluded, ordinary, restricted, CACHE_BITS, CACHE_DISABLE, FRAME,
     FRAME_SHIFT, NO_FRAME, PRESENT, RESERVED, WRITE_THROUGH,
 };
-use crate::fault;
+use crate::mistake;
 use crate::state::{Answer, Refusal, State, MAX_FRAMES, MAX_VECTOR};
 use crate::tree::{Tree, WholeTree};
 
@@ -43,40 +43,40 @@ fn step<const IN_USER: bool, const VARIANT: u8>(
     joined: &mut u64,
 ) -> u64 {
     let reserved = match VARIANT {
-        fault::IGNORE_RESERVED => 0,
-        fault::RESERVED_IF_NOT_APPROVED if *place != NO_FRAME => 0,
+        mistake::IGNORE_RESERVED => 0,
+        mistake::RESERVED_IF_NOT_APPROVED if *place != NO_FRAME => 0,
         _ => RESERVED,
     };
     if kernel & (PRESENT | reserved) != PRESENT {
-        if VARIANT == fault::FORGET_APPROVAL {
+        if VARIANT == mistake::FORGET_APPROVAL {
             *place = NO_FRAME;
         }
         return 0;
     }
     let frame = kernel & FRAME;
     let carried = match VARIANT {
-        fault::APPROVED_CARRIES_CACHE_BITS => kernel & CACHE_BITS,
+        mistake::APPROVED_CARRIES_CACHE_BITS => kernel & CACHE_BITS,
         _ => 0,
     };
-    if VARIANT != fault::NO_APPROVAL && *place != NO_FRAME {
-        let kept = if VARIANT == fault::TRUST_KERNEL_FRAME { frame } else { framed(*place) };
+    if VARIANT != mistake::NO_APPROVAL && *place != NO_FRAME {
+        let kept = if VARIANT == mistake::TRUST_KERNEL_FRAME { frame } else { framed(*place) };
         return approved::<IN_USER>(kept) | carried;
     }
     if frame >= frames.end {
         return 0;
     }
-    if VARIANT != fault::NO_APPROVAL && frame == frames.pending {
+    if VARIANT != mistake::NO_APPROVAL && frame == frames.pending {
         return restricted::<IN_USER>(kernel);
     }
-    let joins = VARIANT != fault::NO_APPROVAL && VARIANT != fault::WRITABLE_ALIAS;
+    let joins = VARIANT != mistake::NO_APPROVAL && VARIANT != mistake::WRITABLE_ALIAS;
     if joins && is_excluded(frame >> FRAME_SHIFT) {
         *place = (frame >> FRAME_SHIFT) as u16;
         *joined += 1;
         return approved::<IN_USER>(frame) | carried;
     }
     ordinary::<IN_USER>(match VARIANT {
-        fault::EXCHANGE_CACHE_BITS => with_cache_bits_exchanged(kernel),
-        fault::ONE_CACHE_BIT => kernel & !CACHE_DISABLE,
+        mistake::EXCHANGE_CACHE_BITS => with_cache_bits_exchanged(kernel),
+        mistake::ONE_CACHE_BIT => kernel & !CACHE_DISABLE,
         _ => kernel,
     })
 }
@@ -113,13 +113,13 @@ pub(crate) fn one_from_tree<const VARIANT: u8>(
     exclusion: &[u8],
     page: u64,
 ) -> Answer {
-    if VARIANT == fault::TREE_BEFORE_TABLES {
+    if VARIANT == mistake::TREE_BEFORE_TABLES {
         tree.whole()?;
     }
     if !fits(state, [shadow.len(), map.len()], exclusion) {
         return Err(Refusal::StateOrTable);
     }
-    if VARIANT == fault::PAGE_BEFORE_TREE && page >= u64::from(state.v) {
+    if VARIANT == mistake::PAGE_BEFORE_TREE && page >= u64::from(state.v) {
         return Err(Refusal::DoesNotExist);
     }
     let tree = tree.whole()?;
@@ -176,7 +176,7 @@ pub(crate) fn all_from_tree<const VARIANT: u8>(
     map: &mut [u16],
     exclusion: &[u8],
 ) -> Answer {
-    if VARIANT == fault::TREE_BEFORE_TABLES {
+    if VARIANT == mistake::TREE_BEFORE_TABLES {
         tree.whole()?;
     }
     if !fits(state, [shadow.len(), map.len()], exclusion) {
@@ -258,7 +258,7 @@ pub fn synchronise_one(
     exclusion: &[u8],
     page: u64,
 ) -> Answer {
-    one::<{ fault::NONE }>(state, kernel, shadow, map, exclusion, page)
+    one::<{ mistake::NONE }>(state, kernel, shadow, map, exclusion, page)
 }
 
 /// Synchronises all pages in rising order; the numbers are those of [`synchronise_one`].
@@ -270,7 +270,7 @@ pub fn synchronise_all(
     map: &mut [u16],
     exclusion: &[u8],
 ) -> Answer {
-    all::<{ fault::NONE }>(state, kernel, shadow, map, exclusion)
+    all::<{ mistake::NONE }>(state, kernel, shadow, map, exclusion)
 }
 
 /// [`synchronise_one`] with the flat entry of the walk to the page as its kernel entry.
@@ -283,7 +283,7 @@ pub fn synchronise_one_from_tree(
     exclusion: &[u8],
     page: u64,
 ) -> Answer {
-    one_from_tree::<{ fault::NONE }>(state, tree, shadow, map, exclusion, page)
+    one_from_tree::<{ mistake::NONE }>(state, tree, shadow, map, exclusion, page)
 }
 
 /// [`synchronise_all`] with the flat entries of the walks to all pages, each walked as it is synchronised.
@@ -295,13 +295,13 @@ pub fn synchronise_all_from_tree(
     map: &mut [u16],
     exclusion: &[u8],
 ) -> Answer {
-    all_from_tree::<{ fault::NONE }>(state, tree, shadow, map, exclusion)
+    all_from_tree::<{ mistake::NONE }>(state, tree, shadow, map, exclusion)
 }
 
 /// Synchronising without steps 2 and 4 and without the rule for a pending frame: the kernel's frame is always taken and no page joins.
 /// It shows what approval costs; it asks the same questions of the same tables, and it guards nothing.
 pub mod without_approval {
-    use super::{all, fault, one, Answer, State};
+    use super::{all, mistake, one, Answer, State};
 
     #[inline(always)]
     pub fn synchronise_one(
@@ -312,7 +312,7 @@ pub mod without_approval {
         exclusion: &[u8],
         page: u64,
     ) -> Answer {
-        one::<{ fault::NO_APPROVAL }>(state, kernel, shadow, map, exclusion, page)
+        one::<{ mistake::NO_APPROVAL }>(state, kernel, shadow, map, exclusion, page)
     }
 
     #[inline(always)]
@@ -323,6 +323,6 @@ pub mod without_approval {
         map: &mut [u16],
         exclusion: &[u8],
     ) -> Answer {
-        all::<{ fault::NO_APPROVAL }>(state, kernel, shadow, map, exclusion)
+        all::<{ mistake::NO_APPROVAL }>(state, kernel, shadow, map, exclusion)
     }
 }

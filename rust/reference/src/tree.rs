@@ -6,7 +6,7 @@ use std::fmt;
 use crate::entry::{
     frame_of, CACHE_BITS, FRAME, FRAME_SHIFT, NO_EXECUTE, PRESENT, RESERVED, USER, WRITABLE,
 };
-use crate::fault;
+use crate::mistake;
 use crate::state::{Answer, Refusal};
 
 /// The bits of a page number that choose an entry, and how many entries a table has.
@@ -59,13 +59,13 @@ pub(crate) struct Walked {
 /// Walks to a page: its flat entry, and how many entries were read.
 #[inline(always)]
 pub fn walk(tree: Tree, page: u64) -> Answer {
-    walk_where::<{ fault::NONE }>(true, tree, page)
+    walk_where::<{ mistake::NONE }>(true, tree, page)
 }
 
 /// Walks where what question 7 asks for is in order.
 #[inline(always)]
 pub(crate) fn walk_where<const VARIANT: u8>(in_order: bool, tree: Tree, page: u64) -> Answer {
-    if VARIANT == fault::TREE_BEFORE_TABLES {
+    if VARIANT == mistake::TREE_BEFORE_TABLES {
         tree.whole()?;
     }
     if !in_order {
@@ -113,18 +113,19 @@ impl WholeTree<'_> {
     /// With the depth known, the compiler makes straight-line code of the loop.
     #[inline(always)]
     pub(crate) fn walk_from<const DEPTH: u32, const VARIANT: u8>(&self, page: u64) -> Walked {
-        if page >> (INDEX_BITS * DEPTH) != 0 && VARIANT != fault::WRAP_PAGES {
+        if page >> (INDEX_BITS * DEPTH) != 0 && VARIANT != mistake::WRAP_PAGES {
             return Walked { entry: 0, read: 0 };
         }
         let (mut table, mut level) = (self.root, DEPTH);
         let mut rights = rights_of_all::<VARIANT>();
         loop {
             let entry = table[(page >> (INDEX_BITS * (level - 1)) & INDEX) as usize];
-            let read = if VARIANT == fault::READ_TO_THE_DEPTH { DEPTH } else { DEPTH - level + 1 };
+            let read =
+                if VARIANT == mistake::READ_TO_THE_DEPTH { DEPTH } else { DEPTH - level + 1 };
             let is_large = is_large::<VARIANT>(entry, level);
             let is_last = level == 1 || is_large;
             let reserved = match VARIANT {
-                fault::RESERVED_IN_LAST_ENTRY if !is_last => 0,
+                mistake::RESERVED_IN_LAST_ENTRY if !is_last => 0,
                 _ => RESERVED,
             };
             if entry & (PRESENT | reserved) != PRESENT {
@@ -135,7 +136,7 @@ impl WholeTree<'_> {
                 return Walked { entry: flat::<VARIANT>(entry, rights, is_large, page), read };
             }
             let number = match VARIANT {
-                fault::CUT_TABLE_NUMBER => frame_of(entry) & u64::from(u32::MAX),
+                mistake::CUT_TABLE_NUMBER => frame_of(entry) & u64::from(u32::MAX),
                 _ => frame_of(entry),
             };
             match table_at(self.tables, number) {
@@ -151,8 +152,8 @@ impl WholeTree<'_> {
 #[inline(always)]
 fn is_large<const VARIANT: u8>(entry: u64, level: u32) -> bool {
     let may_be = match VARIANT {
-        fault::LARGE_AT_LEVEL_1 => level <= 2,
-        fault::LARGE_AT_LEVEL_3 => level >= 2,
+        mistake::LARGE_AT_LEVEL_1 => level <= 2,
+        mistake::LARGE_AT_LEVEL_3 => level >= 2,
         _ => level == 2,
     };
     may_be && entry & LARGE != 0
@@ -163,7 +164,7 @@ fn is_large<const VARIANT: u8>(entry: u64, level: u32) -> bool {
 #[inline(always)]
 fn rights_of_all<const VARIANT: u8>() -> u64 {
     match VARIANT {
-        fault::NO_EXECUTE_OF_EVERY_LEVEL => WRITABLE | USER,
+        mistake::NO_EXECUTE_OF_EVERY_LEVEL => WRITABLE | USER,
         _ => RIGHTS,
     }
 }
@@ -171,14 +172,14 @@ fn rights_of_all<const VARIANT: u8>() -> u64 {
 /// What an entry of this level leaves of the rights.
 #[inline(always)]
 fn rights_below<const VARIANT: u8>(rights: u64, entry: u64, level: u32) -> u64 {
-    if level == 3 && VARIANT != fault::LEVEL_3_RIGHTS {
+    if level == 3 && VARIANT != mistake::LEVEL_3_RIGHTS {
         return rights;
     }
     let own = entry ^ NO_EXECUTE;
     match VARIANT {
-        fault::LAST_LEVEL_RIGHTS => own,
-        fault::NO_EXECUTE_OF_EVERY_LEVEL => rights & own | (rights | own) & NO_EXECUTE,
-        fault::CACHE_BITS_OF_EVERY_LEVEL => rights & own | (rights | own) & CACHE_BITS,
+        mistake::LAST_LEVEL_RIGHTS => own,
+        mistake::NO_EXECUTE_OF_EVERY_LEVEL => rights & own | (rights | own) & NO_EXECUTE,
+        mistake::CACHE_BITS_OF_EVERY_LEVEL => rights & own | (rights | own) & CACHE_BITS,
         _ => rights & own,
     }
 }
@@ -186,16 +187,16 @@ fn rights_below<const VARIANT: u8>(rights: u64, entry: u64, level: u32) -> u64 {
 /// The flat entry of a page by its last entry and what is left of the rights.
 #[inline(always)]
 fn flat<const VARIANT: u8>(entry: u64, rights: u64, is_large: bool, page: u64) -> u64 {
-    if is_large && entry & LOW_FRAME != 0 && VARIANT != fault::MISALIGNED_LARGE {
+    if is_large && entry & LOW_FRAME != 0 && VARIANT != mistake::MISALIGNED_LARGE {
         return 0;
     }
     let within = match VARIANT {
-        fault::LARGE_WITHOUT_LOW_NINE => 0,
+        mistake::LARGE_WITHOUT_LOW_NINE => 0,
         _ if is_large => (page & INDEX) << FRAME_SHIFT,
         _ => 0,
     };
     let carried = match VARIANT {
-        fault::CACHE_BITS_OF_EVERY_LEVEL => rights & CACHE_BITS,
+        mistake::CACHE_BITS_OF_EVERY_LEVEL => rights & CACHE_BITS,
         _ => 0,
     };
     let rights = rights & RIGHTS ^ NO_EXECUTE;

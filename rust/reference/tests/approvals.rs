@@ -6,7 +6,9 @@ mod common;
 use common::{record, refused, Guard};
 use inputs::Random;
 use reference::claim::{Call, Claim, Reaching};
-use reference::{boundary, fault, Answer, AskToCommit, Fault, Mode, Pair, State, Tree, NO_FRAME};
+use reference::{
+    boundary, mistake, Answer, AskToCommit, Mistake, Mode, Pair, State, Tree, NO_FRAME,
+};
 
 const NO_EXECUTE: u64 = 1 << 63;
 
@@ -479,31 +481,31 @@ fn drawn(random: &mut Random) -> Guard {
 #[test]
 fn the_calls_without_a_mistake() {
     // The mistake of no call but the start.
-    let of_the_start = Fault::StartLeavesPair;
+    let of_the_start = Mistake::StartLeavesPair;
     let mut random = Random::new(7);
     for _ in 0..20_000 {
         let drawn = drawn(&mut random);
         let (page, frame) = (random.below(9), random.below(10));
-        let [mut plain, mut with_fault] = [drawn.clone(), drawn];
-        let Guard { state, kernel, shadow, map, exclusion, .. } = &mut with_fault;
+        let [mut plain, mut with_mistake] = [drawn.clone(), drawn];
+        let Guard { state, kernel, shadow, map, exclusion, .. } = &mut with_mistake;
         let answers = match random.below(5) {
             0 => (
                 plain.ask(page, frame),
-                fault::ask(of_the_start, state, shadow, map, exclusion, page, frame),
+                mistake::ask(of_the_start, state, shadow, map, exclusion, page, frame),
             ),
-            1 => (plain.commit(), fault::commit(of_the_start, state, shadow, map)),
-            2 => (plain.drop_pending(), fault::drop(of_the_start, state, exclusion)),
+            1 => (plain.commit(), mistake::commit(of_the_start, state, shadow, map)),
+            2 => (plain.drop_pending(), mistake::drop(of_the_start, state, exclusion)),
             3 => (
                 plain.synchronise_one(page),
-                fault::synchronise_one(of_the_start, state, kernel, shadow, map, exclusion, page),
+                mistake::synchronise_one(of_the_start, state, kernel, shadow, map, exclusion, page),
             ),
             _ => (
                 plain.synchronise_all(),
-                fault::synchronise_all(of_the_start, state, kernel, shadow, map, exclusion),
+                mistake::synchronise_all(of_the_start, state, kernel, shadow, map, exclusion),
             ),
         };
         assert_eq!(answers.0, answers.1);
-        assert_eq!(plain, with_fault);
+        assert_eq!(plain, with_mistake);
     }
 }
 

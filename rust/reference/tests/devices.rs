@@ -5,7 +5,7 @@ mod common;
 
 use common::{record, refused, Guard};
 use inputs::Random;
-use reference::{boundary, fault, Answer, Device, Fault, State};
+use reference::{boundary, mistake, Answer, Device, Mistake, State};
 
 /// V 4, F 9, page 1 with frame 2 and page 3 with frame 8.
 fn nine_frames() -> Guard {
@@ -281,9 +281,9 @@ fn the_list_of_questions_without_a_mistake() {
     for _ in 0..20_000 {
         let (guard, device, address, length) = drawn(&mut random);
         let Guard { state, exclusion, devices, .. } = &guard;
-        let of_no_device_write = Fault::ForgetApproval;
+        let of_no_device_write = Mistake::ForgetApproval;
         assert_eq!(
-            fault::device_write(
+            mistake::device_write(
                 of_no_device_write,
                 state,
                 exclusion,

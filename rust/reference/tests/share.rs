@@ -1,8 +1,8 @@
 //! The share of excluded frames: K7's rows, every number of frames that a policy can have, and its planted mistakes.
 //! The drill's own lines are compared in tests/vectors.rs.
 
-use reference::fault;
-use reference::{share, Fault};
+use reference::mistake;
+use reference::{share, Mistake};
 
 /// "One excluded frame of eight prints 12, three of eight print 38."
 #[test]
@@ -62,16 +62,16 @@ fn of_all_numbers_of_frames() {
 #[test]
 fn planted_mistakes() {
     let rows = [(1, 8), (3, 8), (1, 3), (2, 3), (8, 8)];
-    let faults = [
-        (Fault::None, [12, 38, 33, 67, 100]),
-        (Fault::ShareRoundedDown, [12, 37, 33, 66, 100]),
-        (Fault::ShareRoundedUp, [13, 38, 34, 67, 100]),
-        (Fault::ShareHalfUp, [13, 38, 33, 67, 100]),
-        (Fault::ShareHalfDown, [12, 37, 33, 67, 100]),
-        (Fault::ShareHalfToOdd, [13, 37, 33, 67, 100]),
+    let mistakes = [
+        (Mistake::None, [12, 38, 33, 67, 100]),
+        (Mistake::ShareRoundedDown, [12, 37, 33, 66, 100]),
+        (Mistake::ShareRoundedUp, [13, 38, 34, 67, 100]),
+        (Mistake::ShareHalfUp, [13, 38, 33, 67, 100]),
+        (Mistake::ShareHalfDown, [12, 37, 33, 67, 100]),
+        (Mistake::ShareHalfToOdd, [13, 37, 33, 67, 100]),
     ];
-    for (fault, expected) in faults {
-        let shares = rows.map(|(excluded, f)| fault::share(fault, excluded, f));
-        assert_eq!(shares, expected, "{fault:?}");
+    for (mistake, expected) in mistakes {
+        let shares = rows.map(|(excluded, f)| mistake::share(mistake, excluded, f));
+        assert_eq!(shares, expected, "{mistake:?}");
     }
 }

@@ -7,7 +7,7 @@ use std::collections::BTreeSet;
 use std::fs;
 use std::path::{Path, PathBuf};
 
-use reference::{drill_with_fault, Fault};
+use reference::{drill_with_mistake, Mistake};
 
 fn vectors() -> PathBuf {
     Path::new(env!("CARGO_MANIFEST_DIR")).join("../../tests/vectors")
@@ -24,7 +24,7 @@ fn files(extension: &str) -> BTreeSet<PathBuf> {
 }
 
 /// The inputs on which a guard with this mistake prints something else, and how many were compared.
-fn failures(fault: Fault) -> (Vec<PathBuf>, usize) {
+fn failures(mistake: Mistake) -> (Vec<PathBuf>, usize) {
     let inputs = files("in");
     assert!(!inputs.is_empty(), "no vector to compare in {}", vectors().display());
     let outputs: BTreeSet<_> = inputs.iter().map(|input| input.with_extension("out")).collect();
@@ -34,7 +34,7 @@ fn failures(fault: Fault) -> (Vec<PathBuf>, usize) {
         let expected = fs::read(path.with_extension("out")).unwrap();
         assert!(!expected.is_empty(), "the .out of {} is empty", path.display());
         let mut printed = Vec::new();
-        drill_with_fault(fault, &input[..], &mut printed).unwrap();
+        drill_with_mistake(mistake, &input[..], &mut printed).unwrap();
         printed != expected
     };
     (inputs.iter().filter(differs).cloned().collect(), inputs.len())
@@ -42,16 +42,16 @@ fn failures(fault: Fault) -> (Vec<PathBuf>, usize) {
 
 #[test]
 fn every_vector() {
-    let (failed, compared) = failures(Fault::None);
+    let (failed, compared) = failures(Mistake::None);
     assert!(failed.is_empty(), "{} of {compared} vectors differ: {failed:?}", failed.len());
     println!("{compared} vectors compared");
 }
 
 #[test]
 fn the_vectors_see_every_planted_mistake() {
-    for fault in Fault::PLANTED.into_iter().chain(Fault::OF_SHARES) {
-        let (failed, _) = failures(fault);
-        assert!(!failed.is_empty(), "no vector sees {fault:?}");
+    for mistake in Mistake::PLANTED.into_iter().chain(Mistake::OF_SHARES) {
+        let (failed, _) = failures(mistake);
+        assert!(!failed.is_empty(), "no vector sees {mistake:?}");
     }
 }
 

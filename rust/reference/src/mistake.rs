@@ -7,9 +7,9 @@ use crate::approval;
 use crate::boundary;
 use crate::claim::Call;
 use crate::device::Device;
-use crate::device_fault;
+use crate::device_mistake;
 use crate::drill;
-use crate::pending_fault;
+use crate::pending_mistake;
 use crate::state::{Answer, State};
 use crate::switch;
 use crate::sync;
@@ -18,7 +18,7 @@ use crate::tree::Tree;
 /// A mistake that the guard has to exclude.
 #[derive(Clone, Copy, Debug, PartialEq, Eq)]
 #[repr(u8)]
-pub enum Fault {
+pub enum Mistake {
     None = 0,
     /// Trusting the kernel's frame for an approved page.
     TrustKernelFrame = 1,
@@ -302,268 +302,268 @@ pub enum Fault {
     ShareHalfToOdd = 140,
 }
 
-pub(crate) const NONE: u8 = Fault::None as u8;
-pub(crate) const TRUST_KERNEL_FRAME: u8 = Fault::TrustKernelFrame as u8;
-pub(crate) const WRITABLE_ALIAS: u8 = Fault::WritableAlias as u8;
-pub(crate) const FIRST_PAGE_ONLY: u8 = Fault::FirstPageOnly as u8;
-pub(crate) const FORGET_APPROVAL: u8 = Fault::ForgetApproval as u8;
-pub(crate) const IGNORE_RESERVED: u8 = Fault::IgnoreReserved as u8;
-pub(crate) const RESERVED_IF_NOT_APPROVED: u8 = Fault::ReservedIfNotApproved as u8;
-pub(crate) const CUT_SIZES: u8 = Fault::CutSizes as u8;
-pub(crate) const BUFFER_BEFORE_RUN: u8 = Fault::BufferBeforeRun as u8;
-pub(crate) const BYTE_PAST_RECORD: u8 = Fault::BytePastRecord as u8;
-pub(crate) const EXCHANGE_CACHE_BITS: u8 = Fault::ExchangeCacheBits as u8;
-pub(crate) const ONE_CACHE_BIT: u8 = Fault::OneCacheBit as u8;
-pub(crate) const APPROVED_CARRIES_CACHE_BITS: u8 = Fault::ApprovedCarriesCacheBits as u8;
-pub(crate) const SWITCH_CLEARS_CACHE_BITS: u8 = Fault::SwitchClearsCacheBits as u8;
-pub(crate) const LAST_LEVEL_RIGHTS: u8 = Fault::LastLevelRights as u8;
-pub(crate) const LEVEL_3_RIGHTS: u8 = Fault::Level3Rights as u8;
-pub(crate) const NO_EXECUTE_OF_EVERY_LEVEL: u8 = Fault::NoExecuteOfEveryLevel as u8;
-pub(crate) const CACHE_BITS_OF_EVERY_LEVEL: u8 = Fault::CacheBitsOfEveryLevel as u8;
-pub(crate) const LARGE_AT_LEVEL_1: u8 = Fault::LargeAtLevel1 as u8;
-pub(crate) const LARGE_AT_LEVEL_3: u8 = Fault::LargeAtLevel3 as u8;
-pub(crate) const LARGE_WITHOUT_LOW_NINE: u8 = Fault::LargeWithoutLowNine as u8;
-pub(crate) const MISALIGNED_LARGE: u8 = Fault::MisalignedLarge as u8;
-pub(crate) const RESERVED_IN_LAST_ENTRY: u8 = Fault::ReservedInLastEntry as u8;
-pub(crate) const CUT_TABLE_NUMBER: u8 = Fault::CutTableNumber as u8;
-pub(crate) const WRAP_PAGES: u8 = Fault::WrapPages as u8;
-pub(crate) const PAGE_BEFORE_TREE: u8 = Fault::PageBeforeTree as u8;
-pub(crate) const TREE_BEFORE_TABLES: u8 = Fault::TreeBeforeTables as u8;
-pub(crate) const READ_TO_THE_DEPTH: u8 = Fault::ReadToTheDepth as u8;
-pub(crate) const CUT_COUNT: u8 = Fault::CutCount as u8;
-pub(crate) const COUNT_BEFORE_SIZES: u8 = Fault::CountBeforeSizes as u8;
-pub(crate) const COUNT_AFTER_LENGTH: u8 = Fault::CountAfterLength as u8;
-pub(crate) const NO_DEVICE_AT_ALL: u8 = Fault::NoDeviceAtAll as u8;
-pub(crate) const ONE_DEVICE_MORE: u8 = Fault::OneDeviceMore as u8;
-pub(crate) const COUNT_NOT_KEPT: u8 = Fault::CountNotKept as u8;
+pub(crate) const NONE: u8 = Mistake::None as u8;
+pub(crate) const TRUST_KERNEL_FRAME: u8 = Mistake::TrustKernelFrame as u8;
+pub(crate) const WRITABLE_ALIAS: u8 = Mistake::WritableAlias as u8;
+pub(crate) const FIRST_PAGE_ONLY: u8 = Mistake::FirstPageOnly as u8;
+pub(crate) const FORGET_APPROVAL: u8 = Mistake::ForgetApproval as u8;
+pub(crate) const IGNORE_RESERVED: u8 = Mistake::IgnoreReserved as u8;
+pub(crate) const RESERVED_IF_NOT_APPROVED: u8 = Mistake::ReservedIfNotApproved as u8;
+pub(crate) const CUT_SIZES: u8 = Mistake::CutSizes as u8;
+pub(crate) const BUFFER_BEFORE_RUN: u8 = Mistake::BufferBeforeRun as u8;
+pub(crate) const BYTE_PAST_RECORD: u8 = Mistake::BytePastRecord as u8;
+pub(crate) const EXCHANGE_CACHE_BITS: u8 = Mistake::ExchangeCacheBits as u8;
+pub(crate) const ONE_CACHE_BIT: u8 = Mistake::OneCacheBit as u8;
+pub(crate) const APPROVED_CARRIES_CACHE_BITS: u8 = Mistake::ApprovedCarriesCacheBits as u8;
+pub(crate) const SWITCH_CLEARS_CACHE_BITS: u8 = Mistake::SwitchClearsCacheBits as u8;
+pub(crate) const LAST_LEVEL_RIGHTS: u8 = Mistake::LastLevelRights as u8;
+pub(crate) const LEVEL_3_RIGHTS: u8 = Mistake::Level3Rights as u8;
+pub(crate) const NO_EXECUTE_OF_EVERY_LEVEL: u8 = Mistake::NoExecuteOfEveryLevel as u8;
+pub(crate) const CACHE_BITS_OF_EVERY_LEVEL: u8 = Mistake::CacheBitsOfEveryLevel as u8;
+pub(crate) const LARGE_AT_LEVEL_1: u8 = Mistake::LargeAtLevel1 as u8;
+pub(crate) const LARGE_AT_LEVEL_3: u8 = Mistake::LargeAtLevel3 as u8;
+pub(crate) const LARGE_WITHOUT_LOW_NINE: u8 = Mistake::LargeWithoutLowNine as u8;
+pub(crate) const MISALIGNED_LARGE: u8 = Mistake::MisalignedLarge as u8;
+pub(crate) const RESERVED_IN_LAST_ENTRY: u8 = Mistake::ReservedInLastEntry as u8;
+pub(crate) const CUT_TABLE_NUMBER: u8 = Mistake::CutTableNumber as u8;
+pub(crate) const WRAP_PAGES: u8 = Mistake::WrapPages as u8;
+pub(crate) const PAGE_BEFORE_TREE: u8 = Mistake::PageBeforeTree as u8;
+pub(crate) const TREE_BEFORE_TABLES: u8 = Mistake::TreeBeforeTables as u8;
+pub(crate) const READ_TO_THE_DEPTH: u8 = Mistake::ReadToTheDepth as u8;
+pub(crate) const CUT_COUNT: u8 = Mistake::CutCount as u8;
+pub(crate) const COUNT_BEFORE_SIZES: u8 = Mistake::CountBeforeSizes as u8;
+pub(crate) const COUNT_AFTER_LENGTH: u8 = Mistake::CountAfterLength as u8;
+pub(crate) const NO_DEVICE_AT_ALL: u8 = Mistake::NoDeviceAtAll as u8;
+pub(crate) const ONE_DEVICE_MORE: u8 = Mistake::OneDeviceMore as u8;
+pub(crate) const COUNT_NOT_KEPT: u8 = Mistake::CountNotKept as u8;
 /// No mistake of the list: the variant without steps 2 and 4.
 pub(crate) const NO_APPROVAL: u8 = 255;
 
-impl Fault {
+impl Mistake {
     /// The mistakes of calls that a drill makes: the four in document 01's order, then those of the requests.
-    pub const PLANTED: [Fault; 18] = [
-        Fault::TrustKernelFrame,
-        Fault::WritableAlias,
-        Fault::FirstPageOnly,
-        Fault::ForgetApproval,
-        Fault::IgnoreReserved,
-        Fault::ReservedIfNotApproved,
-        Fault::ExchangeCacheBits,
-        Fault::OneCacheBit,
-        Fault::ApprovedCarriesCacheBits,
-        Fault::SwitchClearsCacheBits,
-        Fault::DeviceFromOne,
-        Fault::DeviceWraps,
-        Fault::NoDeviceAsNoWindow,
-        Fault::DeviceBeforeLength,
-        Fault::DeviceAfterExists,
-        Fault::WindowBeforeExists,
-        Fault::WindowWithoutFirst,
-        Fault::WindowWithoutLast,
+    pub const PLANTED: [Mistake; 18] = [
+        Mistake::TrustKernelFrame,
+        Mistake::WritableAlias,
+        Mistake::FirstPageOnly,
+        Mistake::ForgetApproval,
+        Mistake::IgnoreReserved,
+        Mistake::ReservedIfNotApproved,
+        Mistake::ExchangeCacheBits,
+        Mistake::OneCacheBit,
+        Mistake::ApprovedCarriesCacheBits,
+        Mistake::SwitchClearsCacheBits,
+        Mistake::DeviceFromOne,
+        Mistake::DeviceWraps,
+        Mistake::NoDeviceAsNoWindow,
+        Mistake::DeviceBeforeLength,
+        Mistake::DeviceAfterExists,
+        Mistake::WindowBeforeExists,
+        Mistake::WindowWithoutFirst,
+        Mistake::WindowWithoutLast,
     ];
 
     /// The mistakes of writing a record, which no list and no drill does.
-    pub const OF_WRITING_RECORDS: [Fault; 3] =
-        [Fault::CutSizes, Fault::BufferBeforeRun, Fault::BytePastRecord];
+    pub const OF_WRITING_RECORDS: [Mistake; 3] =
+        [Mistake::CutSizes, Mistake::BufferBeforeRun, Mistake::BytePastRecord];
 
     /// The mistakes of synchronising from a tree that a list of demand 3 shows. No drill has a tree.
-    pub const OF_TREES: [Fault; 12] = [
-        Fault::LastLevelRights,
-        Fault::Level3Rights,
-        Fault::NoExecuteOfEveryLevel,
-        Fault::CacheBitsOfEveryLevel,
-        Fault::LargeAtLevel1,
-        Fault::LargeAtLevel3,
-        Fault::LargeWithoutLowNine,
-        Fault::MisalignedLarge,
-        Fault::ReservedInLastEntry,
-        Fault::CutTableNumber,
-        Fault::WrapPages,
-        Fault::PageBeforeTree,
+    pub const OF_TREES: [Mistake; 12] = [
+        Mistake::LastLevelRights,
+        Mistake::Level3Rights,
+        Mistake::NoExecuteOfEveryLevel,
+        Mistake::CacheBitsOfEveryLevel,
+        Mistake::LargeAtLevel1,
+        Mistake::LargeAtLevel3,
+        Mistake::LargeWithoutLowNine,
+        Mistake::MisalignedLarge,
+        Mistake::ReservedInLastEntry,
+        Mistake::CutTableNumber,
+        Mistake::WrapPages,
+        Mistake::PageBeforeTree,
     ];
 
     /// The other mistakes with a tree: in a list of demand 3 question 7 is passed before 17, and no call gives a count of entries read.
-    pub const OF_WALKS: [Fault; 2] = [Fault::TreeBeforeTables, Fault::ReadToTheDepth];
+    pub const OF_WALKS: [Mistake; 2] = [Mistake::TreeBeforeTables, Mistake::ReadToTheDepth];
 
     /// The mistakes of device writes that a list of demand 3 shows. A drill brings one list, in which every window has all frames.
-    pub const OF_DEVICES: [Fault; 12] = [
-        Fault::CutDevice,
-        Fault::FirstFrameOnly,
-        Fault::LastFrameOnly,
-        Fault::WindowTouched,
-        Fault::NeighbourWindow,
-        Fault::AnyWindow,
-        Fault::WindowTurned,
-        Fault::EmptyWindowOpen,
-        Fault::ExcludedBeforeWindow,
-        Fault::ListNotAsked,
-        Fault::LongerList,
-        Fault::LengthBeforeList,
+    pub const OF_DEVICES: [Mistake; 12] = [
+        Mistake::CutDevice,
+        Mistake::FirstFrameOnly,
+        Mistake::LastFrameOnly,
+        Mistake::WindowTouched,
+        Mistake::NeighbourWindow,
+        Mistake::AnyWindow,
+        Mistake::WindowTurned,
+        Mistake::EmptyWindowOpen,
+        Mistake::ExcludedBeforeWindow,
+        Mistake::ListNotAsked,
+        Mistake::LongerList,
+        Mistake::LengthBeforeList,
     ];
 
     /// The mistakes with the number of devices: a drill always has 64, and in a list of demand 3 a state has what its start was given.
-    pub const OF_DEVICE_COUNTS: [Fault; 8] = [
-        Fault::CountNotAsked,
-        Fault::CountOfTransfersAlone,
-        Fault::CutCount,
-        Fault::CountBeforeSizes,
-        Fault::CountAfterLength,
-        Fault::NoDeviceAtAll,
-        Fault::OneDeviceMore,
-        Fault::CountNotKept,
+    pub const OF_DEVICE_COUNTS: [Mistake; 8] = [
+        Mistake::CountNotAsked,
+        Mistake::CountOfTransfersAlone,
+        Mistake::CutCount,
+        Mistake::CountBeforeSizes,
+        Mistake::CountAfterLength,
+        Mistake::NoDeviceAtAll,
+        Mistake::OneDeviceMore,
+        Mistake::CountNotKept,
     ];
 
     /// The mistakes with asks, commits, drops and what is pending that a list of demand 3 shows. No drill has such a call.
-    pub const OF_PENDING: [Fault; 49] = [
-        Fault::AskDoesNotExclude,
-        Fault::AskWhilePending,
-        Fault::AskApprovedPage,
-        Fault::AskByMark,
-        Fault::AskExcludedFrame,
-        Fault::InKernelModeAlone,
-        Fault::AskAnyPage,
-        Fault::AskAnyFrame,
-        Fault::CutPage,
-        Fault::CutFrame,
-        Fault::ConflictBeforeExists,
-        Fault::WritableBeforeConflict,
-        Fault::WritableNotAsked,
-        Fault::WritableOfTheAskedPage,
-        Fault::AskClosesEntries,
-        Fault::AskCountsThePage,
-        Fault::PendingAfterStep4,
-        Fault::PendingBeforeStep2,
-        Fault::PendingFrameCut,
-        Fault::PendingJoins,
-        Fault::PendingNotMapped,
-        Fault::PendingWritable,
-        Fault::PendingWithoutBit9,
-        Fault::PendingRunsInUserMode,
-        Fault::PendingWithoutUser,
-        Fault::PendingWithoutCacheBits,
-        Fault::PendingOfTheAskedPage,
-        Fault::PendingWhateverTheFrame,
-        Fault::PendingNotOfOne,
-        Fault::PendingNotOfAll,
-        Fault::PendingNotOfTrees,
-        Fault::CommitApprovedPage,
-        Fault::CommitByMark,
-        Fault::CommitOfNothing,
-        Fault::CommitSkipsAliases,
-        Fault::CommitSkipsAbsentPage,
-        Fault::CommitSkipsOtherFrame,
-        Fault::CommitTakesAbsent,
-        Fault::CommitInKernelMode,
-        Fault::CommitKeepsBits,
-        Fault::CommitMapAlone,
-        Fault::CommitShadowAlone,
-        Fault::CommitLeavesPair,
-        Fault::JoinedWithoutTheAsked,
-        Fault::DropOfNothing,
-        Fault::DropLeavesBit,
-        Fault::DropLeavesPair,
-        Fault::DropClearsNext,
-        Fault::DropClearsByte,
+    pub const OF_PENDING: [Mistake; 49] = [
+        Mistake::AskDoesNotExclude,
+        Mistake::AskWhilePending,
+        Mistake::AskApprovedPage,
+        Mistake::AskByMark,
+        Mistake::AskExcludedFrame,
+        Mistake::InKernelModeAlone,
+        Mistake::AskAnyPage,
+        Mistake::AskAnyFrame,
+        Mistake::CutPage,
+        Mistake::CutFrame,
+        Mistake::ConflictBeforeExists,
+        Mistake::WritableBeforeConflict,
+        Mistake::WritableNotAsked,
+        Mistake::WritableOfTheAskedPage,
+        Mistake::AskClosesEntries,
+        Mistake::AskCountsThePage,
+        Mistake::PendingAfterStep4,
+        Mistake::PendingBeforeStep2,
+        Mistake::PendingFrameCut,
+        Mistake::PendingJoins,
+        Mistake::PendingNotMapped,
+        Mistake::PendingWritable,
+        Mistake::PendingWithoutBit9,
+        Mistake::PendingRunsInUserMode,
+        Mistake::PendingWithoutUser,
+        Mistake::PendingWithoutCacheBits,
+        Mistake::PendingOfTheAskedPage,
+        Mistake::PendingWhateverTheFrame,
+        Mistake::PendingNotOfOne,
+        Mistake::PendingNotOfAll,
+        Mistake::PendingNotOfTrees,
+        Mistake::CommitApprovedPage,
+        Mistake::CommitByMark,
+        Mistake::CommitOfNothing,
+        Mistake::CommitSkipsAliases,
+        Mistake::CommitSkipsAbsentPage,
+        Mistake::CommitSkipsOtherFrame,
+        Mistake::CommitTakesAbsent,
+        Mistake::CommitInKernelMode,
+        Mistake::CommitKeepsBits,
+        Mistake::CommitMapAlone,
+        Mistake::CommitShadowAlone,
+        Mistake::CommitLeavesPair,
+        Mistake::JoinedWithoutTheAsked,
+        Mistake::DropOfNothing,
+        Mistake::DropLeavesBit,
+        Mistake::DropLeavesPair,
+        Mistake::DropClearsNext,
+        Mistake::DropClearsByte,
     ];
 
     /// The other mistakes with them. In a list of demand 3 an entry that is not present is 0, a present one has a frame below F, one of an
     /// approved page is not writable and has the approved frame, a commit changes every entry that it approves, and a pending pair is
     /// below V and F and its frame excluded; and the words of a pair are nothing that a one-page guard holds.
-    pub const OF_PENDING_STATES: [Fault; 31] = [
-        Fault::WritableIfNotPresent,
-        Fault::WritableIfNotApproved,
-        Fault::WritableIfNotMarked,
-        Fault::WritableFrameCut,
-        Fault::PendingIfExcluded,
-        Fault::CommitTakesApproved,
-        Fault::CommitFrameCut,
-        Fault::JoinedAsChanged,
-        Fault::PairNotAsked,
-        Fault::PairNotAskedToSynchroniseOne,
-        Fault::PairNotAskedToSynchroniseAll,
-        Fault::PairNotAskedToFetch,
-        Fault::PairNotAskedToWrite,
-        Fault::PairNotAskedToEnter,
-        Fault::PairNotAskedToLeave,
-        Fault::PairNotAskedOfDevices,
-        Fault::PairNotAskedOfOneFromTree,
-        Fault::PairNotAskedOfAllFromTree,
-        Fault::PairNotAskedToAsk,
-        Fault::PairNotAskedToCommit,
-        Fault::PairNotAskedToDrop,
-        Fault::PendingPageV,
-        Fault::PendingFrameF,
-        Fault::CutPairWords,
-        Fault::PairReadWhereNone,
-        Fault::PendingWordIsAny,
-        Fault::PendingWordIsOne,
-        Fault::OthersWritePair,
-        Fault::CommitLeavesWords,
-        Fault::DropLeavesWords,
-        Fault::StartLeavesPair,
+    pub const OF_PENDING_STATES: [Mistake; 31] = [
+        Mistake::WritableIfNotPresent,
+        Mistake::WritableIfNotApproved,
+        Mistake::WritableIfNotMarked,
+        Mistake::WritableFrameCut,
+        Mistake::PendingIfExcluded,
+        Mistake::CommitTakesApproved,
+        Mistake::CommitFrameCut,
+        Mistake::JoinedAsChanged,
+        Mistake::PairNotAsked,
+        Mistake::PairNotAskedToSynchroniseOne,
+        Mistake::PairNotAskedToSynchroniseAll,
+        Mistake::PairNotAskedToFetch,
+        Mistake::PairNotAskedToWrite,
+        Mistake::PairNotAskedToEnter,
+        Mistake::PairNotAskedToLeave,
+        Mistake::PairNotAskedOfDevices,
+        Mistake::PairNotAskedOfOneFromTree,
+        Mistake::PairNotAskedOfAllFromTree,
+        Mistake::PairNotAskedToAsk,
+        Mistake::PairNotAskedToCommit,
+        Mistake::PairNotAskedToDrop,
+        Mistake::PendingPageV,
+        Mistake::PendingFrameF,
+        Mistake::CutPairWords,
+        Mistake::PairReadWhereNone,
+        Mistake::PendingWordIsAny,
+        Mistake::PendingWordIsOne,
+        Mistake::OthersWritePair,
+        Mistake::CommitLeavesWords,
+        Mistake::DropLeavesWords,
+        Mistake::StartLeavesPair,
     ];
 
     /// The mistakes of the share, which no call gives: the drill alone prints it.
-    pub const OF_SHARES: [Fault; 5] = [
-        Fault::ShareRoundedDown,
-        Fault::ShareRoundedUp,
-        Fault::ShareHalfUp,
-        Fault::ShareHalfDown,
-        Fault::ShareHalfToOdd,
+    pub const OF_SHARES: [Mistake; 5] = [
+        Mistake::ShareRoundedDown,
+        Mistake::ShareRoundedUp,
+        Mistake::ShareHalfUp,
+        Mistake::ShareHalfDown,
+        Mistake::ShareHalfToOdd,
     ];
 
     /// Whether it is one of K6's.
     fn is_of_pending(self) -> bool {
-        (Fault::AskDoesNotExclude as u8..=Fault::StartLeavesPair as u8).contains(&(self as u8))
+        (Mistake::AskDoesNotExclude as u8..=Mistake::StartLeavesPair as u8).contains(&(self as u8))
     }
 }
 
 /// The variant of a call for a mistake. Where the call cannot make it, the variant does what the plain call does. The mistakes of K5 to
-/// K7 are none of these: device_fault.rs has those of K5, the start and [`seen`], pending_fault.rs those of K6, and [`share`] those of K7.
+/// K7 are none of these: device_mistake.rs has those of K5, the start and [`seen`], pending_mistake.rs those of K6, and [`share`] those of K7.
 macro_rules! variant {
-    ($module:ident::$call:ident, $fault:expr) => {
-        match $fault {
-            Fault::TrustKernelFrame => $module::$call::<TRUST_KERNEL_FRAME>,
-            Fault::WritableAlias => $module::$call::<WRITABLE_ALIAS>,
-            Fault::FirstPageOnly => $module::$call::<FIRST_PAGE_ONLY>,
-            Fault::ForgetApproval => $module::$call::<FORGET_APPROVAL>,
-            Fault::IgnoreReserved => $module::$call::<IGNORE_RESERVED>,
-            Fault::ReservedIfNotApproved => $module::$call::<RESERVED_IF_NOT_APPROVED>,
-            Fault::CutSizes => $module::$call::<CUT_SIZES>,
-            Fault::BufferBeforeRun => $module::$call::<BUFFER_BEFORE_RUN>,
-            Fault::BytePastRecord => $module::$call::<BYTE_PAST_RECORD>,
-            Fault::ExchangeCacheBits => $module::$call::<EXCHANGE_CACHE_BITS>,
-            Fault::OneCacheBit => $module::$call::<ONE_CACHE_BIT>,
-            Fault::ApprovedCarriesCacheBits => $module::$call::<APPROVED_CARRIES_CACHE_BITS>,
-            Fault::SwitchClearsCacheBits => $module::$call::<SWITCH_CLEARS_CACHE_BITS>,
-            Fault::LastLevelRights => $module::$call::<LAST_LEVEL_RIGHTS>,
-            Fault::Level3Rights => $module::$call::<LEVEL_3_RIGHTS>,
-            Fault::NoExecuteOfEveryLevel => $module::$call::<NO_EXECUTE_OF_EVERY_LEVEL>,
-            Fault::CacheBitsOfEveryLevel => $module::$call::<CACHE_BITS_OF_EVERY_LEVEL>,
-            Fault::LargeAtLevel1 => $module::$call::<LARGE_AT_LEVEL_1>,
-            Fault::LargeAtLevel3 => $module::$call::<LARGE_AT_LEVEL_3>,
-            Fault::LargeWithoutLowNine => $module::$call::<LARGE_WITHOUT_LOW_NINE>,
-            Fault::MisalignedLarge => $module::$call::<MISALIGNED_LARGE>,
-            Fault::ReservedInLastEntry => $module::$call::<RESERVED_IN_LAST_ENTRY>,
-            Fault::CutTableNumber => $module::$call::<CUT_TABLE_NUMBER>,
-            Fault::WrapPages => $module::$call::<WRAP_PAGES>,
-            Fault::PageBeforeTree => $module::$call::<PAGE_BEFORE_TREE>,
-            Fault::TreeBeforeTables => $module::$call::<TREE_BEFORE_TABLES>,
-            Fault::ReadToTheDepth => $module::$call::<READ_TO_THE_DEPTH>,
+    ($module:ident::$call:ident, $mistake:expr) => {
+        match $mistake {
+            Mistake::TrustKernelFrame => $module::$call::<TRUST_KERNEL_FRAME>,
+            Mistake::WritableAlias => $module::$call::<WRITABLE_ALIAS>,
+            Mistake::FirstPageOnly => $module::$call::<FIRST_PAGE_ONLY>,
+            Mistake::ForgetApproval => $module::$call::<FORGET_APPROVAL>,
+            Mistake::IgnoreReserved => $module::$call::<IGNORE_RESERVED>,
+            Mistake::ReservedIfNotApproved => $module::$call::<RESERVED_IF_NOT_APPROVED>,
+            Mistake::CutSizes => $module::$call::<CUT_SIZES>,
+            Mistake::BufferBeforeRun => $module::$call::<BUFFER_BEFORE_RUN>,
+            Mistake::BytePastRecord => $module::$call::<BYTE_PAST_RECORD>,
+            Mistake::ExchangeCacheBits => $module::$call::<EXCHANGE_CACHE_BITS>,
+            Mistake::OneCacheBit => $module::$call::<ONE_CACHE_BIT>,
+            Mistake::ApprovedCarriesCacheBits => $module::$call::<APPROVED_CARRIES_CACHE_BITS>,
+            Mistake::SwitchClearsCacheBits => $module::$call::<SWITCH_CLEARS_CACHE_BITS>,
+            Mistake::LastLevelRights => $module::$call::<LAST_LEVEL_RIGHTS>,
+            Mistake::Level3Rights => $module::$call::<LEVEL_3_RIGHTS>,
+            Mistake::NoExecuteOfEveryLevel => $module::$call::<NO_EXECUTE_OF_EVERY_LEVEL>,
+            Mistake::CacheBitsOfEveryLevel => $module::$call::<CACHE_BITS_OF_EVERY_LEVEL>,
+            Mistake::LargeAtLevel1 => $module::$call::<LARGE_AT_LEVEL_1>,
+            Mistake::LargeAtLevel3 => $module::$call::<LARGE_AT_LEVEL_3>,
+            Mistake::LargeWithoutLowNine => $module::$call::<LARGE_WITHOUT_LOW_NINE>,
+            Mistake::MisalignedLarge => $module::$call::<MISALIGNED_LARGE>,
+            Mistake::ReservedInLastEntry => $module::$call::<RESERVED_IN_LAST_ENTRY>,
+            Mistake::CutTableNumber => $module::$call::<CUT_TABLE_NUMBER>,
+            Mistake::WrapPages => $module::$call::<WRAP_PAGES>,
+            Mistake::PageBeforeTree => $module::$call::<PAGE_BEFORE_TREE>,
+            Mistake::TreeBeforeTables => $module::$call::<TREE_BEFORE_TABLES>,
+            Mistake::ReadToTheDepth => $module::$call::<READ_TO_THE_DEPTH>,
             _ => $module::$call::<NONE>,
         }
     };
 }
 
-/// The state as a call that is no device write sees it, which with [`Fault::CountOfTransfersAlone`] has its devices in order.
-fn seen(fault: Fault, state: &State) -> State {
-    let devices = if fault == Fault::CountOfTransfersAlone { 1 } else { state.devices };
+/// The state as a call that is no device write sees it, which with [`Mistake::CountOfTransfersAlone`] has its devices in order.
+fn seen(mistake: Mistake, state: &State) -> State {
+    let devices = if mistake == Mistake::CountOfTransfersAlone { 1 } else { state.devices };
     State { devices, ..*state }
 }
 
 /// The same for a call that may change the mode or what is pending.
-fn seeing(fault: Fault, state: &mut State, call: impl FnOnce(&mut State) -> Answer) -> Answer {
-    let mut seen = seen(fault, state);
+fn seeing(mistake: Mistake, state: &mut State, call: impl FnOnce(&mut State) -> Answer) -> Answer {
+    let mut seen = seen(mistake, state);
     let answer = call(&mut seen);
     (state.mode, state.pending) = (seen.mode, seen.pending);
     answer
@@ -572,7 +572,7 @@ fn seeing(fault: Fault, state: &mut State, call: impl FnOnce(&mut State) -> Answ
 /// [`boundary::start`] with a mistake.
 #[allow(clippy::too_many_arguments)]
 pub fn start(
-    fault: Fault,
+    mistake: Mistake,
     policy: &[u8],
     devices: u64,
     run: &mut [u64],
@@ -581,29 +581,29 @@ pub fn start(
     exclusion: &mut [u8],
     numbers: &mut [u64],
 ) -> u64 {
-    let start = match fault {
-        Fault::CutCount => boundary::start_variant::<CUT_COUNT>,
-        Fault::CountBeforeSizes => boundary::start_variant::<COUNT_BEFORE_SIZES>,
-        Fault::CountAfterLength => boundary::start_variant::<COUNT_AFTER_LENGTH>,
-        Fault::NoDeviceAtAll => boundary::start_variant::<NO_DEVICE_AT_ALL>,
-        Fault::OneDeviceMore => boundary::start_variant::<ONE_DEVICE_MORE>,
-        Fault::CountNotKept => boundary::start_variant::<COUNT_NOT_KEPT>,
+    let start = match mistake {
+        Mistake::CutCount => boundary::start_variant::<CUT_COUNT>,
+        Mistake::CountBeforeSizes => boundary::start_variant::<COUNT_BEFORE_SIZES>,
+        Mistake::CountAfterLength => boundary::start_variant::<COUNT_AFTER_LENGTH>,
+        Mistake::NoDeviceAtAll => boundary::start_variant::<NO_DEVICE_AT_ALL>,
+        Mistake::OneDeviceMore => boundary::start_variant::<ONE_DEVICE_MORE>,
+        Mistake::CountNotKept => boundary::start_variant::<COUNT_NOT_KEPT>,
         _ => boundary::start,
     };
-    pending_fault::starting(fault, run, |run| {
+    pending_mistake::starting(mistake, run, |run| {
         start(policy, devices, run, shadow, map, exclusion, numbers)
     })
 }
 
 /// A call on a state run that a mistake may read or write otherwise.
 pub fn on_run(
-    fault: Fault,
+    mistake: Mistake,
     call: &Call,
     run: &mut [u64],
     made: impl FnOnce(&mut [u64]) -> u64,
 ) -> u64 {
-    if fault.is_of_pending() {
-        pending_fault::on_run(fault, call, run, made)
+    if mistake.is_of_pending() {
+        pending_mistake::on_run(mistake, call, run, made)
     } else {
         made(run)
     }
@@ -611,7 +611,7 @@ pub fn on_run(
 
 /// [`crate::synchronise_one`] with a mistake.
 pub fn synchronise_one(
-    fault: Fault,
+    mistake: Mistake,
     state: &State,
     kernel: &[u64],
     shadow: &mut [u64],
@@ -619,32 +619,32 @@ pub fn synchronise_one(
     exclusion: &[u8],
     page: u64,
 ) -> Answer {
-    if fault.is_of_pending() {
-        return pending_fault::one(fault, state, kernel, shadow, map, exclusion, page);
+    if mistake.is_of_pending() {
+        return pending_mistake::one(mistake, state, kernel, shadow, map, exclusion, page);
     }
-    let state = &seen(fault, state);
-    variant!(sync::one, fault)(state, kernel, shadow, map, exclusion, page)
+    let state = &seen(mistake, state);
+    variant!(sync::one, mistake)(state, kernel, shadow, map, exclusion, page)
 }
 
 /// [`crate::synchronise_all`] with a mistake.
 pub fn synchronise_all(
-    fault: Fault,
+    mistake: Mistake,
     state: &State,
     kernel: &[u64],
     shadow: &mut [u64],
     map: &mut [u16],
     exclusion: &[u8],
 ) -> Answer {
-    if fault.is_of_pending() {
-        return pending_fault::all(fault, state, kernel, shadow, map, exclusion);
+    if mistake.is_of_pending() {
+        return pending_mistake::all(mistake, state, kernel, shadow, map, exclusion);
     }
-    let state = &seen(fault, state);
-    variant!(sync::all, fault)(state, kernel, shadow, map, exclusion)
+    let state = &seen(mistake, state);
+    variant!(sync::all, mistake)(state, kernel, shadow, map, exclusion)
 }
 
 /// [`crate::synchronise_one_from_tree`] with a mistake.
 pub fn synchronise_one_from_tree(
-    fault: Fault,
+    mistake: Mistake,
     state: &State,
     tree: Tree,
     shadow: &mut [u64],
@@ -652,45 +652,45 @@ pub fn synchronise_one_from_tree(
     exclusion: &[u8],
     page: u64,
 ) -> Answer {
-    if fault.is_of_pending() {
-        return pending_fault::one_from_tree(fault, state, tree, shadow, map, exclusion, page);
+    if mistake.is_of_pending() {
+        return pending_mistake::one_from_tree(mistake, state, tree, shadow, map, exclusion, page);
     }
-    let state = &seen(fault, state);
-    variant!(sync::one_from_tree, fault)(state, tree, shadow, map, exclusion, page)
+    let state = &seen(mistake, state);
+    variant!(sync::one_from_tree, mistake)(state, tree, shadow, map, exclusion, page)
 }
 
 /// [`crate::synchronise_all_from_tree`] with a mistake.
 pub fn synchronise_all_from_tree(
-    fault: Fault,
+    mistake: Mistake,
     state: &State,
     tree: Tree,
     shadow: &mut [u64],
     map: &mut [u16],
     exclusion: &[u8],
 ) -> Answer {
-    if fault.is_of_pending() {
-        return pending_fault::all_from_tree(fault, state, tree, shadow, map, exclusion);
+    if mistake.is_of_pending() {
+        return pending_mistake::all_from_tree(mistake, state, tree, shadow, map, exclusion);
     }
-    let state = &seen(fault, state);
-    variant!(sync::all_from_tree, fault)(state, tree, shadow, map, exclusion)
+    let state = &seen(mistake, state);
+    variant!(sync::all_from_tree, mistake)(state, tree, shadow, map, exclusion)
 }
 
 /// [`crate::fetch`] with a mistake.
-pub fn fetch(fault: Fault, state: &mut State, shadow: &[u64], page: u64) -> Answer {
-    seeing(fault, state, |state| access::fetch(state, shadow, page))
+pub fn fetch(mistake: Mistake, state: &mut State, shadow: &[u64], page: u64) -> Answer {
+    seeing(mistake, state, |state| access::fetch(state, shadow, page))
 }
 
 /// [`crate::write`] with a mistake.
 pub fn write(
-    fault: Fault,
+    mistake: Mistake,
     state: &State,
     shadow: &[u64],
     exclusion: &[u8],
     address: u64,
     length: u64,
 ) -> Answer {
-    let state = &seen(fault, state);
-    if fault == Fault::FirstPageOnly {
+    let state = &seen(mistake, state);
+    if mistake == Mistake::FirstPageOnly {
         access::write_checking::<false>(state, shadow, exclusion, address, length)
     } else {
         access::write_checking::<true>(state, shadow, exclusion, address, length)
@@ -698,20 +698,20 @@ pub fn write(
 }
 
 /// [`crate::enter`] with a mistake.
-pub fn enter(fault: Fault, state: &mut State, shadow: &mut [u64], index: u64) -> Answer {
-    let enter = variant!(switch::enter_variant, fault);
-    seeing(fault, state, |state| enter(state, shadow, index))
+pub fn enter(mistake: Mistake, state: &mut State, shadow: &mut [u64], index: u64) -> Answer {
+    let enter = variant!(switch::enter_variant, mistake);
+    seeing(mistake, state, |state| enter(state, shadow, index))
 }
 
 /// [`crate::leave`] with a mistake.
-pub fn leave(fault: Fault, state: &mut State, shadow: &mut [u64], page: u64) -> Answer {
-    let leave = variant!(switch::leave_variant, fault);
-    seeing(fault, state, |state| leave(state, shadow, page))
+pub fn leave(mistake: Mistake, state: &mut State, shadow: &mut [u64], page: u64) -> Answer {
+    let leave = variant!(switch::leave_variant, mistake);
+    seeing(mistake, state, |state| leave(state, shadow, page))
 }
 
 /// [`crate::device_write`] with a mistake.
 pub fn device_write(
-    fault: Fault,
+    mistake: Mistake,
     state: &State,
     exclusion: &[u8],
     devices: &[Device],
@@ -719,15 +719,15 @@ pub fn device_write(
     address: u64,
     length: u64,
 ) -> Answer {
-    if fault == Fault::None {
+    if mistake == Mistake::None {
         return access::device_write(state, exclusion, devices, device, address, length);
     }
-    device_fault::device_write(fault, state, exclusion, devices, device, address, length)
+    device_mistake::device_write(mistake, state, exclusion, devices, device, address, length)
 }
 
 /// [`crate::ask`] with a mistake.
 pub fn ask(
-    fault: Fault,
+    mistake: Mistake,
     state: &mut State,
     shadow: &mut [u64],
     map: &[u16],
@@ -735,54 +735,54 @@ pub fn ask(
     page: u64,
     frame: u64,
 ) -> Answer {
-    if fault.is_of_pending() {
-        return pending_fault::ask(fault, state, shadow, map, exclusion, page, frame);
+    if mistake.is_of_pending() {
+        return pending_mistake::ask(mistake, state, shadow, map, exclusion, page, frame);
     }
-    seeing(fault, state, |state| approval::ask(state, shadow, map, exclusion, page, frame))
+    seeing(mistake, state, |state| approval::ask(state, shadow, map, exclusion, page, frame))
 }
 
 /// [`crate::commit`] with a mistake.
-pub fn commit(fault: Fault, state: &mut State, shadow: &mut [u64], map: &mut [u16]) -> Answer {
-    if fault.is_of_pending() {
-        return pending_fault::commit(fault, state, shadow, map);
+pub fn commit(mistake: Mistake, state: &mut State, shadow: &mut [u64], map: &mut [u16]) -> Answer {
+    if mistake.is_of_pending() {
+        return pending_mistake::commit(mistake, state, shadow, map);
     }
-    seeing(fault, state, |state| approval::commit(state, shadow, map))
+    seeing(mistake, state, |state| approval::commit(state, shadow, map))
 }
 
 /// [`crate::drop`] with a mistake.
-pub fn drop(fault: Fault, state: &mut State, exclusion: &mut [u8]) -> Answer {
-    if fault.is_of_pending() {
-        return pending_fault::drop(fault, state, exclusion);
+pub fn drop(mistake: Mistake, state: &mut State, exclusion: &mut [u8]) -> Answer {
+    if mistake.is_of_pending() {
+        return pending_mistake::drop(mistake, state, exclusion);
     }
-    seeing(fault, state, |state| approval::drop(state, exclusion))
+    seeing(mistake, state, |state| approval::drop(state, exclusion))
 }
 
 /// [`boundary::write_record`] with a mistake; the sizes are V, F, n and e.
 pub fn write_record(
-    fault: Fault,
+    mistake: Mistake,
     sizes: [u64; 4],
     pages: &[u16],
     frames: &[u16],
     buffer: &mut [u8],
     numbers: &mut [u64],
 ) -> u64 {
-    variant!(boundary::write_variant, fault)(sizes, pages, frames, buffer, numbers)
+    variant!(boundary::write_variant, mistake)(sizes, pages, frames, buffer, numbers)
 }
 
 /// [`boundary::walk`] with a mistake.
-pub fn walk(fault: Fault, tree: Tree, page: u64, numbers: &mut [u64]) -> u64 {
-    variant!(boundary::walk_variant, fault)(tree, page, numbers)
+pub fn walk(mistake: Mistake, tree: Tree, page: u64, numbers: &mut [u64]) -> u64 {
+    variant!(boundary::walk_variant, mistake)(tree, page, numbers)
 }
 
 /// [`crate::share`] with a mistake.
-pub fn share(fault: Fault, excluded: u32, f: u32) -> u32 {
+pub fn share(mistake: Mistake, excluded: u32, f: u32) -> u32 {
     let hundredfold = 100 * excluded;
-    match fault {
-        Fault::ShareRoundedDown => hundredfold / f,
-        Fault::ShareRoundedUp => hundredfold.div_ceil(f),
-        Fault::ShareHalfUp => (2 * hundredfold + f) / (2 * f),
-        Fault::ShareHalfDown => (2 * hundredfold + f - 1) / (2 * f),
-        Fault::ShareHalfToOdd if 2 * (hundredfold % f) == f => (hundredfold / f) | 1,
+    match mistake {
+        Mistake::ShareRoundedDown => hundredfold / f,
+        Mistake::ShareRoundedUp => hundredfold.div_ceil(f),
+        Mistake::ShareHalfUp => (2 * hundredfold + f) / (2 * f),
+        Mistake::ShareHalfDown => (2 * hundredfold + f - 1) / (2 * f),
+        Mistake::ShareHalfToOdd if 2 * (hundredfold % f) == f => (hundredfold / f) | 1,
         _ => drill::share(excluded, f),
     }
 }

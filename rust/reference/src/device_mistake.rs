@@ -3,7 +3,7 @@
 
 use crate::device::Device;
 use crate::entry::is_excluded;
-use crate::fault::Fault;
+use crate::mistake::Mistake;
 use crate::state::{Answer, Refusal, State, PAGE_BYTES};
 
 /// The places of questions in the list.
@@ -21,7 +21,7 @@ struct Frames {
 }
 
 pub(crate) fn device_write(
-    fault: Fault,
+    mistake: Mistake,
     state: &State,
     exclusion: &[u8],
     devices: &[Device],
@@ -32,23 +32,23 @@ pub(crate) fn device_write(
     let last_byte = u128::from(address) + u128::from(length.max(1)) - 1;
     let page = u128::from(PAGE_BYTES);
     let frames = Frames { first: u128::from(address) / page, last: last_byte / page };
-    let place = named(fault, devices.len() as u64, device);
-    let is_within = place.is_some_and(|place| within(fault, devices, place, &frames));
+    let place = named(mistake, devices.len() as u64, device);
+    let is_within = place.is_some_and(|place| within(mistake, devices, place, &frames));
     let mut questions = [
-        (Refusal::StateOrTable, fits(fault, state, exclusion.len())),
-        (Refusal::StateOrTable, list_fits(fault, state, devices.len())),
+        (Refusal::StateOrTable, fits(mistake, state, exclusion.len())),
+        (Refusal::StateOrTable, list_fits(mistake, state, devices.len())),
         (Refusal::LengthOutOfRange, (1..=1 << 20).contains(&length)),
-        (Refusal::NoDevice, place.is_some() || fault == Fault::NoDeviceAsNoWindow),
+        (Refusal::NoDevice, place.is_some() || mistake == Mistake::NoDeviceAsNoWindow),
         (Refusal::DoesNotExist, frames.last < state.f.into()),
         (Refusal::OutsideWindow, is_within),
         (Refusal::Excluded, !any_excluded(exclusion, &frames)),
     ];
-    match fault {
-        Fault::DeviceBeforeLength => questions.swap(LENGTH, DEVICE),
-        Fault::DeviceAfterExists => questions.swap(DEVICE, EXISTS),
-        Fault::WindowBeforeExists => questions.swap(EXISTS, WINDOW),
-        Fault::ExcludedBeforeWindow => questions.swap(WINDOW, EXCLUDED),
-        Fault::LengthBeforeList => questions.swap(LIST, LENGTH),
+    match mistake {
+        Mistake::DeviceBeforeLength => questions.swap(LENGTH, DEVICE),
+        Mistake::DeviceAfterExists => questions.swap(DEVICE, EXISTS),
+        Mistake::WindowBeforeExists => questions.swap(EXISTS, WINDOW),
+        Mistake::ExcludedBeforeWindow => questions.swap(WINDOW, EXCLUDED),
+        Mistake::LengthBeforeList => questions.swap(LIST, LENGTH),
         _ => {}
     }
     match questions.iter().find(|(_, is_yes)| !is_yes) {
@@ -58,53 +58,53 @@ pub(crate) fn device_write(
 }
 
 /// Question 7 about the state and the vector.
-fn fits(fault: Fault, state: &State, bytes: usize) -> bool {
-    let devices = if fault == Fault::CountNotAsked { 1 } else { state.devices };
+fn fits(mistake: Mistake, state: &State, bytes: usize) -> bool {
+    let devices = if mistake == Mistake::CountNotAsked { 1 } else { state.devices };
     State { devices, ..*state }.fits_vector(bytes)
 }
 
 /// Question 7 about the list.
-fn list_fits(fault: Fault, state: &State, length: usize) -> bool {
+fn list_fits(mistake: Mistake, state: &State, length: usize) -> bool {
     let count = usize::from(state.devices);
-    match fault {
-        Fault::ListNotAsked => true,
-        Fault::LongerList => length >= count,
+    match mistake {
+        Mistake::ListNotAsked => true,
+        Mistake::LongerList => length >= count,
         _ => length == count,
     }
 }
 
 /// Question 18: the place of the device in a list of this length.
-fn named(fault: Fault, length: u64, device: u64) -> Option<usize> {
-    let place = match fault {
-        Fault::DeviceFromOne => device.checked_sub(1)?,
-        Fault::DeviceWraps => device.checked_rem(length)?,
-        Fault::CutDevice => device & 0xffff,
+fn named(mistake: Mistake, length: u64, device: u64) -> Option<usize> {
+    let place = match mistake {
+        Mistake::DeviceFromOne => device.checked_sub(1)?,
+        Mistake::DeviceWraps => device.checked_rem(length)?,
+        Mistake::CutDevice => device & 0xffff,
         _ => device,
     };
     (place < length).then_some(place as usize)
 }
 
 /// Question 19.
-fn within(fault: Fault, devices: &[Device], place: usize, frames: &Frames) -> bool {
-    let is_within = |device: &Device| within_window(fault, device, frames);
-    match fault {
-        Fault::NeighbourWindow => is_within(&devices[(place + 1) % devices.len()]),
-        Fault::AnyWindow => devices.iter().any(is_within),
+fn within(mistake: Mistake, devices: &[Device], place: usize, frames: &Frames) -> bool {
+    let is_within = |device: &Device| within_window(mistake, device, frames);
+    match mistake {
+        Mistake::NeighbourWindow => is_within(&devices[(place + 1) % devices.len()]),
+        Mistake::AnyWindow => devices.iter().any(is_within),
         _ => is_within(&devices[place]),
     }
 }
 
-fn within_window(fault: Fault, window: &Device, frames: &Frames) -> bool {
+fn within_window(mistake: Mistake, window: &Device, frames: &Frames) -> bool {
     let (from, to) = (u128::from(window.first), u128::from(window.last));
     let Frames { first, last } = *frames;
-    match fault {
-        Fault::WindowWithoutFirst => from < first && last <= to,
-        Fault::WindowWithoutLast => from <= first && last < to,
-        Fault::FirstFrameOnly => from <= first && first <= to,
-        Fault::LastFrameOnly => from <= last && last <= to,
-        Fault::WindowTouched => from <= to && first <= to && from <= last,
-        Fault::WindowTurned => from.min(to) <= first && last <= from.max(to),
-        Fault::EmptyWindowOpen if from > to => true,
+    match mistake {
+        Mistake::WindowWithoutFirst => from < first && last <= to,
+        Mistake::WindowWithoutLast => from <= first && last < to,
+        Mistake::FirstFrameOnly => from <= first && first <= to,
+        Mistake::LastFrameOnly => from <= last && last <= to,
+        Mistake::WindowTouched => from <= to && first <= to && from <= last,
+        Mistake::WindowTurned => from.min(to) <= first && last <= from.max(to),
+        Mistake::EmptyWindowOpen if from > to => true,
         _ => from <= first && last <= to,
     }
 }
