@@ -7,7 +7,7 @@ use guard::archive::{self, NUMBERS};
 use guard::Guard;
 use inputs::Parts;
 use reference::claim::Call as Listed;
-use reference::{boundary, mistake, Device, Mistake, Tree};
+use reference::{boundary, mistaken, Device, Mistake, Tree};
 
 use crate::call::{Call, Lent};
 
@@ -68,56 +68,56 @@ pub fn by_reference(mistake: Mistake, lent: &mut Lent, call: &Call) -> u64 {
     let Lent { state: run, numbers, shadow, map, exclusion, buffer } = lent;
     let call = match *call {
         Call::Start { policy, devices } => {
-            return mistake::start(mistake, policy, devices, run, shadow, map, exclusion, numbers)
+            return mistaken::start(mistake, policy, devices, run, shadow, map, exclusion, numbers)
         }
         Call::WriteRecord(Parts { sizes, pages, frames }) => {
-            return mistake::write_record(mistake, *sizes, pages, frames, buffer, numbers)
+            return mistaken::write_record(mistake, *sizes, pages, frames, buffer, numbers)
         }
-        Call::Walk { tree, page } => return mistake::walk(mistake, tree, page, numbers),
+        Call::Walk { tree, page } => return mistaken::walk(mistake, tree, page, numbers),
         Call::Listed(call) => call,
     };
-    mistake::on_run(mistake, &call, run, |run| match call {
+    mistaken::on_run(mistake, &call, run, |run| match call {
         Listed::SynchroniseOne { kernel, page } => boundary::with_state(run, numbers, |state| {
-            mistake::synchronise_one(mistake, state, kernel, shadow, map, exclusion, page)
+            mistaken::synchronise_one(mistake, state, kernel, shadow, map, exclusion, page)
         }),
         Listed::SynchroniseAll { kernel } => boundary::with_state(run, numbers, |state| {
-            mistake::synchronise_all(mistake, state, kernel, shadow, map, exclusion)
+            mistaken::synchronise_all(mistake, state, kernel, shadow, map, exclusion)
         }),
         Listed::Fetch { page } => {
-            boundary::with_mode(run, numbers, |state| mistake::fetch(mistake, state, shadow, page))
+            boundary::with_mode(run, numbers, |state| mistaken::fetch(mistake, state, shadow, page))
         }
         Listed::Write { address, length } => boundary::with_state(run, numbers, |state| {
-            mistake::write(mistake, state, shadow, exclusion, address, length)
+            mistaken::write(mistake, state, shadow, exclusion, address, length)
         }),
-        Listed::Enter { index } => {
-            boundary::with_mode(run, numbers, |state| mistake::enter(mistake, state, shadow, index))
-        }
+        Listed::Enter { index } => boundary::with_mode(run, numbers, |state| {
+            mistaken::enter(mistake, state, shadow, index)
+        }),
         Listed::Leave { page } => {
-            boundary::with_mode(run, numbers, |state| mistake::leave(mistake, state, shadow, page))
+            boundary::with_mode(run, numbers, |state| mistaken::leave(mistake, state, shadow, page))
         }
         Listed::DeviceWrite { devices, device, address, length } => {
             boundary::with_state(run, numbers, |state| {
-                mistake::device_write(mistake, state, exclusion, devices, device, address, length)
+                mistaken::device_write(mistake, state, exclusion, devices, device, address, length)
             })
         }
         Listed::SynchroniseOneFromTree { tree, page } => {
             boundary::with_state(run, numbers, |state| {
-                mistake::synchronise_one_from_tree(
+                mistaken::synchronise_one_from_tree(
                     mistake, state, tree, shadow, map, exclusion, page,
                 )
             })
         }
         Listed::SynchroniseAllFromTree { tree } => boundary::with_state(run, numbers, |state| {
-            mistake::synchronise_all_from_tree(mistake, state, tree, shadow, map, exclusion)
+            mistaken::synchronise_all_from_tree(mistake, state, tree, shadow, map, exclusion)
         }),
         Listed::Ask { page, frame } => boundary::with_pending(run, numbers, |state| {
-            mistake::ask(mistake, state, shadow, map, exclusion, page, frame)
+            mistaken::ask(mistake, state, shadow, map, exclusion, page, frame)
         }),
         Listed::Commit => boundary::with_pending(run, numbers, |state| {
-            mistake::commit(mistake, state, shadow, map)
+            mistaken::commit(mistake, state, shadow, map)
         }),
         Listed::Drop => {
-            boundary::with_pending(run, numbers, |state| mistake::drop(mistake, state, exclusion))
+            boundary::with_pending(run, numbers, |state| mistaken::drop(mistake, state, exclusion))
         }
     })
 }

@@ -4,7 +4,8 @@
 use std::io::{self, BufWriter, ErrorKind, Read, Write};
 
 use crate::device::Device;
-use crate::mistake::{self, Mistake};
+use crate::mistake::Mistake;
+use crate::mistaken;
 use crate::record::{record_len, SIZES_BYTES};
 use crate::start;
 use crate::state::{
@@ -119,23 +120,7 @@ impl Tables {
             writeln!(out, "{entry:016x}")?;
         }
         let excluded: u32 = self.exclusion().iter().map(|byte| byte.count_ones()).sum();
-        writeln!(out, "share {}", mistake::share(mistake, excluded, self.f.into()))
-    }
-}
-
-/// 100 × excluded frames / F, "to the nearest, an exact half to the even number" (K7).
-///
-/// # Panics
-///
-/// Where F is 0. An accepted start has F 1 at least.
-pub fn share(excluded: u32, f: u32) -> u32 {
-    // A half more, rounded down, is the nearest. An exact half becomes the whole number above it, and goes one back from an odd one.
-    let (with_half, one) = (200 * excluded + f, 2 * f);
-    let nearest = with_half / one;
-    if with_half.is_multiple_of(one) {
-        nearest & !1
-    } else {
-        nearest
+        writeln!(out, "share {}", mistaken::share(mistake, excluded, self.f.into()))
     }
 }
 
@@ -195,15 +180,15 @@ impl Drill {
         let exclusion = &tables.exclusion[..bytes];
         match call.kind {
             0 => tables.edit(call.index, call.value),
-            1 => mistake::synchronise_one(*mistake, state, kernel, shadow, map, exclusion, index),
-            2 => mistake::synchronise_all(*mistake, state, kernel, shadow, map, exclusion),
-            3 => mistake::fetch(*mistake, state, shadow, index),
-            4 => mistake::write(*mistake, state, shadow, exclusion, call.value, length),
-            5 => mistake::enter(*mistake, state, shadow, index),
-            6 => mistake::leave(*mistake, state, shadow, index),
+            1 => mistaken::synchronise_one(*mistake, state, kernel, shadow, map, exclusion, index),
+            2 => mistaken::synchronise_all(*mistake, state, kernel, shadow, map, exclusion),
+            3 => mistaken::fetch(*mistake, state, shadow, index),
+            4 => mistaken::write(*mistake, state, shadow, exclusion, call.value, length),
+            5 => mistaken::enter(*mistake, state, shadow, index),
+            6 => mistaken::leave(*mistake, state, shadow, index),
             7 => {
                 let devices = &tables.devices();
-                mistake::device_write(
+                mistaken::device_write(
                     *mistake, state, exclusion, devices, index, call.value, length,
                 )
             }

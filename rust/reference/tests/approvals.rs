@@ -7,7 +7,7 @@ use common::{record, refused, Guard};
 use inputs::Random;
 use reference::claim::{Call, Claim, Reaching};
 use reference::{
-    boundary, mistake, Answer, AskToCommit, Mistake, Mode, Pair, State, Tree, NO_FRAME,
+    boundary, mistaken, Answer, AskToCommit, Mistake, Mode, Pair, State, Tree, NO_FRAME,
 };
 
 const NO_EXECUTE: u64 = 1 << 63;
@@ -491,17 +491,25 @@ fn the_calls_without_a_mistake() {
         let answers = match random.below(5) {
             0 => (
                 plain.ask(page, frame),
-                mistake::ask(of_the_start, state, shadow, map, exclusion, page, frame),
+                mistaken::ask(of_the_start, state, shadow, map, exclusion, page, frame),
             ),
-            1 => (plain.commit(), mistake::commit(of_the_start, state, shadow, map)),
-            2 => (plain.drop_pending(), mistake::drop(of_the_start, state, exclusion)),
+            1 => (plain.commit(), mistaken::commit(of_the_start, state, shadow, map)),
+            2 => (plain.drop_pending(), mistaken::drop(of_the_start, state, exclusion)),
             3 => (
                 plain.synchronise_one(page),
-                mistake::synchronise_one(of_the_start, state, kernel, shadow, map, exclusion, page),
+                mistaken::synchronise_one(
+                    of_the_start,
+                    state,
+                    kernel,
+                    shadow,
+                    map,
+                    exclusion,
+                    page,
+                ),
             ),
             _ => (
                 plain.synchronise_all(),
-                mistake::synchronise_all(of_the_start, state, kernel, shadow, map, exclusion),
+                mistaken::synchronise_all(of_the_start, state, kernel, shadow, map, exclusion),
             ),
         };
         assert_eq!(answers.0, answers.1);

@@ -5,7 +5,7 @@ mod common;
 
 use common::{record, refused, Guard};
 use inputs::Random;
-use reference::{boundary, mistake, Answer, Device, Mistake, State};
+use reference::{boundary, mistaken, Answer, Device, Mistake, State};
 
 /// V 4, F 9, page 1 with frame 2 and page 3 with frame 8.
 fn nine_frames() -> Guard {
@@ -283,7 +283,7 @@ fn the_list_of_questions_without_a_mistake() {
         let Guard { state, exclusion, devices, .. } = &guard;
         let of_no_device_write = Mistake::ForgetApproval;
         assert_eq!(
-            mistake::device_write(
+            mistaken::device_write(
                 of_no_device_write,
                 state,
                 exclusion,

@@ -1,7 +1,7 @@
 //! The share of excluded frames: K7's rows, every number of frames that a policy can have, and its planted mistakes.
 //! The drill's own lines are compared in tests/vectors.rs.
 
-use reference::mistake;
+use reference::mistaken;
 use reference::{share, Mistake};
 
 /// "One excluded frame of eight prints 12, three of eight print 38."
@@ -71,7 +71,7 @@ fn planted_mistakes() {
         (Mistake::ShareHalfToOdd, [13, 37, 33, 67, 100]),
     ];
     for (mistake, expected) in mistakes {
-        let shares = rows.map(|(excluded, f)| mistake::share(mistake, excluded, f));
+        let shares = rows.map(|(excluded, f)| mistaken::share(mistake, excluded, f));
         assert_eq!(shares, expected, "{mistake:?}");
     }
 }
