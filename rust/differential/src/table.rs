@@ -1,8 +1,10 @@
 //! A table of counts, by a row and a column each, in which some cells cannot be reached.
+//! The others must be reached often enough.
 
 use std::io::{self, Write};
 
-use crate::tally::{print_cell, wrong};
+/// The least count of a cell that can be reached.
+const CELL_MINIMUM: u64 = 1000;
 
 /// Whether a cell can be reached, and its count.
 type Cell = (bool, u64);
@@ -53,5 +55,22 @@ impl Table {
             writeln!(out)?;
         }
         Ok(())
+    }
+}
+
+/// What is wrong with the count of a cell.
+pub fn wrong(can_be: bool, count: u64) -> Option<String> {
+    if can_be {
+        (count < CELL_MINIMUM).then(|| format!("at least {CELL_MINIMUM} are asked for"))
+    } else {
+        (count > 0).then(|| "which cannot be".into())
+    }
+}
+
+pub fn print_cell(out: &mut impl Write, width: usize, can_be: bool, count: u64) -> io::Result<()> {
+    if can_be || count > 0 {
+        write!(out, "{count:>width$}")
+    } else {
+        write!(out, "{:>width$}", "-")
     }
 }

@@ -11,11 +11,9 @@ use crate::approvals::Approvals;
 use crate::call::{Call, Lent, KINDS, WALK, WRITE_RECORD};
 use crate::damage::Damage;
 use crate::entries::Entries;
+use crate::table::{print_cell, wrong};
 use crate::transfers::Transfers;
 use crate::walks::Walks;
-
-/// The least count of a cell that can be reached.
-const CELL_MINIMUM: u64 = 1000;
 
 /// The numbers that a call can answer: 0 for accepted, and every refusal. docs/refusals.txt has them, with which rust/guard compares.
 const NUMBERS: usize = Refusal::ALL.len() + 1;
@@ -258,28 +256,6 @@ impl Tally {
             writeln!(out)?;
         }
         Ok(())
-    }
-}
-
-/// What is wrong with the count of a cell.
-pub(crate) fn wrong(can_be: bool, count: u64) -> Option<String> {
-    if can_be {
-        (count < CELL_MINIMUM).then(|| format!("at least {CELL_MINIMUM} are asked for"))
-    } else {
-        (count > 0).then(|| "which cannot be".into())
-    }
-}
-
-pub(crate) fn print_cell(
-    out: &mut impl Write,
-    width: usize,
-    can_be: bool,
-    count: u64,
-) -> io::Result<()> {
-    if can_be || count > 0 {
-        write!(out, "{count:>width$}")
-    } else {
-        write!(out, "{:>width$}", "-")
     }
 }
 
