@@ -7,11 +7,12 @@ use reference::Mistake;
 
 use crate::aim::{policy, sizes};
 use crate::call::{Call, Lent};
+use crate::compare::compare;
 use crate::damage::{damage_contents, Damage};
 use crate::devices::any_count;
 use crate::list::List;
 use crate::pending::pending_call;
-use crate::run::{compare, Plan};
+use crate::plan::Plan;
 use crate::sides::{by_archive, by_reference};
 use crate::tally::Tally;
 use crate::walked::{check_flat, walk_call};

@@ -5,12 +5,14 @@
 mod aim;
 mod approvals;
 mod call;
+mod compare;
 mod damage;
 mod damaged;
 mod devices;
 mod entries;
 mod list;
 mod pending;
+mod plan;
 mod run;
 mod sides;
 mod started;
@@ -24,6 +26,7 @@ mod windows;
 mod written;
 
 pub use damage::Damage;
-pub use run::{run, Plan};
+pub use plan::Plan;
+pub use run::run;
 pub use started::{run_claim, run_from_ask_on, run_windows};
 pub use tally::Tally;

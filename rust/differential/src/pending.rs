@@ -11,8 +11,8 @@ use reference::claim::Call as Listed;
 use reference::{vector_len, Mistake, Tree};
 
 use crate::call::{Call, Lent};
+use crate::compare::compare;
 use crate::damage::{shadow_entry, Damage};
-use crate::run::compare;
 use crate::tally::Tally;
 use crate::walked::check_flat;
 

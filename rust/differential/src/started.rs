@@ -8,8 +8,9 @@ use reference::claim::{Call as Listed, Claim, Reaching};
 use reference::AskToCommit;
 
 use crate::call::{Call, Lent};
+use crate::compare::compare;
 use crate::list::{pending_of, List};
-use crate::run::{compare, Plan};
+use crate::plan::Plan;
 use crate::sides::{by_archive, by_guard, by_reference};
 use crate::tally::Tally;
 use crate::walked::check_flat;

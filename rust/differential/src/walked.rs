@@ -8,8 +8,8 @@ use reference::path::Path;
 use reference::{Mistake, Tree};
 
 use crate::call::{Call, Lent};
+use crate::compare::compare;
 use crate::damage::Damage;
-use crate::run::compare;
 use crate::sides::by_archive;
 use crate::tally::Tally;
 use crate::trees::Trees;

@@ -8,8 +8,8 @@ use reference::{vector_len, Mistake};
 
 use crate::aim::policy;
 use crate::call::{Call, Lent};
+use crate::compare::compare;
 use crate::damage::{resize, Damage};
-use crate::run::compare;
 use crate::tally::Tally;
 
 /// The most bytes that a buffer has past the record.
