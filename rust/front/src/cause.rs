@@ -1,10 +1,10 @@
 //! Why a start, a device write of the drill or the writing of a record was refused, and by which line of the script or policy.
 //! The drill and the library give the number alone; the question behind it is asked once more here, of the same numbers.
 
-use crate::explain::counted;
 use crate::input::SIZES_BYTES;
 use crate::policy::{MOST_ENTRIES, MOST_FRAMES, MOST_PAGES};
 use crate::refusals::refusal;
+use crate::text::counted;
 use crate::{DrillInput, LineError, Number, Policy};
 
 /// How many devices the drill has.

@@ -5,7 +5,7 @@ use std::cmp::Ordering;
 
 use crate::call::Call;
 use crate::refusals::refusal;
-use crate::text::shown;
+use crate::text::{counted, shown};
 use crate::{DrillInput, LineError};
 
 /// Explains the drill's output, and names the lines of the script that made it where that is given.
@@ -238,10 +238,6 @@ fn explain_numbers(kind: Kind, (first, second): (u64, u64)) -> String {
 
 fn changed(count: u64) -> String {
     counted(count, "shadow entry changed", "shadow entries changed")
-}
-
-pub(crate) fn counted(count: u64, one: &str, many: &str) -> String {
-    format!("{count} {}", if count == 1 { one } else { many })
 }
 
 /// A kernel entry that says present and is absent all the same: the processor would fault on it.

@@ -1,8 +1,7 @@
 //! A readable policy: its lines, and the sizes and arrays of the record that they stand for.
 //! Each number has to fit its field, and in a policy file a given e the pages marked `entry`; the rest is for the library to refuse.
 
-use crate::explain::counted;
-use crate::text::shown;
+use crate::text::{counted, shown};
 use crate::words::{field16, items, last_line, Field, Words, PAGE};
 use crate::LineError;
 

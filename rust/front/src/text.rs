@@ -1,4 +1,4 @@
-//! Text from bytes, and words of it in messages.
+//! Text from bytes, and words of it and counts in messages.
 //! Editors and shells of some systems write a byte order mark, or UTF-16: the first is left out, the second is named.
 
 use crate::LineError;
@@ -46,4 +46,9 @@ pub(crate) fn shown(word: &str) -> String {
         shown.push_str("...");
     }
     shown
+}
+
+/// A count with its noun.
+pub(crate) fn counted(count: u64, one: &str, many: &str) -> String {
+    format!("{count} {}", if count == 1 { one } else { many })
 }
