@@ -1,9 +1,10 @@
 //! The guard: its state run, tables and devices, and a method for each call of documents 01 and 02 on them.
 //! A refused call changes nothing.
 
+use crate::answer::answer;
 use crate::archive;
 use crate::archive::{
-    Device, MODE_USER, NUMBERS, STATE_ENTRIES, STATE_ENTRY, STATE_FRAMES, STATE_MODE, STATE_PAGES,
+    Device, MODE_USER, STATE_ENTRIES, STATE_ENTRY, STATE_FRAMES, STATE_MODE, STATE_PAGES,
     STATE_PENDING, STATE_PENDING_FRAME, STATE_PENDING_PAGE, STATE_RUNNING, STATE_WORDS,
 };
 use crate::{Options, Refusal, Tree};
@@ -311,13 +312,4 @@ fn sizes(policy: &[u8]) -> (usize, usize) {
     let pages = u16::from_le_bytes([v0, v1]).min(MAX_PAGES);
     let frames = u16::from_le_bytes([f0, f1]).min(MAX_FRAMES);
     (pages.into(), frames.into())
-}
-
-/// The two numbers of an accepted call.
-pub(crate) fn answer(call: impl FnOnce(&mut [u64]) -> u64) -> Result<[u64; NUMBERS], Refusal> {
-    let mut numbers = [0; NUMBERS];
-    match call(&mut numbers) {
-        0 => Ok(numbers),
-        number => Err(Refusal::from_number(number).expect("the archive answers 0 or a refusal")),
-    }
 }

@@ -21,6 +21,7 @@
 //! ```
 #![deny(unsafe_code)]
 
+mod answer;
 #[allow(unsafe_code)]
 pub mod archive;
 mod calls;

@@ -1,8 +1,8 @@
 //! The policy record, written by the library: from sizes and arrays that are at hand, or from a policy that is built page by page.
 //! Nothing is asked here: what is wrong with a policy, the library tells.
 
+use crate::answer::answer;
 use crate::archive;
-use crate::calls::answer;
 use crate::Refusal;
 
 /// The bytes of the sizes, which begin a record, and of a listed page with its frame.

@@ -1,8 +1,8 @@
 //! A kernel's page tables as the processor keeps them: a tree of tables in one lent run, and the walk of a page in it.
 //! Nothing is asked here: what is wrong with a tree, the library tells.
 
+use crate::answer::answer;
 use crate::archive;
-use crate::calls::answer;
 use crate::Refusal;
 
 /// The entries of a table.
