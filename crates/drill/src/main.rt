@@ -61,12 +61,12 @@ fn take_turns(
 ) {
     let devices = drill_calls::windows(first.frames);
     let mut s = first;
-    let mut left = drill_calls::call_limit();
-    while drill_calls::goes_on(left) {
+    let mut left = drill_loop::call_limit();
+    while drill_loop::goes_on(left) {
         let result = take_turn(s, kernel, shadow, map, exclusion, devices);
         let next = result.state;
         s = next;
-        left = drill_calls::left_after(left, result.goes);
+        left = drill_loop::left_after(left, result.goes);
     }
 }
 

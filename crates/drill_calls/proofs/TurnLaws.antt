@@ -7,7 +7,7 @@ use lib.Dec.{ltb, eqb}
 use lib.ListN.{length, getD, set, replicate}
 use lib.Seq.{set-out}
 use native.Mathlib.Omega.{arith}
-use borrow.Author.Tests.{not-true, not-false, eq-eqb, ne-eqb, lt-ltb, le-ltb, ltb-true}
+use borrow.Author.Tests.{not-true, not-false, eq-eqb, ne-eqb, lt-ltb, le-ltb}
 use Rattle.model.specs.declared.State.{State}
 use Rattle.model.specs.declared.Answer.{Answer}
 use Rattle.model.specs.declared.Answer.the-variants.{Done, Refused}
@@ -25,7 +25,7 @@ use Rattle.model.specs.Calls.{Outcome, refused, replyOf, outcomeBy, settle, ans
 use Rattle.drill_model.specs.Drill.{policyExtent, windowsOf, kindOf, indexOf, lengthOf, valueOf, edited, callOf, withGuard, performed, line, startLine, turnOf, turn}
 use Rattle.model.proofs.QuestionLaws.{within-high}
 use Rattle.drill_calls.specs.declared.TurnResult.{TurnResult}
-use Rattle.drill_calls.specs.Turns.{drillOf, editedBy, performedBy, turnBy, openingOf, openedBy, pagesLent, bytesLent, goesOn, leftAfter}
+use Rattle.drill_calls.specs.Turns.{drillOf, editedBy, performedBy, turnBy, openingOf, openedBy, pagesLent, bytesLent}
 
 -- The policy's extent, with n in its range and outside.
 pub extent-more : {count : ℕ} {t : Bool} (input : List ℕ) → count ≡ numberAt input 4 → t ≡ within 1 2048 count → t ≡ true → 8 + 4 * count ≡ policyExtent input
@@ -81,26 +81,6 @@ pub opening-is : (r : Called) (l : Line) (b : Bool) (o : Outcome) (t : Tables) �
     → openedBy (record { state = r .state; line = l; goes = b }) t ≡ openingOf o
 unfolding openedBy openingOf outcomeBy startLine
 opening-is r l b o t e f g = rw (← e, f, g)
-
--- The calls left after one: none where none was left, one less, and none where it ended the calls.
-pub left-none : (left : ℕ) (goes : Bool) → left ≡ 0 → left ≡ leftAfter left goes
-unfolding leftAfter
-left-none left false p = p
-left-none left true p = omega arith
-
-pub left-one-less : (left : ℕ) (goes : Bool) → goes ≡ true → left - 1 ≡ leftAfter left goes
-unfolding leftAfter
-left-one-less left goes e = rw e
-
-pub left-ended : (left : ℕ) (goes : Bool) → goes ≡ false → 0 ≡ leftAfter left goes
-unfolding leftAfter
-left-ended left goes e = rw e
-
--- A loop that goes on has fewer calls left after the next.
-pub left-falls : (left after : ℕ) (goes on : Bool) → on ≡ goesOn left → on ≡ true → after ≡ leftAfter left goes → after < left
-unfolding goesOn leftAfter
-left-falls left after true on e p h = let q : 0 < left = ltb-true 0 left (sym e ∙ p) in omega arith
-left-falls left after false on e p h = let q : 0 < left = ltb-true 0 left (sym e ∙ p) in omega arith
 
 -- A call's fields by their 16-bit numbers.
 pub length-is : {low high r : ℕ} (call : List ℕ) → low ≡ numberAt call 4 → high ≡ numberAt call 6 → r ≡ low + 2 ^ 16 * high → r ≡ lengthOf call

@@ -1,10 +1,10 @@
 -- The drill made of a guard, the kernel table and the list of devices, and what the functions of the drill leave, as records of the definitions.
-use Prim.Native.Nat.{ℕ, _-_}
+use Prim.Native.Nat.{ℕ}
 use mathlib.Core.Bool.{Bool, true, cond}
-use mathlib.Core.List.{List, _++_}
+use mathlib.Core.List.{List}
 use mathlib.Core.Path.{_≡_}
-use lib.Dec.{ltb, eqb}
-use lib.ListN.{take, drop, replicate}
+use lib.Dec.{eqb}
+use lib.ListN.{replicate}
 use Rattle.model.specs.declared.Answer.{Answer}
 use Rattle.model.specs.declared.Called.{Called}
 use Rattle.model.specs.declared.Device.{Device}
@@ -12,7 +12,7 @@ use Rattle.model.specs.Sizes.{pagesInRange, framesInRange}
 use Rattle.model.specs.Guard.{Tables, tables, Guard, guardOf, vectorBytes}
 use Rattle.model.specs.Policy.{policyOf}
 use Rattle.model.specs.Calls.{Outcome, replyOf, startOf}
-use Rattle.drill_model.specs.Drill.{drillGiven, Drill, Drilled, Turn, drillStart, startLine, turn, closing, callLines}
+use Rattle.drill_model.specs.Drill.{drillGiven, Drill, Drilled, Turn, drillStart, startLine}
 use Rattle.lines.specs.Text.{text}
 use Rattle.drill_calls.specs.declared.TurnResult.{TurnResult}
 
@@ -63,19 +63,3 @@ OpensAsDefined =
     (openingOf (lentStart record′) .line ≡ openingOf (drillStart record′) .line)
     × (openingOf (lentStart record′) .goes ≡ openingOf (drillStart record′) .goes)
     × (openingOf (lentStart record′) .goes ≡ true → openingOf (lentStart record′) .guard ≡ openingOf (drillStart record′) .guard)
-
--- Whether a call is made where so many are left, and how many are left after it: none where it ended the calls.
-unfoldable pub goesOn : ℕ → Bool
-goesOn left = ltb 0 left
-
-unfoldable pub leftAfter : ℕ → Bool → ℕ
-leftAfter left goes = cond goes (left - 1) 0
-
--- A loop that asks these makes the lines of `callLines`: while it goes on, the line of a turn and what the calls left after it make; then the
--- closing lines.
-unfoldable pub LoopsAsDefined : Type 0
-LoopsAsDefined =
-    (left : ℕ) (d : Drill) (rest : List ℕ) →
-    let t : Turn = turn d (take 16 rest) in
-    callLines left d rest
-    ≡ cond (goesOn left) (t .line ++ callLines (leftAfter left (t .goes)) (t .drill) (drop 16 rest)) (closing (d .guard))

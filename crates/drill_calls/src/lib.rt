@@ -10,9 +10,9 @@ ghost use Rattle.model.specs.Guard.{tables, Guard, guardOf};
 ghost use Rattle.model.specs.declared.Device.{Device};
 ghost use Rattle.model.specs.Calls.{refused, replyOf, outcomeBy, startOf, answer};
 ghost use Rattle.drill_model.specs.Drill;
-ghost use Rattle.drill_model.specs.Drill.{drillGiven, windowsOf, callLimit, policyExtent, indexOf, lengthOf, valueOf, edited, callOf, performed, line};
+ghost use Rattle.drill_model.specs.Drill.{drillGiven, windowsOf, policyExtent, indexOf, lengthOf, valueOf, edited, callOf, performed, line};
 ghost use Rattle.lines.specs.Text.{text};
-ghost use Rattle.drill_calls.specs.Turns.{drillOf, editedBy, performedBy, turnBy, openingOf, openedBy, pagesLent, bytesLent, OpensAsDefined, goesOn, leftAfter, LoopsAsDefined};
+ghost use Rattle.drill_calls.specs.Turns.{drillOf, editedBy, performedBy, turnBy, openingOf, openedBy, pagesLent, bytesLent, OpensAsDefined};
 use lines::Line;
 use model::Answer;
 use model::Called;
@@ -106,37 +106,6 @@ pub fn windows(frames: u16) -> [Device; MOST_DEVICES]
 // What is lent makes no difference to the start of the drill as it is defined, on tables of the record's own sizes.
 pub fn opens_as_defined()
     ensures { λ _. ⌜ OpensAsDefined ⌝ }
-{}
-
-// The loop of calls: how many may be made, whether one more is, and how many are left after it.
-
-pub fn call_limit() -> u16
-    ensures { λ r. ⌜ r ≡ callLimit ⌝ }
-{
-    1024
-}
-
-pub fn goes_on(left: u16) -> bool
-    ensures { λ r. ⌜ r ≡ goesOn left ⌝ }
-{
-    0 < left
-}
-
-pub fn left_after(left: u16, goes: bool) -> u16
-    ensures { λ r. ⌜ r ≡ leftAfter left goes ⌝ }
-{
-    if left == 0 {
-        return left;
-    }
-    if goes {
-        return left - 1;
-    }
-    0
-}
-
-// These decisions make the drill's lines of calls as they are defined.
-pub fn loops_as_defined()
-    ensures { λ _. ⌜ LoopsAsDefined ⌝ }
 {}
 
 // The fields of a call.

@@ -2,7 +2,7 @@
 use mathlib.Core.Path.{_≡_}
 use lib.ListN.{length}
 use borrow.Author.Needs.{needs}
-use Rattle.drill_calls.proofs.TurnLaws.{left-falls}
+use Rattle.drill_loop.proofs.LoopLaws.{left-falls}
 use Rattle.drill.proofs.take_turns.Statement.{statement}
 use Rattle.drill.proofs.take_turns.Tie as tie
 

@@ -1,8 +1,8 @@
--- `drill_calls::left_after` meets its contract.
+-- `drill_loop::left_after` meets its contract.
 use borrow.Author.Needs.{needs}
-use Rattle.drill_calls.proofs.TurnLaws.{left-none, left-one-less, left-ended}
-use Rattle.drill_calls.proofs.left_after.Statement.{statement}
-use Rattle.drill_calls.proofs.left_after.Tie as tie
+use Rattle.drill_loop.proofs.LoopLaws.{left-none, left-one-less, left-ended}
+use Rattle.drill_loop.proofs.left_after.Statement.{statement}
+use Rattle.drill_loop.proofs.left_after.Tie as tie
 
 returns : tie.Need-returns
 returns c = search (needs, left-none)

@@ -1,4 +1,4 @@
--- `drill_calls::loops_as_defined` meets its contract: by whether any call is left, and whether the turn goes on.
+-- `drill_loop::loops_as_defined` meets its contract: by whether any call is left, and whether the turn goes on.
 use Prim.Native.Nat.{ℕ, zero, suc, _<_}
 use mathlib.Core.Bool.{Bool, true, false, cond}
 use mathlib.Core.List.{List}
@@ -7,9 +7,9 @@ use native.Mathlib.Numerals.{sub-one}
 use native.Mathlib.Omega.{arith}
 use borrow.Author.Tests.{lt-ltb}
 use Rattle.drill_model.specs.Drill.{Drill, closing, callLines}
-use Rattle.drill_calls.specs.Turns.{goesOn, leftAfter, LoopsAsDefined}
-use Rattle.drill_calls.proofs.loops_as_defined.Statement.{statement}
-use Rattle.drill_calls.proofs.loops_as_defined.Tie as tie
+use Rattle.drill_loop.specs.Loop.{goesOn, leftAfter, LoopsAsDefined}
+use Rattle.drill_loop.proofs.loops_as_defined.Statement.{statement}
+use Rattle.drill_loop.proofs.loops_as_defined.Tie as tie
 
 -- The calls after one that went on or ended them, where one more was left.
 after : (n : ℕ) (goes : Bool) (d : Drill) (rest : List ℕ)

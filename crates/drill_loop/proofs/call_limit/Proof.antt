@@ -1,8 +1,8 @@
--- `drill_calls::call_limit` meets its contract.
+-- `drill_loop::call_limit` meets its contract.
 use borrow.Author.Needs.{needs}
 use Rattle.drill_model.specs.Drill.{callLimit}
-use Rattle.drill_calls.proofs.call_limit.Statement.{statement}
-use Rattle.drill_calls.proofs.call_limit.Tie as tie
+use Rattle.drill_loop.proofs.call_limit.Statement.{statement}
+use Rattle.drill_loop.proofs.call_limit.Tie as tie
 
 returns : tie.Need-returns
 unfolding callLimit

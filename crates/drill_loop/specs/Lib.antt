@@ -1,0 +1,2 @@
+-- The loop over the drill's calls.
+pub mod Loop
