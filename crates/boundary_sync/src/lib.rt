@@ -74,7 +74,7 @@ pub fn sync_page_tree(
     if !decode::usable(state, numbers, decode::NUMBERS) {
         return encode::reply(numbers, Answer::Refused(7));
     }
-    let answer = sync::sync_page_tree(
+    let answer = sync_tree::sync_page_tree(
         decode::state_in(state),
         tables,
         root,
@@ -105,7 +105,7 @@ pub fn sync_all_tree(
     if !decode::usable(state, numbers, decode::NUMBERS) {
         return encode::reply(numbers, Answer::Refused(7));
     }
-    let answer = sync::sync_all_tree(
+    let answer = sync_tree::sync_all_tree(
         decode::state_in(state),
         tables,
         root,

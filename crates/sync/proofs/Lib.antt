@@ -1,4 +1,3 @@
--- Laws of this crate's proofs.
-mod RunLaws
-mod SourceLaws
-mod SyncLaws
+-- Laws that the proofs of this crate cite, and those of `sync_tree`.
+pub mod SyncLaws
+mod FlatLaws

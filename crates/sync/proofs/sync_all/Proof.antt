@@ -1,5 +1,5 @@
 -- Question 7 refuses, or the three tables have one length and the vector its own; each mode has its own sweep.
-use Rattle.sync.proofs.SyncLaws.{all-refused, flat-covers, flat-map, flat-vector, all-accepted}
+use Rattle.sync.proofs.FlatLaws.{all-refused, flat-covers, flat-map, flat-vector, all-accepted}
 use borrow.Author.Needs.{needs}
 use Rattle.sync.proofs.sync_all.Statement.{statement}
 use Rattle.sync.proofs.sync_all.Tie as tie

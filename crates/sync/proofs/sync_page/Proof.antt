@@ -1,5 +1,5 @@
 -- Questions 7 and 9 refuse, or the page is below V and in every table.
-use Rattle.sync.proofs.SyncLaws.{page-refused, page-absent, flat-page-kernel, flat-page-shadow, flat-page-map, flat-vector, page-accepted}
+use Rattle.sync.proofs.FlatLaws.{page-refused, page-absent, flat-page-kernel, flat-page-shadow, flat-page-map, flat-vector, page-accepted}
 use borrow.Author.Needs.{needs}
 use native.Mathlib.Omega.{arith}
 use Rattle.sync.proofs.sync_page.Statement.{statement}

@@ -6,7 +6,7 @@ use lib.ListN.{length}
 use Rattle.model.specs.Sync.{sweep, sweepFrom, entryIn, stepFrom}
 use Rattle.model.proofs.SweepLaws.{whole, whole-start}
 use Rattle.step.specs.Steps.{rulesBy}
-use Rattle.sync.proofs.SyncLaws.{sweep-more, sweep-over}
+use Rattle.sync.proofs.FlatLaws.{sweep-more, sweep-over}
 use borrow.Author.Needs.{needs}
 use Rattle.sync.proofs.sync_pages.Statement.{statement}
 use Rattle.sync.proofs.sync_pages.Tie as tie

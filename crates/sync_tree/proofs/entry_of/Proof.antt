@@ -1,9 +1,9 @@
 -- A large page's entry with a frame after its own, or an entry among the words.
 use native.Mathlib.Omega.{arith}
-use Rattle.sync.proofs.SourceLaws.{large-fits, few, word-in, word-large, word-table}
+use Rattle.sync_tree.proofs.SourceLaws.{large-fits, few, word-in, word-large, word-table}
 use borrow.Author.Needs.{needs}
-use Rattle.sync.proofs.entry_of.Statement.{statement}
-use Rattle.sync.proofs.entry_of.Tie as tie
+use Rattle.sync_tree.proofs.entry_of.Statement.{statement}
+use Rattle.sync_tree.proofs.entry_of.Tie as tie
 
 mul-result : tie.Need-mul-result
 mul-result c = let small = few _ _ _ _ (c .before .pre) (c .if1 .taken) in omega (arith, small)

@@ -1,10 +1,10 @@
 -- A run for each way in which the part goes on.
 use mathlib.Core.Path.{refl}
 use native.Mathlib.Omega.{arith}
-use Rattle.sync.proofs.SourceLaws.{part-table, part-large, part-nowhere, table-holds, large-holds}
+use Rattle.sync_tree.proofs.SourceLaws.{part-table, part-large, part-nowhere, table-holds, large-holds}
 use borrow.Author.Needs.{needs}
-use Rattle.sync.proofs.sync_part.Statement.{statement}
-use Rattle.sync.proofs.sync_part.Tie as tie
+use Rattle.sync_tree.proofs.sync_part.Statement.{statement}
+use Rattle.sync_tree.proofs.sync_part.Tie as tie
 
 enum-known-below : tie.Need-enum-known-below
 enum-known-below c = search needs

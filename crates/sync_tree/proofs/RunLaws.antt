@@ -9,7 +9,7 @@ use lib.ListN.{length, getD, length-set}
 use Rattle.model.specs.Sync.{Slot, Sweep, sweep, sweepFrom}
 use Rattle.model.proofs.SweepLaws.{whole, whole-start, whole-more, whole-over}
 use Rattle.step.specs.Steps.{stored}
-use Rattle.sync.specs.Runs.{sweptFrom}
+use Rattle.sync_tree.specs.Runs.{sweptFrom}
 
 -- After page i of a run, and after its last page.
 pub swept-more : (f : ℕ → ℕ → ℕ → Slot) (i end : ℕ) (r r′ all : Sweep) → sweptFrom f i (end - i) r ≡ all → i < end

@@ -12,10 +12,10 @@ use Rattle.model.specs.Sync.{Rules, Slot, Sweep, sweep, sweepFrom, step, stepFr
 use Rattle.tree.specs.declared.Below.the-variants.{Table, Large, Nowhere}
 use Rattle.tree.specs.declared.Part.{Part}
 use Rattle.tree.specs.Parts.{rightsBy, lastFlat, flatBelow, flatIn, readsIn, Sound}
-use Rattle.sync.specs.declared.Source.{Source}
+use Rattle.sync_tree.specs.declared.Source.{Source}
 use Rattle.step.specs.Steps.{stored}
-use Rattle.sync.specs.Runs.{sweptFrom, Holds, wordBy, flatBy, entryBy}
-use Rattle.sync.proofs.RunLaws.{swept-more, swept-over, swept-same, swept-append, all-swept}
+use Rattle.sync_tree.specs.Runs.{sweptFrom, Holds, wordBy, flatBy, entryBy}
+use Rattle.sync_tree.proofs.RunLaws.{swept-more, swept-over, swept-same, swept-append, all-swept}
 
 module _ (words : List ℕ) (source : Source) (large : Bool) where
   pub fewer : (n m : ℕ) → Holds large words source n → m ≤ n → Holds large words source m

@@ -1,8 +1,8 @@
 -- Questions 7 and 17 refuse, or the tree can be walked, the tables have one length and the vector its own.
-use Rattle.sync.proofs.SyncLaws.{all-tree-7, all-tree-17, tree-yes, tree-map, tree-vector, all-tree-accepted}
+use Rattle.sync_tree.proofs.TreeLaws.{all-tree-7, all-tree-17, tree-yes, tree-map, tree-vector, all-tree-accepted}
 use borrow.Author.Needs.{needs}
-use Rattle.sync.proofs.sync_all_tree.Statement.{statement}
-use Rattle.sync.proofs.sync_all_tree.Tie as tie
+use Rattle.sync_tree.proofs.sync_all_tree.Statement.{statement}
+use Rattle.sync_tree.proofs.sync_all_tree.Tie as tie
 
 returns : tie.Need-returns
 returns c = search (needs, all-tree-7)

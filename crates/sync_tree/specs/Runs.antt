@@ -7,7 +7,7 @@ use Rattle.model.specs.Bits.{takenApart}
 use Rattle.model.specs.Sync.{Slot, Sweep}
 use Rattle.tree.specs.Parts.{rightsBy, lastFlat}
 use Rattle.step.specs.Steps.{stored}
-use Rattle.sync.specs.declared.Source.{Source}
+use Rattle.sync_tree.specs.declared.Source.{Source}
 
 -- The slots of so many pages from page i on, each stored and counted.
 unfoldable pub sweptFrom : (ℕ → ℕ → ℕ → Slot) → ℕ → ℕ → Sweep → Sweep

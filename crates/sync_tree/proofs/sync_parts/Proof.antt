@@ -6,11 +6,11 @@ use lib.ListN.{length}
 use Rattle.model.specs.Tree.{treeOf, flatAt}
 use Rattle.model.specs.Sync.{sweep, stepFrom}
 use Rattle.step.specs.Steps.{rulesBy}
-use Rattle.sync.specs.Runs.{sweptFrom}
-use Rattle.sync.proofs.SourceLaws.{parts-more, parts-over}
+use Rattle.sync_tree.specs.Runs.{sweptFrom}
+use Rattle.sync_tree.proofs.SourceLaws.{parts-more, parts-over}
 use borrow.Author.Needs.{needs}
-use Rattle.sync.proofs.sync_parts.Statement.{statement}
-use Rattle.sync.proofs.sync_parts.Tie as tie
+use Rattle.sync_tree.proofs.sync_parts.Statement.{statement}
+use Rattle.sync_tree.proofs.sync_parts.Tie as tie
 
 abbrev Inv-loop : tie.InvT-loop
 Inv-loop user frames pending exclusion words root depth shadow₀ map₀ counts₀ first₀ shadow map counts first =

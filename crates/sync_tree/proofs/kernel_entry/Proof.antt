@@ -1,8 +1,8 @@
 -- The entry narrowed to the rights above it.
-use Rattle.sync.proofs.SourceLaws.{walked-to}
+use Rattle.sync_tree.proofs.SourceLaws.{walked-to}
 use borrow.Author.Needs.{needs}
-use Rattle.sync.proofs.kernel_entry.Statement.{statement}
-use Rattle.sync.proofs.kernel_entry.Tie as tie
+use Rattle.sync_tree.proofs.kernel_entry.Statement.{statement}
+use Rattle.sync_tree.proofs.kernel_entry.Tie as tie
 
 returns : tie.Need-returns
 returns c = search (needs, walked-to)

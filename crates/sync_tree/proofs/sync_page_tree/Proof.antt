@@ -2,10 +2,10 @@
 use mathlib.Core.Path.{refl, sym, ap, _∙_}
 use native.Mathlib.Omega.{arith}
 use Rattle.model.specs.Bits.{takenApart}
-use Rattle.sync.proofs.SyncLaws.{page-tree-7, page-tree-17, page-tree-9, tree-yes, tree-vector, tree-page-shadow, tree-page-map, page-tree-accepted}
+use Rattle.sync_tree.proofs.TreeLaws.{page-tree-7, page-tree-17, page-tree-9, tree-yes, tree-vector, tree-page-shadow, tree-page-map, page-tree-accepted}
 use borrow.Author.Needs.{needs}
-use Rattle.sync.proofs.sync_page_tree.Statement.{statement}
-use Rattle.sync.proofs.sync_page_tree.Tie as tie
+use Rattle.sync_tree.proofs.sync_page_tree.Statement.{statement}
+use Rattle.sync_tree.proofs.sync_page_tree.Tie as tie
 
 returns : tie.Need-returns
 returns c = search (needs, page-tree-7)

@@ -5,12 +5,12 @@ use native.Mathlib.Omega.{arith}
 use lib.ListN.{length}
 use Rattle.model.specs.Sync.{sweep, stepFrom}
 use Rattle.step.specs.Steps.{rulesBy}
-use Rattle.sync.specs.Runs.{sweptFrom, entryBy}
-use Rattle.sync.proofs.RunLaws.{swept-over}
-use Rattle.sync.proofs.SourceLaws.{fewer, run-more}
+use Rattle.sync_tree.specs.Runs.{sweptFrom, entryBy}
+use Rattle.sync_tree.proofs.RunLaws.{swept-over}
+use Rattle.sync_tree.proofs.SourceLaws.{fewer, run-more}
 use borrow.Author.Needs.{needs}
-use Rattle.sync.proofs.sync_run.Statement.{statement}
-use Rattle.sync.proofs.sync_run.Tie as tie
+use Rattle.sync_tree.proofs.sync_run.Statement.{statement}
+use Rattle.sync_tree.proofs.sync_run.Tie as tie
 
 abbrev Inv-loop : tie.InvT-loop
 Inv-loop user large frames pending exclusion words source shadow₀ map₀ first end counts₀ i₀ shadow map counts i =

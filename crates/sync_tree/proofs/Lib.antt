@@ -1,0 +1,4 @@
+-- Laws of this crate's proofs.
+mod RunLaws
+mod SourceLaws
+mod TreeLaws
