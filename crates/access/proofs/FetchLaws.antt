@@ -16,10 +16,10 @@ use Rattle.model.specs.Guard.{Tables, withShadow, guardOf, inUser, modeOf, inMo
 use Rattle.model.specs.Bits.{present, noExecute, userBit, frameOf}
 use Rattle.model.specs.Questions.{firstNo, seen, stateInOrder, inOrder, fetchPermitted, fetchQuestions}
 use Rattle.model.specs.Calls.{replyOf, outcomeBy, fetch, questionsOf, effectOf, answer}
-use Rattle.model.proofs.QuestionLaws.{firstNo-yes}
-use Rattle.model.proofs.AcceptedLaws.{fetch-page}
-use Rattle.model.proofs.StateLaws.{pages-few, in-order, shadow-long}
-use Rattle.model.proofs.CallLaws.{passed, passed-always, stopped, none-left, refused-by, accepted-by}
+use Rattle.laws.proofs.QuestionLaws.{firstNo-yes}
+use Rattle.laws.proofs.AcceptedLaws.{fetch-page}
+use Rattle.laws.proofs.StateLaws.{pages-few, in-order, shadow-long}
+use Rattle.laws.proofs.CallLaws.{passed, passed-always, stopped, none-left, refused-by, accepted-by}
 use Rattle.access.specs.AccessView.{accessView}
 
 -- Question 12 of a fetch.

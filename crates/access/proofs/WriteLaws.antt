@@ -19,11 +19,11 @@ use Rattle.model.specs.Guard.{Tables, withShadow, withExclusion, guardOf, vecto
 use Rattle.model.specs.Bits.{present, frameOf}
 use Rattle.model.specs.Questions.{firstNo, seen, stateInOrder, inOrder, writePermitted, free, writeQuestions}
 use Rattle.model.specs.Calls.{replyOf, outcomeBy, keptBy, write, questionsOf, effectOf, answer}
-use Rattle.model.proofs.QuestionLaws.{within-low, firstNo-yes}
-use Rattle.model.proofs.AcceptedLaws.{write-some, write-page}
-use Rattle.model.proofs.StateLaws.{pages-few, in-order}
-use Rattle.model.proofs.CallLaws.{passed, passed-always, stopped, none-left, refused-by, accepted-by}
-use Rattle.model.proofs.TouchLaws.{first-up-to-last, touched-both}
+use Rattle.laws.proofs.QuestionLaws.{within-low, firstNo-yes}
+use Rattle.laws.proofs.AcceptedLaws.{write-some, write-page}
+use Rattle.laws.proofs.StateLaws.{pages-few, in-order}
+use Rattle.laws.proofs.CallLaws.{passed, passed-always, stopped, none-left, refused-by, accepted-by}
+use Rattle.laws.proofs.TouchLaws.{first-up-to-last, touched-both}
 use Rattle.access.specs.AccessView.{accessView, freeIn, entryQuestions}
 use Rattle.access.proofs.CommonLaws.{common-present, common-permitted}
 

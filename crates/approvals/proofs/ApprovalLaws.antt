@@ -18,11 +18,11 @@ use Rattle.model.specs.Approvals.{mapsWritable, committedSlot}
 use Rattle.model.specs.Sync.{Sweep, sweep, sweepFrom}
 use Rattle.model.specs.Questions.{Question, pendingInRange, stateInOrder, inOrder, askQuestions, pageUnapproved, commitQuestions, dropQuestions}
 use Rattle.model.specs.Calls.{outcome, accepted, replyOf, outcomeBy, ask, commit, drop, questionsOf, bitPut, pairCommitted, effectOf, answer}
-use Rattle.model.proofs.QuestionLaws.{both-first, both-second, firstNo-yes, firstNo-no}
-use Rattle.model.proofs.StateLaws.{pages-few, frames-few, in-order, state-parts}
-use Rattle.model.proofs.CallLaws.{passed, stopped, none-left, refused-by, accepted-by}
-use Rattle.model.proofs.TouchLaws.{every-no, every-yes}
-use Rattle.model.proofs.SweepLaws.{getD-inside}
+use Rattle.laws.proofs.QuestionLaws.{both-first, both-second, firstNo-yes, firstNo-no}
+use Rattle.laws.proofs.StateLaws.{pages-few, frames-few, in-order, state-parts}
+use Rattle.laws.proofs.CallLaws.{passed, stopped, none-left, refused-by, accepted-by}
+use Rattle.laws.proofs.TouchLaws.{every-no, every-yes}
+use Rattle.laws.proofs.SweepLaws.{getD-inside}
 use Rattle.approvals.proofs.CommitLaws.{committing}
 
 -- A page's number in the map, and past its end.

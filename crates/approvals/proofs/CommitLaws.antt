@@ -13,7 +13,7 @@ use Rattle.model.specs.Guard.{none}
 use Rattle.model.specs.Bits.{approved}
 use Rattle.model.specs.Approvals.{committedSlot}
 use Rattle.model.specs.Sync.{Slot, slot, Sweep, sweep, before, sweepFrom}
-use Rattle.model.proofs.SweepLaws.{appended, whole, whole-more, whole-over}
+use Rattle.laws.proofs.SweepLaws.{appended, whole, whole-more, whole-over}
 use Rattle.step.specs.Steps.{stored}
 
 -- What a commit makes of a page that is not the asked one, and of any page.

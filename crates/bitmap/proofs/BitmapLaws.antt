@@ -11,7 +11,7 @@ use lib.ListN.{length, getD, set, List·getD-eq-default}
 use lib.Seq.{set-out}
 use Rattle.model.specs.Basics.{bit, flag}
 use Rattle.model.specs.Guard.{hasBit, byteOf, withBit}
-use Rattle.model.proofs.VectorLaws.{below8, flag-bit, byteOf-sum, byteOf-bits}
+use Rattle.laws.proofs.VectorLaws.{below8, flag-bit, byteOf-sum, byteOf-bits}
 
 -- The or of a byte with the weight of bit k sets bit k and keeps the others.
 module _ (b : ℕ) (small : b < 256) where

@@ -13,8 +13,8 @@ use lib.Pow.{mod-pow-add, shr-shr, shr-mod}
 use borrow.Author.Tests.{eq-eqb, ne-eqb, eqb-true, eqb-false, not-true, not-false}
 use Rattle.model.specs.Basics.{both, bit, everyFrom}
 use Rattle.model.specs.Guard.{hasBit}
-use Rattle.model.proofs.QuestionLaws.{both-true}
-use Rattle.model.proofs.VectorLaws.{below8}
+use Rattle.laws.proofs.QuestionLaws.{both-true}
+use Rattle.laws.proofs.VectorLaws.{below8}
 
 -- Two tests for 0 that hold of the same numbers.
 same-zero : (a b : ℕ) → (a ≡ 0 → b ≡ 0) → (b ≡ 0 → a ≡ 0) → eqb a 0 ≡ eqb b 0

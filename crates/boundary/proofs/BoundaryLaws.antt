@@ -15,8 +15,8 @@ use Rattle.model.specs.Guard.{Tables, withShadow, withExclusion, guardOf}
 use Rattle.model.specs.Devices.{deviceAt}
 use Rattle.model.specs.Questions.{stateInOrder}
 use Rattle.model.specs.Calls.{replyOf, settle, outcomeBy, keptBy, Call, deviceWrite, answer}
-use Rattle.model.proofs.QuestionLaws.{both-first}
-use Rattle.model.proofs.CallLaws.{answer-unfit}
+use Rattle.laws.proofs.QuestionLaws.{both-first}
+use Rattle.laws.proofs.CallLaws.{answer-unfit}
 use Rattle.decode.specs.Words.{stateWords, stateIn, answerNumbers, numbersBy, changedBy, withWords, withNumbers, lendable, runAfter}
 use Rattle.decode.proofs.WordLaws.{run-lent}
 use Rattle.boundary.specs.Boundary.{returned, replied, callAt}

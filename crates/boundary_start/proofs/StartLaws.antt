@@ -11,7 +11,7 @@ use Rattle.model.specs.Guard.{Tables}
 use Rattle.model.specs.Policy.{Givens, policyOf}
 use Rattle.model.specs.Questions.{firstNo, recordQuestions, Lengths, lengthsOf, lengthsFit, startQuestions}
 use Rattle.model.specs.Calls.{replyOf, settle, Outcome, outcomeBy, startOf}
-use Rattle.model.proofs.QuestionLaws.{settle-accepted, settle-number}
+use Rattle.laws.proofs.QuestionLaws.{settle-accepted, settle-number}
 use Rattle.policy.proofs.RecordLaws.{start-refused, start-asked}
 use Rattle.decode.specs.Words.{answerNumbers, runsFit, runStarted}
 use Rattle.boundary.specs.Boundary.{returned, replied, startAt}

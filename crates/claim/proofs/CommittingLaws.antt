@@ -19,9 +19,9 @@ use Rattle.claim.specs.OnePage.{reachedIn, seenBy, settled}
 use Rattle.claim.specs.Claim.{Safe, coveredBy}
 use Rattle.claim.specs.Terms.{Term, pendingTerm, Terms, firstTerms, termAfter, termsAfter, inTerm, isCommitted, protected}
 use Rattle.claim.specs.Committing.{Accepts, guardAfter, EachAccepted, Misses, Avoids, Undropped, NoDrop, CommittedKept}
-use Rattle.model.proofs.QuestionLaws.{settle-accepted, settle-refused, settle-number, either-second}
-use Rattle.model.proofs.CallLaws.{effects}
-use Rattle.model.proofs.AcceptedLaws.{ask-free}
+use Rattle.laws.proofs.QuestionLaws.{settle-accepted, settle-refused, settle-number, either-second}
+use Rattle.laws.proofs.CallLaws.{effects}
+use Rattle.laws.proofs.AcceptedLaws.{ask-free}
 use Rattle.claim.proofs.TermLaws.{commit-in, commit-code, drop-code, committed-in}
 use Rattle.claim.proofs.Invariant.{Invariant, pageOf, answered}
 use Rattle.claim.proofs.CommuteLaws.{kept}

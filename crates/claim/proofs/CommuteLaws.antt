@@ -29,14 +29,14 @@ use Rattle.claim.specs.OnePage.{Page, withPair, synchronised, nothing, r
 use Rattle.claim.specs.OnePage.{committedPage, droppedPage, told, newsOfOne, newsOfAll, news}
 use Rattle.model.specs.Approvals.{maps, committedSlot}
 use Rattle.claim.specs.Terms.{Terms, pendingTerm, afterDrop, termAfter, termsAfter, inTerm, isCommitted, protected, code}
-use Rattle.model.proofs.QuestionLaws.{both-yes, either-second}
-use Rattle.model.proofs.StateLaws.{inUser-modeOf, running-modeOf, state-parts, frames-few, mode-fits, pending-fits}
+use Rattle.laws.proofs.QuestionLaws.{both-yes, either-second}
+use Rattle.laws.proofs.StateLaws.{inUser-modeOf, running-modeOf, state-parts, frames-few, mode-fits, pending-fits}
 use Rattle.claim.proofs.PageLaws.{Good, good-more, Allows, told-good}
-use Rattle.model.proofs.SweepLaws.{sweep-shadow-length, sweep-map-length, sweep-at}
-use Rattle.model.proofs.SwitchLaws.{length-switched, switched-at}
-use Rattle.model.proofs.AcceptedLaws.{syncPage-page, syncPageTree-page, fetch-page, enter-page, leave-page, ask-page, ask-frame, ask-first, ask-free}
-use Rattle.model.proofs.AcceptedLaws.{commit-pending, drop-pending}
-use Rattle.model.proofs.VectorLaws.{byte-below, withBit-length, hasBit-withBit}
+use Rattle.laws.proofs.SweepLaws.{sweep-shadow-length, sweep-map-length, sweep-at}
+use Rattle.laws.proofs.SwitchLaws.{length-switched, switched-at}
+use Rattle.laws.proofs.AcceptedLaws.{syncPage-page, syncPageTree-page, fetch-page, enter-page, leave-page, ask-page, ask-frame, ask-first, ask-free}
+use Rattle.laws.proofs.AcceptedLaws.{commit-pending, drop-pending}
+use Rattle.laws.proofs.VectorLaws.{byte-below, withBit-length, hasBit-withBit}
 use Rattle.claim.proofs.TermLaws.{isWaiting, awaited, commit-in, commit-over, commit-code, drop-over, drop-in, drop-out, drop-code, term-code, code-term}
 use Rattle.claim.proofs.TermLaws.{term-named, awaited-none, awaited-is, awaited-other, awaited-below, pending-below, asked-below, waiting-in}
 use Rattle.claim.proofs.Invariant.{Invariant, pageOf}

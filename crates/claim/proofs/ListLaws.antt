@@ -11,8 +11,8 @@ use Rattle.model.specs.Calls.{settle, Outcome, refusedOf, broughtBy, startOf, C
 use Rattle.claim.specs.OnePage.{firstPage, reachedIn, settled, pagesAfter}
 use Rattle.claim.specs.Claim.{Agree, Always, Claim}
 use Rattle.claim.specs.Terms.{Terms, firstTerms, termsAfter}
-use Rattle.model.proofs.QuestionLaws.{settle-accepted, settle-refused}
-use Rattle.model.proofs.CallLaws.{effects}
+use Rattle.laws.proofs.QuestionLaws.{settle-accepted, settle-refused}
+use Rattle.laws.proofs.CallLaws.{effects}
 use Rattle.claim.proofs.Invariant.{Invariant, pageOf, answered}
 use Rattle.claim.proofs.CommuteLaws.{commutes, kept}
 use Rattle.claim.proofs.SafeLaws.{safe}

@@ -14,11 +14,11 @@ use Rattle.model.specs.Bits.{present, noExecute, frameOf, approvedMark, fieldsO
 use Rattle.model.specs.Sync.{rules, Slot, slot}
 use Rattle.model.specs.Switch.{noExecuteIn}
 use Rattle.model.specs.Approvals.{maps, committedSlot}
-use Rattle.model.proofs.SyncLaws.{cond-cases, step-cases}
+use Rattle.laws.proofs.SyncLaws.{cond-cases, step-cases}
 use Rattle.claim.specs.OnePage.{Page, withSlot, withPair, News, synchronised, entered, exited, asked, committed, dropped, nothing, switchedPage, stepped}
 use Rattle.claim.specs.OnePage.{askedPage, committedPage, droppedPage, told}
-use Rattle.model.proofs.BitLaws.{approvedMark-approved, frameOf-approved, approvedMark-ordinary, noExecute-ordinary, present-switched, approvedMark-switched}
-use Rattle.model.proofs.BitLaws.{frameOf-switched, noExecute-switched}
+use Rattle.laws.proofs.BitLaws.{approvedMark-approved, frameOf-approved, approvedMark-ordinary, noExecute-ordinary, present-switched, approvedMark-switched}
+use Rattle.laws.proofs.BitLaws.{frameOf-switched, noExecute-switched}
 
 -- A good page: its approval, if it has one, is a frame of code; an entry with bits 0 and 10 has its approval for its frame; and in kernel
 -- mode an entry with bit 0 set and bit 63 clear has bit 10.

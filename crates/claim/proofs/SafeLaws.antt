@@ -19,9 +19,9 @@ use Rattle.claim.specs.CallKinds.{touchOf}
 use Rattle.claim.specs.OnePage.{reachedIn, seenBy, settled}
 use Rattle.claim.specs.Claim.{Clear, coveredBy, FetchSafe, WriteSafe, DeviceWriteSafe, Safe}
 use Rattle.claim.specs.Terms.{Terms, code}
-use Rattle.model.proofs.QuestionLaws.{both-first, both-second}
+use Rattle.laws.proofs.QuestionLaws.{both-first, both-second}
 use Rattle.claim.proofs.PageLaws.{good-code}
-use Rattle.model.proofs.AcceptedLaws.{fetch-there, fetch-executable, write-free, deviceWrite-free, deviceWrite-windowed}
+use Rattle.laws.proofs.AcceptedLaws.{fetch-there, fetch-executable, write-free, deviceWrite-free, deviceWrite-windowed}
 use Rattle.claim.proofs.KindLaws.{Touching, touchless, fetches, writes, transfers, kinds}
 use Rattle.claim.proofs.Invariant.{Invariant, pageOf}
 

@@ -17,12 +17,12 @@ use Rattle.model.specs.Bits.{approved}
 use Rattle.model.specs.Questions.{firstNo, pendingInRange, stateInOrder, givensInRange, Lengths, startQuestions, rising}
 use Rattle.claim.specs.OnePage.{Page, indexIn, firstPage}
 use Rattle.claim.specs.Terms.{firstTerms, inTerm, isCommitted, protected, code}
-use Rattle.model.proofs.QuestionLaws.{both-first, both-second, within-yes}
-use Rattle.model.proofs.StateLaws.{state-whole}
-use Rattle.model.proofs.TableLaws.{length-table, past-no, table-read}
-use Rattle.model.proofs.PolicyLaws.{Passed, start-passed, start-given, length-numbersAt, allBelow-getD, allBelow-member, member-here, member-there}
-use Rattle.model.proofs.PolicyLaws.{member-later, frameFor-unlisted, frameFor-member}
-use Rattle.model.proofs.VectorLaws.{vectorOf-length, vectorOf-bit}
+use Rattle.laws.proofs.QuestionLaws.{both-first, both-second, within-yes}
+use Rattle.laws.proofs.StateLaws.{state-whole}
+use Rattle.laws.proofs.TableLaws.{length-table, past-no, table-read}
+use Rattle.laws.proofs.PolicyLaws.{Passed, start-passed, start-given, length-numbersAt, allBelow-getD, allBelow-member, member-here, member-there}
+use Rattle.laws.proofs.PolicyLaws.{member-later, frameFor-unlisted, frameFor-member}
+use Rattle.laws.proofs.VectorLaws.{vectorOf-length, vectorOf-bit}
 use Rattle.claim.proofs.PageLaws.{Good, good-absent, good-approved}
 use Rattle.claim.proofs.TermLaws.{isWaiting, awaited}
 use Rattle.claim.proofs.Invariant.{Invariant, pageOf}

@@ -10,7 +10,7 @@ use Rattle.model.specs.Basics.{either}
 use Rattle.model.specs.Guard.{isPending, pendingFrame, isAsked}
 use Rattle.model.specs.Questions.{pendingInRange}
 use Rattle.claim.specs.Terms.{Term, noTerm, pendingTerm, committedTerm, afterCommit, afterDrop, inTerm, isCommitted}
-use Rattle.model.proofs.QuestionLaws.{both-first, both-second}
+use Rattle.laws.proofs.QuestionLaws.{both-first, both-second}
 
 -- A frame whose term is pending, and one that the state says is.
 unfoldable pub isWaiting : Term → Bool

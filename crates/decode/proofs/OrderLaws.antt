@@ -10,8 +10,8 @@ use native.Mathlib.Omega.{arith}
 use Rattle.model.specs.Basics.{both, within}
 use Rattle.model.specs.Sizes.{pagesInRange, framesInRange, devicesInRange}
 use Rattle.model.specs.Questions.{pendingInRange, stateInOrder}
-use Rattle.model.proofs.QuestionLaws.{within-high}
-use Rattle.model.proofs.StateLaws.{running-modeOf}
+use Rattle.laws.proofs.QuestionLaws.{within-high}
+use Rattle.laws.proofs.StateLaws.{running-modeOf}
 use Rattle.decode.specs.Words.{pagesAt, framesAt, entryCountAt, runningAt, devicesAt, narrow, field, pendingIn, stateIn}
 use Rattle.decode.proofs.WordLaws.{narrow-within, narrow-ltb}
 

@@ -11,8 +11,8 @@ use borrow.Author.Tests.{le-leb, lt-leb, leb-true, leb-false, le-ltb, eqb-true, 
 use native.Mathlib.Omega.{arith}
 use Rattle.model.specs.declared.Pending.the-variants.{Nothing, Pair}
 use Rattle.model.specs.Basics.{both, within}
-use Rattle.model.proofs.QuestionLaws.{both-no, both-first, within-above}
-use Rattle.model.proofs.TableLaws.{is-table}
+use Rattle.laws.proofs.QuestionLaws.{both-no, both-first, within-above}
+use Rattle.laws.proofs.TableLaws.{is-table}
 use Rattle.decode.specs.Words.{stateWords, entryPagesAt, entryWords, modeAt, pendingAt, pendingPageAt, pendingFrameAt, widest}
 use Rattle.decode.specs.Words.{narrow, field, entryPagesIn, pendingIn, runsFit, lendable}
 

@@ -23,7 +23,7 @@ use Rattle.model.specs.Policy.{policyOf, numberAt}
 use Rattle.model.specs.Questions.{firstNo}
 use Rattle.model.specs.Calls.{Outcome, refused, replyOf, outcomeBy, settle, answer}
 use Rattle.drill_model.specs.Drill.{policyExtent, windowsOf, kindOf, indexOf, lengthOf, valueOf, edited, callOf, withGuard, performed, line, startLine, turnOf, turn}
-use Rattle.model.proofs.QuestionLaws.{within-high}
+use Rattle.laws.proofs.QuestionLaws.{within-high}
 use Rattle.drill_calls.specs.declared.TurnResult.{TurnResult}
 use Rattle.drill_calls.specs.Turns.{drillOf, editedBy, performedBy, turnBy, openingOf, openedBy, pagesLent, bytesLent}
 

@@ -13,10 +13,10 @@ use Rattle.model.specs.Guard.{Tables, Guard, vectorBytes, hasBit, inMode}
 use Rattle.model.specs.Policy.{policyOf, named, startState, startTables, startGuard}
 use Rattle.model.specs.Questions.{firstNo, seen, Lengths, lengthsOf, allBelow, startQuestions}
 use Rattle.model.specs.Calls.{Outcome, settle, startOf, Call, syncPage, syncAll, fetch, write, enter, leave, deviceWrite, broughtBy, questionsOf, pageFrom, allFrom, pageSynced, allSynced, switchTo, effectOf, refusedOf, answer}
-use Rattle.model.proofs.PolicyLaws.{Passed, start-passed, length-numbersAt, allBelow-member, member-here}
-use Rattle.model.proofs.QuestionLaws.{settle-accepted, settle-refused}
-use Rattle.model.proofs.SyncLaws.{cond-cases}
-use Rattle.model.proofs.VectorLaws.{vectorOf-bit}
+use Rattle.laws.proofs.PolicyLaws.{Passed, start-passed, length-numbersAt, allBelow-member, member-here}
+use Rattle.laws.proofs.QuestionLaws.{settle-accepted, settle-refused}
+use Rattle.laws.proofs.SyncLaws.{cond-cases}
+use Rattle.laws.proofs.VectorLaws.{vectorOf-bit}
 use Rattle.drill_model.specs.Drill.{policyExtent, Drill, drillGiven, drillStart, begun, kindOf, indexOf, lengthOf, valueOf, Drilled, withGuard, edited, callOf, performed, startLine, Turn, turnOf, turn, entryLines, countFrom, shareLine, closing, callLimit, callLines, drillOutput}
 use Rattle.drill_model.specs.Share.{SomeExcluded, EndsWith, ShareLast}
 

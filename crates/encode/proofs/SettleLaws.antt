@@ -2,7 +2,7 @@
 use Prim.Native.Nat.{ℕ, zero, suc}
 use mathlib.Core.Path.{_≡_, refl, sym, _∙_}
 use Rattle.model.specs.Calls.{settle}
-use Rattle.model.proofs.QuestionLaws.{settle-accepted}
+use Rattle.laws.proofs.QuestionLaws.{settle-accepted}
 
 settle-other : {A : Type 0} (n : ℕ) (done : A) (refusal : ℕ → A) → (n ≡ 0 → ⊥) → settle n done refusal ≡ refusal n
 unfolding settle

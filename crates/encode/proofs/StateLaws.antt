@@ -17,8 +17,8 @@ use Rattle.model.specs.declared.Pending.the-variants.{Nothing, Pair}
 use Rattle.model.specs.declared.State.{State}
 use Rattle.model.specs.Guard.{inUser, running, modeOf, stateOf, inMode, withPending}
 use Rattle.model.specs.Questions.{pendingInRange}
-use Rattle.model.proofs.QuestionLaws.{both-yes, both-first, both-second}
-use Rattle.model.proofs.TableLaws.{is-table, table-same}
+use Rattle.laws.proofs.QuestionLaws.{both-yes, both-first, both-second}
+use Rattle.laws.proofs.TableLaws.{is-table, table-same}
 use Rattle.decode.specs.Words.{stateWords, pagesAt, framesAt, entryCountAt, entryPagesAt, entryWords, modeAt, runningAt, devicesAt, pendingAt, pendingPageAt, pendingFrameAt}
 use Rattle.decode.specs.Words.{narrow, field, entryPagesIn, pendingIn, pendingWords, stateIn, modeWord, lastWords, wordsOf, withWords, pagePlaces, modePlaces, pendingPlaces}
 use Rattle.decode.proofs.WordLaws.{narrow-fits}

@@ -10,7 +10,7 @@ use Rattle.model.specs.declared.Entry.the-variants.{Absent, Present}
 use Rattle.model.specs.declared.Fields.{Fields}
 use Rattle.model.specs.Basics.{bit, both}
 use Rattle.model.specs.Bits.{present, writable, userBit, writeThrough, cacheDisable, noExecute, frameOf, fieldsOf, reserved, valid, takenApart}
-use Rattle.model.proofs.BitLaws.{valid-parts}
+use Rattle.laws.proofs.BitLaws.{valid-parts}
 
 -- Bit 1 and bits 53 to 63 of a number of 64 bits, as the mask of both takes them.
 masked : (x : ℕ) → x < 2 ^ 64 → bitAnd x 0xffe0000000000002 ≡ x / 2 ^ 53 * 2 ^ 53 + x / 2 % 2 * 2

@@ -8,7 +8,7 @@ use native.Mathlib.Omega.{arith}
 use Rattle.model.specs.Basics.{bit}
 use Rattle.model.specs.Bits.{present, writable, frameOf}
 use Rattle.model.specs.Approvals.{maps, mapsWritable}
-use Rattle.model.proofs.QuestionLaws.{both-yes, both-first, both-second}
+use Rattle.laws.proofs.QuestionLaws.{both-yes, both-first, both-second}
 
 -- Two answers that are yes together.
 same-answer : (a b : Bool) → (a ≡ true → b ≡ true) → (b ≡ true → a ≡ true) → a ≡ b

@@ -1,18 +1,3 @@
--- Laws about the definitions, each stated once. Code crates cite them.
-pub mod QuestionLaws
-pub mod StateLaws
-pub mod BitLaws
-pub mod TableLaws
-pub mod PolicyLaws
+-- What the rows need: every definition opened by one name, and that a table holds where its rows compute.
 pub mod Computed
 pub mod CaseLaws
-pub mod VectorLaws
-pub mod CallLaws
-pub mod TouchLaws
-pub mod AcceptedLaws
-pub mod SweepLaws
-pub mod SwitchLaws
-pub mod TreeLaws
-pub mod SyncLaws
-mod CacheLaws
-mod DeviceLaws

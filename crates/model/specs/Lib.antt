@@ -13,8 +13,6 @@ pub mod Approvals
 pub mod Calls
 pub mod Questions
 pub mod Walks
-pub mod Cache
-pub mod Windows
 pub mod Cases
 pub mod Further
 pub mod Orders

@@ -1,17 +1,14 @@
 // The declared types of the guard, and the functions that carry the theorems about its definitions.
 // The definitions themselves stand in specs/, one file for each section of document 01 and for a request that adds to none; those of demand 3, of the
-// drill and of the record that is written (K2) are crates of their own.
+// drill and of the record that is written (K2) are crates of their own, and so are the laws about the definitions.
 
 ghost use mathlib.Core.List.{_++_};
 ghost use Rattle.model.specs.ApprovalCases.{askCases, commitCases, dropCases, pendingCases};
-ghost use Rattle.model.specs.Cache.{ApartYields, OrdinaryCarries, StepCarries, StepWrites, SwitchKeeps};
 ghost use Rattle.model.specs.Cases.{cases, Hold};
 ghost use Rattle.model.specs.DeviceCases.{deviceCases};
 ghost use Rattle.model.specs.Further.{startCases, syncCases, orderCases, accessCases, switchCases, answerCases, apartCases, vectorCases};
 ghost use Rattle.model.specs.Orders.{startOrder, callOrder};
 ghost use Rattle.model.specs.TreeCases.{walkCases, walkRefusals, treeCases};
-ghost use Rattle.model.specs.Walks.{ReadsWithin, TreeAsFlat, TreeRefused};
-ghost use Rattle.model.specs.Windows.{WindowsIndependent, DevicesKept};
 
 // Document 01, "The guard and its edges": the size of a page in bytes, and the most that V and F may be.
 pub const PAGE_BYTES: u64 = 4096;
@@ -116,35 +113,14 @@ pub fn order_of_questions()
     ensures { λ _. ⌜ Hold (startOrder ++ callOrder) ⌝ }
 {}
 
-// Document 02, K3: an entry taken apart yields the cache bits, "an ordinary shadow entry carries them", an approved entry does not, and a mode
-// switch keeps them.
-pub fn cache_bits()
-    ensures { λ _. ⌜ ApartYields × OrdinaryCarries × StepCarries × StepWrites × SwitchKeeps ⌝ }
-{}
-
 // Document 02, K4: what walks give, and what synchronising from a tree gives.
 pub fn tree_cases()
     ensures { λ _. ⌜ Hold walkCases × Hold walkRefusals × Hold treeCases ⌝ }
 {}
 
-// Document 02, K4: "the count of entries read, never above the depth".
-pub fn reads_within_depth()
-    ensures { λ _. ⌜ ReadsWithin ⌝ }
-{}
-
-// Document 02, K4: "synchronising from a tree equals doing so from the flat table of its walks", or "it refuses with 17, after question 7".
-pub fn tree_as_flat()
-    ensures { λ _. ⌜ TreeAsFlat × TreeRefused ⌝ }
-{}
-
 // Document 02, K5: the number of devices, and what a device write answers by its list.
 pub fn device_cases()
     ensures { λ _. ⌜ Hold deviceCases ⌝ }
-{}
-
-// Document 02, K5: "Changing one device's window changes no answer given to another", and no call changes the number of devices.
-pub fn windows_independent()
-    ensures { λ _. ⌜ WindowsIndependent × DevicesKept ⌝ }
 {}
 
 // Document 02, K6: what ask, commit and drop give, and what the other calls give while a pair is pending.

@@ -15,10 +15,10 @@ use Rattle.model.specs.Basics.{both}
 use Rattle.model.specs.Guard.{Tables, withShadow, Guard, guardOf, inUser}
 use Rattle.model.specs.Questions.{firstNo, seen, stateInOrder, inOrder, enterQuestions, leaveQuestions}
 use Rattle.model.specs.Calls.{Outcome, outcomeBy, enter, leave, questionsOf, switchTo, effectOf, answer}
-use Rattle.model.proofs.QuestionLaws.{both-second}
-use Rattle.model.proofs.AcceptedLaws.{leave-page}
-use Rattle.model.proofs.StateLaws.{pages-few, in-order, shadow-long}
-use Rattle.model.proofs.CallLaws.{passed, stopped, refused-by, accepted-by}
+use Rattle.laws.proofs.QuestionLaws.{both-second}
+use Rattle.laws.proofs.AcceptedLaws.{leave-page}
+use Rattle.laws.proofs.StateLaws.{pages-few, in-order, shadow-long}
+use Rattle.laws.proofs.CallLaws.{passed, stopped, refused-by, accepted-by}
 use Rattle.modes.specs.Switches.{switchPermitted, switchQuestions}
 
 module _ (s : State) (shadow : List ℕ) (r7 : Bool) (e7 : r7 ≡ inOrder (stateInOrder s) (eqb (length shadow) (s .pages) ∷ [])) where

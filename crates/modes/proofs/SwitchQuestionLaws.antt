@@ -5,7 +5,7 @@ use mathlib.Core.Path.{_≡_, refl}
 use borrow.Author.Tests.{not-false}
 use Rattle.model.specs.Bits.{present, approvedMark}
 use Rattle.model.specs.Questions.{firstNo, leavePermitted}
-use Rattle.model.proofs.CallLaws.{passed, stopped, none-left}
+use Rattle.laws.proofs.CallLaws.{passed, stopped, none-left}
 use Rattle.modes.specs.Switches.{switchPermitted, switchQuestions}
 
 pub enter-permits : (enters r : Bool) (entry : ℕ) → enters ≡ true → r ≡ approvedMark entry → r ≡ switchPermitted enters entry

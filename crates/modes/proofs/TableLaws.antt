@@ -7,7 +7,7 @@ use native.Mathlib.Omega.{arith}
 use lib.ListN.{length, getD, set}
 use Rattle.model.specs.Basics.{differs}
 use Rattle.model.specs.Switch.{switched, switchedAll, changes}
-use Rattle.model.proofs.SwitchLaws.{switchedFrom, changesFrom, changes-start, switched-more, changes-more, switched-over, changes-over}
+use Rattle.laws.proofs.SwitchLaws.{switchedFrom, changesFrom, changes-start, switched-more, changes-more, switched-over, changes-over}
 
 pub count-start : (user : Bool) (l : List ℕ) → 0 + changesFrom user 0 l ≡ changes l (switchedAll user l)
 count-start user l =

@@ -12,9 +12,9 @@ use Rattle.model.specs.Basics.{both, within}
 use Rattle.model.specs.Sizes.{pagesInRange, framesInRange, devicesInRange}
 use Rattle.model.specs.Policy.{Policy, Givens, numberAt, numbersAt, policyOf}
 use Rattle.model.specs.Questions.{Question, question, firstNo, sizesInRange, countsInRange, rising, allBelow, policyQuestions, givensInRange, recordQuestions, Lengths, lengthsFit, startQuestions}
-use Rattle.model.proofs.QuestionLaws.{both-true, firstNo-yes, firstNo-no, firstNo-front, firstNo-back, numbered}
-use Rattle.model.proofs.CallLaws.{passed, stopped, none-left}
-use Rattle.model.proofs.PolicyLaws.{numbersAt-none, numbersAt-more, rising-refuses, allBelow-none, allBelow-more, allBelow-no}
+use Rattle.laws.proofs.QuestionLaws.{both-true, firstNo-yes, firstNo-no, firstNo-front, firstNo-back, numbered}
+use Rattle.laws.proofs.CallLaws.{passed, stopped, none-left}
+use Rattle.laws.proofs.PolicyLaws.{numbersAt-none, numbersAt-more, rising-refuses, allBelow-none, allBelow-more, allBelow-no}
 
 -- A number past the end, one whose second byte is, and one inside.
 pub number-none : (bytes : List ℕ) (at : ℕ) → length bytes ≤ at → 0 ≡ numberAt bytes at

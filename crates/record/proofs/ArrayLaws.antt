@@ -17,8 +17,8 @@ use Rattle.model.specs.Sizes.{pagesInRange, framesInRange}
 use Rattle.model.specs.Policy.{Policy}
 use Rattle.model.specs.Questions.{firstNo, sizesInRange, countsInRange, rising, allBelow, policyQuestions}
 use Rattle.record_model.specs.Record.{policyBy, arraysExact}
-use Rattle.model.proofs.QuestionLaws.{both-true, both-first, both-second, within-low, within-high}
-use Rattle.model.proofs.PolicyLaws.{rising-refuses}
+use Rattle.laws.proofs.QuestionLaws.{both-true, both-first, both-second, within-low, within-high}
+use Rattle.laws.proofs.PolicyLaws.{rising-refuses}
 use Rattle.record.specs.Arrays.{highestOf}
 use Rattle.policy.proofs.RecordLaws.{asked-2, asked-3, asked-4, asked-5, asked-6, asked-none}
 

@@ -17,9 +17,9 @@ use Rattle.model.specs.Policy.{Policy}
 use Rattle.model.specs.Questions.{question, firstNo, policyQuestions}
 use Rattle.model.specs.Calls.{replyOf}
 use Rattle.record_model.specs.Record.{policyBy, numberBytes, numbersBytes, recordOf, arraysExact, writeRecordQuestions, written, writeRecordOf}
-use Rattle.model.proofs.QuestionLaws.{firstNo-yes, firstNo-no, firstNo-front, firstNo-back, numbered}
-use Rattle.model.proofs.CallLaws.{passed, stopped, none-left, settle-refused-by}
-use Rattle.model.proofs.PolicyLaws.{Passed, policy-passed}
+use Rattle.laws.proofs.QuestionLaws.{firstNo-yes, firstNo-no, firstNo-front, firstNo-back, numbered}
+use Rattle.laws.proofs.CallLaws.{passed, stopped, none-left, settle-refused-by}
+use Rattle.laws.proofs.PolicyLaws.{Passed, policy-passed}
 use Rattle.record_model.proofs.RecordLaws.{length-numbersBytes, numbersBytes-append, written-length, write-passed, pages-exact, frames-exact, room-there, written-is}
 use Rattle.record.proofs.ArrayLaws.{array-front, array-ends}
 

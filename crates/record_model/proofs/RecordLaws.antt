@@ -17,9 +17,9 @@ use Rattle.model.specs.Policy.{Givens, Policy, numberAt, numbersAt, policyOf, s
 use Rattle.model.specs.Questions.{firstNo, allBelow, policyQuestions, givensInRange, recordQuestions, lengthsOf, lengthsFit, startQuestions}
 use Rattle.model.specs.Calls.{accepted, outcome, startOf}
 use Rattle.record_model.specs.Record.{numberBytes, numbersBytes, recordOf, arraysExact, writeRecordQuestions, Written, written, writeRecordOf, WrittenStarts, WrittenAgain}
-use Rattle.model.proofs.QuestionLaws.{both-first, both-second, asked, numbered, all-yes, firstNo-yes, firstNo-back, firstNo-both, settle-accepted, settle-number}
-use Rattle.model.proofs.CallLaws.{none-left}
-use Rattle.model.proofs.PolicyLaws.{length-numbersAt, getD-numbersAt, exact-yes, policy-asked, record-length, allBelow-more, allBelow-head, allBelow-tail, allBelow-wider, Passed, policy-passed}
+use Rattle.laws.proofs.QuestionLaws.{both-first, both-second, asked, numbered, all-yes, firstNo-yes, firstNo-back, firstNo-both, settle-accepted, settle-number}
+use Rattle.laws.proofs.CallLaws.{none-left}
+use Rattle.laws.proofs.PolicyLaws.{length-numbersAt, getD-numbersAt, exact-yes, policy-asked, record-length, allBelow-more, allBelow-head, allBelow-tail, allBelow-wider, Passed, policy-passed}
 
 -- The bytes of numbers in a row: how many, those of two rows, and each number read back.
 pub length-numbersBytes : (numbers : List ℕ) → length (numbersBytes numbers) ≡ 2 * length numbers

@@ -6,8 +6,8 @@ use native.Mathlib.Omega.{arith}
 use lib.Bits.{bitOr, or-block, or-zero-r}
 use Rattle.model.specs.Basics.{bit, either, flag}
 use Rattle.model.specs.Bits.{writable, userBit, writeThrough, cacheDisable, noExecute, frameOf, fieldsOf, valid, ordinaryNoExecute, ordinary, inspected}
-use Rattle.model.proofs.VectorLaws.{flag-weight, flag-small, flag-bit}
-use Rattle.model.proofs.BitLaws.{valid-parts, lowest, lowest-of}
+use Rattle.laws.proofs.VectorLaws.{flag-weight, flag-small, flag-bit}
+use Rattle.laws.proofs.BitLaws.{valid-parts, lowest, lowest-of}
 use Rattle.entry.proofs.ApartLaws.{above-12}
 
 -- Bit 63 set beside what it was.

@@ -14,8 +14,8 @@ use Rattle.model.specs.Guard.{withBit}
 use Rattle.model.specs.Policy.{numberAt, numbersAt}
 use Rattle.model.specs.Bits.{approved}
 use Rattle.model.specs.Questions.{allBelow}
-use Rattle.model.proofs.TableLaws.{table-same, set-table, table-const}
-use Rattle.model.proofs.PolicyLaws.{numbersAt-none, numbersAt-more, allBelow-head, allBelow-tail}
+use Rattle.laws.proofs.TableLaws.{table-same, set-table, table-const}
+use Rattle.laws.proofs.PolicyLaws.{numbersAt-none, numbersAt-more, allBelow-head, allBelow-tail}
 use Rattle.start.specs.Start.{storedEach, approvedEach, withEach, entryTable}
 
 -- A table filled with v up to place i.

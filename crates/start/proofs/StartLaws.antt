@@ -16,9 +16,9 @@ use Rattle.model.specs.Guard.{Tables, tables, vectorBytes}
 use Rattle.model.specs.Policy.{Givens, numberAt, policyOf, startState, startTables, startGuard}
 use Rattle.model.specs.Questions.{firstNo, allBelow, inOrder, givensInRange, recordQuestions, Lengths, lengthsOf, lengthsFit, startQuestions}
 use Rattle.model.specs.Calls.{replyOf, outcomeBy, startOf}
-use Rattle.model.proofs.QuestionLaws.{settle-accepted, within-high}
-use Rattle.model.proofs.CallLaws.{settle-refused-by}
-use Rattle.model.proofs.PolicyLaws.{allBelow-wider, Passed, Fitting, start-record, start-passed, start-given, start-fitting, record-length}
+use Rattle.laws.proofs.QuestionLaws.{settle-accepted, within-high}
+use Rattle.laws.proofs.CallLaws.{settle-refused-by}
+use Rattle.laws.proofs.PolicyLaws.{allBelow-wider, Passed, Fitting, start-record, start-passed, start-given, start-fitting, record-length}
 use Rattle.policy.proofs.RecordLaws.{start-refused, start-asked}
 use Rattle.start.specs.Start.{refusedStart, acceptedStart, entryTable, withEach}
 use Rattle.start.proofs.TablesSet.{entries-are, first-is, each-length}

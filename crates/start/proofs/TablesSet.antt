@@ -12,9 +12,9 @@ use Rattle.model.specs.Guard.{none, vectorBytes, byteOf, vectorOf, withBit}
 use Rattle.model.specs.Policy.{numberAt, numbersAt, policyOf, frameFor, approvalFor, named, firstEntry, entryPages, startTables}
 use Rattle.model.specs.Bits.{approved}
 use Rattle.model.specs.Questions.{allBelow}
-use Rattle.model.proofs.TableLaws.{table-same, set-table, take-table, table-const}
-use Rattle.model.proofs.PolicyLaws.{getD-numbersAt, allBelow-head, allBelow-tail, frameFor-map}
-use Rattle.model.proofs.VectorLaws.{withBit-length, withBit-vectorOf}
+use Rattle.laws.proofs.TableLaws.{table-same, set-table, take-table, table-const}
+use Rattle.laws.proofs.PolicyLaws.{getD-numbersAt, allBelow-head, allBelow-tail, frameFor-map}
+use Rattle.laws.proofs.VectorLaws.{withBit-length, withBit-vectorOf}
 use Rattle.start.specs.Start.{storedEach, approvedEach, withEach, entryTable}
 
 -- Places set in a table: at each place the value listed for it, or what stood there.

@@ -16,7 +16,7 @@ use Rattle.model.specs.Guard.{none, vectorBytes}
 use Rattle.model.specs.Bits.{fieldsOf, valid, takenApart, approved, ordinaryNoExecute, ordinary, inspected}
 use Rattle.model.specs.Approvals.{maps, committedSlot}
 use Rattle.model.specs.Sync.{Rules, Slot, slot, stepOf, step, Sweep, sweep}
-use Rattle.model.proofs.BitLaws.{fields-apart, present-valid}
+use Rattle.laws.proofs.BitLaws.{fields-apart, present-valid}
 use Rattle.step.specs.Steps.{stored}
 
 -- An entry whose frame is pending is the same in both modes: with bit 9 set the ordinary rule sets bit 63.

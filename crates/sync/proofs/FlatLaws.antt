@@ -13,9 +13,9 @@ use Rattle.model.specs.Guard.{Tables, withThree, Guard, guardOf, vectorBytes, i
 use Rattle.model.specs.Sync.{Rules, Slot, step, Sweep, sweep, sweepFrom, entryIn, stepFrom}
 use Rattle.model.specs.Questions.{stateInOrder, inOrder, syncAllQuestions, syncPageQuestions}
 use Rattle.model.specs.Calls.{keptBy, syncPage, syncAll, questionsOf, effectOf, answer}
-use Rattle.model.proofs.StateLaws.{Fit, in-order}
-use Rattle.model.proofs.CallLaws.{passed, stopped, none-left, refused-by, accepted-by}
-use Rattle.model.proofs.SweepLaws.{whole, whole-more, whole-over}
+use Rattle.laws.proofs.StateLaws.{Fit, in-order}
+use Rattle.laws.proofs.CallLaws.{passed, stopped, none-left, refused-by, accepted-by}
+use Rattle.laws.proofs.SweepLaws.{whole, whole-more, whole-over}
 use Rattle.step.specs.Steps.{rulesBy, stored}
 use Rattle.sync.proofs.SyncLaws.{guardFit, vector-fits, map-matches, below-in-shadow, below-in-map, page-below, all-given, one-given}
 

@@ -13,8 +13,8 @@ use Rattle.model.specs.Basics.{differs}
 use Rattle.model.specs.Guard.{none, Tables, withThree, Guard, guardOf, vectorBytes, inUser, pendingFrame}
 use Rattle.model.specs.Sync.{Slot, step, sweep, sweepFrom, stepFrom}
 use Rattle.model.specs.Calls.{replyOf, outcomeBy, keptBy, rulesOf, pageSynced, allSynced, pageFrom, allFrom}
-use Rattle.model.proofs.StateLaws.{Fit}
-use Rattle.model.proofs.SweepLaws.{getD-inside}
+use Rattle.laws.proofs.StateLaws.{Fit}
+use Rattle.laws.proofs.SweepLaws.{getD-inside}
 use Rattle.step.specs.Steps.{rulesBy, stored}
 
 -- The answers to question 7 of the guard's tables, of lengths that may be any numbers.

@@ -7,7 +7,7 @@ use native.Mathlib.Numerals.{add-one}
 use native.Mathlib.Omega.{arith}
 use lib.ListN.{length, getD, length-set}
 use Rattle.model.specs.Sync.{Slot, Sweep, sweep, sweepFrom}
-use Rattle.model.proofs.SweepLaws.{whole, whole-start, whole-more, whole-over}
+use Rattle.laws.proofs.SweepLaws.{whole, whole-start, whole-more, whole-over}
 use Rattle.step.specs.Steps.{stored}
 use Rattle.sync_tree.specs.Runs.{sweptFrom}
 

@@ -15,8 +15,8 @@ use Rattle.model.specs.Sync.{step, sweep, sweepFrom, stepFrom}
 use Rattle.model.specs.Tree.{Tree, treeOf, treeInOrder, flatAt}
 use Rattle.model.specs.Questions.{stateInOrder, inOrder, syncAllTreeQuestions, syncPageTreeQuestions}
 use Rattle.model.specs.Calls.{keptBy, syncPageTree, syncAllTree, questionsOf, effectOf, answer}
-use Rattle.model.proofs.StateLaws.{Fit, in-order}
-use Rattle.model.proofs.CallLaws.{passed, stopped, none-left, refused-by, accepted-by}
+use Rattle.laws.proofs.StateLaws.{Fit, in-order}
+use Rattle.laws.proofs.CallLaws.{passed, stopped, none-left, refused-by, accepted-by}
 use Rattle.step.specs.Steps.{rulesBy, stored}
 use Rattle.sync.proofs.SyncLaws.{guardFit, vector-fits, map-matches, below-in-shadow, below-in-map, page-below, all-given, one-given}
 use Rattle.sync_tree.proofs.SourceLaws.{step-same}

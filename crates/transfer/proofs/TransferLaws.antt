@@ -19,11 +19,11 @@ use Rattle.model.specs.Guard.{Tables, withExclusion, guardOf, vectorBytes, hasB
 use Rattle.model.specs.Devices.{deviceAt, inWindow}
 use Rattle.model.specs.Questions.{Question, question, firstNo, View, seen, stateInOrder, inOrder, free, everyTouched, deviceWriteQuestions}
 use Rattle.model.specs.Calls.{replyOf, outcomeBy, keptBy, deviceWrite, questionsOf, effectOf, answer}
-use Rattle.model.proofs.QuestionLaws.{both-no-after, within-low, firstNo-yes, firstNo-no}
-use Rattle.model.proofs.AcceptedLaws.{deviceWrite-some, deviceWrite-byte}
-use Rattle.model.proofs.StateLaws.{frames-few, in-order}
-use Rattle.model.proofs.CallLaws.{passed, stopped, none-left, refused-by, accepted-by}
-use Rattle.model.proofs.TouchLaws.{last-page-below, first-up-to-last, every-same}
+use Rattle.laws.proofs.QuestionLaws.{both-no-after, within-low, firstNo-yes, firstNo-no}
+use Rattle.laws.proofs.AcceptedLaws.{deviceWrite-some, deviceWrite-byte}
+use Rattle.laws.proofs.StateLaws.{frames-few, in-order}
+use Rattle.laws.proofs.CallLaws.{passed, stopped, none-left, refused-by, accepted-by}
+use Rattle.laws.proofs.TouchLaws.{last-page-below, first-up-to-last, every-same}
 use Rattle.transfer.specs.TransferView.{transferView}
 
 abbrev pub freeFrom : List ℕ → ℕ → ℕ → Bool

@@ -12,8 +12,8 @@ use Rattle.model.specs.declared.Fields.{Fields}
 use Rattle.model.specs.Basics.{both, either, bit, flag}
 use Rattle.model.specs.Bits.{present, writable, userBit, writeThrough, cacheDisable, noExecute, frameOf, fieldsOf, reserved, valid, takenApart}
 use Rattle.model.specs.Tree.{Rights, gathered, flatEntry}
-use Rattle.model.proofs.VectorLaws.{flag-weight, flag-bit}
-use Rattle.model.proofs.BitLaws.{bits-below, taken-apart, present-valid, valid-parts, fields-apart}
+use Rattle.laws.proofs.VectorLaws.{flag-weight, flag-bit}
+use Rattle.laws.proofs.BitLaws.{bits-below, taken-apart, present-valid, valid-parts, fields-apart}
 use Rattle.tree.specs.Parts.{rightsBy, lastFlat}
 
 -- What is made of two digits, by the four cases.

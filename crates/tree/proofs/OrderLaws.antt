@@ -12,8 +12,8 @@ use Rattle.model.specs.Tree.{Tree, treeOf, tablesIn, treeInOrder, flatAt, reads
 use Rattle.model.specs.Questions.{question}
 use Rattle.model.specs.Calls.{replyOf, settle}
 use Rattle.model.specs.Walks.{walkQuestions, walkReply}
-use Rattle.model.proofs.CallLaws.{passed, stopped, none-left}
-use Rattle.model.proofs.QuestionLaws.{both-no, both-no-after, both-first, both-second, within-yes, within-low, within-high}
+use Rattle.laws.proofs.CallLaws.{passed, stopped, none-left}
+use Rattle.laws.proofs.QuestionLaws.{both-no, both-no-after, both-first, both-second, within-yes, within-low, within-high}
 
 module _ (words : List ℕ) (root depth : ℕ) where
   pub not-whole : (length words % 512 ≡ 0 → ⊥) → false ≡ treeInOrder (treeOf words root depth)

@@ -14,7 +14,7 @@ use Rattle.model.specs.declared.Fields.{Fields}
 use Rattle.model.specs.Basics.{both, bit}
 use Rattle.model.specs.Bits.{frameOf, fieldsOf, takenApart}
 use Rattle.model.specs.Tree.{tablesIn, placeAbove, Rights, gathered, flatEntry, largeEntry, treeOf, Walk, ending, meeting, onward, walkFrom, walkOf, flatAt, readsAt}
-use Rattle.model.proofs.BitLaws.{present-valid, valid-parts, fields-apart}
+use Rattle.laws.proofs.BitLaws.{present-valid, valid-parts, fields-apart}
 use Rattle.tree.specs.declared.Below.{Below}
 use Rattle.tree.specs.declared.Below.the-variants.{Table, Large, Nowhere}
 use Rattle.tree.specs.declared.Part.{Part}

@@ -1,5 +1,5 @@
 -- `access::fetch` meets its contract.
-use Rattle.model.proofs.StateLaws.{shadow-long}
+use Rattle.laws.proofs.StateLaws.{shadow-long}
 use Rattle.access.proofs.FetchLaws.{fetch-unfit, fetch-refused, fetch-accepted, fetched-in}
 use borrow.Author.Needs.{needs}
 use Rattle.access.proofs.fetch.Statement.{statement}

@@ -4,7 +4,7 @@ use mathlib.Core.Path.{_≡_}
 use native.Mathlib.Omega.{arith}
 use lib.ListN.{length}
 use Rattle.model.specs.Sync.{sweep, sweepFrom}
-use Rattle.model.proofs.SweepLaws.{whole, whole-start}
+use Rattle.laws.proofs.SweepLaws.{whole, whole-start}
 use Rattle.approvals.proofs.CommitLaws.{joining, commit-more, commit-over}
 use borrow.Author.Needs.{needs}
 use Rattle.approvals.proofs.commit_others.Statement.{statement}

@@ -10,8 +10,8 @@ use borrow.Author.Tests.{ltb-true, eqb-true, eq-eqb}
 use Rattle.model.specs.Basics.{both, either, within, member}
 use Rattle.model.specs.Sizes.{pagesInRange, framesInRange, devicesInRange}
 use Rattle.model.specs.Questions.{pendingInRange, stateInOrder}
-use Rattle.model.proofs.QuestionLaws.{both-first, both-second, within-high}
-use Rattle.model.proofs.StateLaws.{running-modeOf, Fits, state-parts}
+use Rattle.laws.proofs.QuestionLaws.{both-first, both-second, within-high}
+use Rattle.laws.proofs.StateLaws.{running-modeOf, Fits, state-parts}
 use Rattle.decode.specs.Words.{pagesAt, framesAt, entryCountAt, runningAt, devicesAt, pendingAt, pendingPageAt, pendingFrameAt, widest}
 use Rattle.decode.specs.Words.{field, pendingIn, stateIn, fieldPlaces, WideRefused, pairPlaces, WidePairRefused}
 use Rattle.decode.proofs.WordLaws.{narrow-wide, narrow-below}

@@ -11,7 +11,7 @@ use Rattle.model.specs.Policy.{policyOf, zeroState}
 use Rattle.model.specs.Questions.{firstNo, sizesInRange, policyQuestions, recordQuestions, startQuestions}
 use Rattle.model.specs.Calls.{Outcome, nothingBrought, refusedOf, settle, startOf}
 use Rattle.drill_model.specs.Drill.{drillGiven, drillStart, startLine}
-use Rattle.model.proofs.QuestionLaws.{both-no, both-no-after}
+use Rattle.laws.proofs.QuestionLaws.{both-no, both-no-after}
 use Rattle.drill_calls.specs.Turns.{Opening, openingOf, pagesLent, bytesLent, lentStart, OpensAsDefined}
 use Rattle.drill_calls.proofs.opens_as_defined.Statement.{statement}
 use Rattle.drill_calls.proofs.opens_as_defined.Tie as tie

@@ -1,5 +1,5 @@
 -- `limits::ends_below` meets its contract.
-use Rattle.model.proofs.TouchLaws.{ends-at-no-limit, starts-above, ends-below}
+use Rattle.laws.proofs.TouchLaws.{ends-at-no-limit, starts-above, ends-below}
 use borrow.Author.Needs.{needs}
 use Rattle.limits.proofs.ends_below.Statement.{statement}
 use Rattle.limits.proofs.ends_below.Tie as tie

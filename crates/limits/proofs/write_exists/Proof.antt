@@ -1,5 +1,5 @@
 -- `limits::write_exists` meets its contract.
-use Rattle.model.proofs.TouchLaws.{last-page-below}
+use Rattle.laws.proofs.TouchLaws.{last-page-below}
 use mathlib.Core.Path.{_∙_}
 use borrow.Author.Needs.{needs}
 use Rattle.limits.proofs.write_exists.Statement.{statement}

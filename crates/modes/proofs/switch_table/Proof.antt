@@ -4,7 +4,7 @@ use mathlib.Core.Path.{_≡_, refl}
 use native.Mathlib.Omega.{arith}
 use lib.ListN.{length, length-set}
 use Rattle.model.specs.Switch.{switchedAll, changes}
-use Rattle.model.proofs.SwitchLaws.{switchedFrom, changesFrom, switched-start}
+use Rattle.laws.proofs.SwitchLaws.{switchedFrom, changesFrom, switched-start}
 use Rattle.modes.proofs.TableLaws.{count-start, table-more, count-more, table-over, count-over}
 use borrow.Author.Needs.{needs}
 use Rattle.modes.proofs.switch_table.Statement.{statement}

@@ -5,7 +5,7 @@ use native.Mathlib.Omega.{arith}
 use borrow.Author.Needs.{needs}
 use Rattle.model.specs.Policy.{numbersAt}
 use Rattle.model.specs.Questions.{rising}
-use Rattle.model.proofs.PolicyLaws.{rising-ends, rising-goes-on, rising-page}
+use Rattle.laws.proofs.PolicyLaws.{rising-ends, rising-goes-on, rising-page}
 use Rattle.policy.proofs.RecordLaws.{numbers-none, numbers-front, page-refused}
 use Rattle.policy.proofs.pages_rising.Statement.{statement}
 use Rattle.policy.proofs.pages_rising.Tie as tie

@@ -5,7 +5,7 @@ use lib.ListN.{length, getD, drop}
 use native.Mathlib.Omega.{arith}
 use borrow.Author.Needs.{needs}
 use Rattle.model.specs.Questions.{rising}
-use Rattle.model.proofs.PolicyLaws.{rising-ends, rising-goes-on, rising-page}
+use Rattle.laws.proofs.PolicyLaws.{rising-ends, rising-goes-on, rising-page}
 use Rattle.record.proofs.ArrayLaws.{array-front, array-ends, page-refused}
 use Rattle.record.proofs.pages_rising.Statement.{statement}
 use Rattle.record.proofs.pages_rising.Tie as tie

@@ -4,7 +4,7 @@ use mathlib.Core.Path.{_≡_}
 use native.Mathlib.Omega.{arith}
 use lib.ListN.{length}
 use Rattle.model.specs.Sync.{sweep, sweepFrom, entryIn, stepFrom}
-use Rattle.model.proofs.SweepLaws.{whole, whole-start}
+use Rattle.laws.proofs.SweepLaws.{whole, whole-start}
 use Rattle.step.specs.Steps.{rulesBy}
 use Rattle.sync.proofs.FlatLaws.{sweep-more, sweep-over}
 use borrow.Author.Needs.{needs}

@@ -5,13 +5,13 @@ use mathlib.Core.Path.{_≡_, refl, sym, ap, _∙_}
 use lib.Dec.{eqb}
 use native.Mathlib.Omega.{arith}
 use lib.Pow.{pow-lt}
 use Rattle.model.specs.declared.Fields.{Fields}
 use Rattle.model.specs.Basics.{bit, both}
 use Rattle.model.specs.Bits.{present, writable, writeThrough, cacheDisable, frameOf, approvedMark, fieldsOf, approved, ordinary, inspected}
 use Rattle.model.specs.Sync.{Slot}
-use Rattle.model.specs.Cache.{ApartYields, isOrdinary, StepCarries, StepWrites}
-use Rattle.model.proofs.BitLaws.{bit-above, fields-apart, approvedMark-approved, approved-none, present-ordinary, writable-ordinary, approvedMark-ordinary, inspected-keeps, ordinary-carries}
-use Rattle.model.proofs.SyncLaws.{step-cases}
+use Rattle.laws.specs.Cache.{ApartYields, isOrdinary, StepCarries, StepWrites}
+use Rattle.laws.proofs.BitLaws.{bit-above, fields-apart, approvedMark-approved, approved-none, present-ordinary, writable-ordinary, approvedMark-ordinary, inspected-keeps, ordinary-carries}
+use Rattle.laws.proofs.SyncLaws.{step-cases}
 
 pub apart-yields : ApartYields
 unfolding fieldsOf writeThrough cacheDisable

@@ -6,16 +6,16 @@ use mathlib.Core.Path.{_≡_, refl}
 use lib.Dec.{ltb, eqb}
 use native.Mathlib.Omega.{arith}
 use borrow.Author.Tests.{ltb-true, not-true}
 use Rattle.model.specs.Basics.{both, either}
 use Rattle.model.specs.Guard.{none, isPending}
 use Rattle.model.specs.Sizes.{pageBytes, lastByte, lastPage}
 use Rattle.model.specs.Bits.{present, noExecute, frameOf}
 use Rattle.model.specs.declared.Device.{Device}
 use Rattle.model.specs.Tree.{Tree}
 use Rattle.model.specs.Devices.{inWindow}
 use Rattle.model.specs.Questions.{View, firstNo, syncPageQuestions, syncPageTreeQuestions, fetchPermitted, fetchQuestions, free, everyTouched, writeQuestions, enterQuestions, leaveQuestions, deviceWriteQuestions, askQuestions, commitQuestions, dropQuestions}
-use Rattle.model.proofs.QuestionLaws.{asked, numbered, all-yes, both-first, both-second, within-low, within-high, within-yes}
-use Rattle.model.proofs.TouchLaws.{touched-at}
+use Rattle.laws.proofs.QuestionLaws.{asked, numbered, all-yes, both-first, both-second, within-low, within-high, within-yes}
+use Rattle.laws.proofs.TouchLaws.{touched-at}
 
 -- A test of every page (or frame) that an access touches holds of that of each of its bytes.
 every-byte : (test : ℕ → Bool) (address length a : ℕ) → everyTouched test address length ≡ true → address ≤ a → a < address + length

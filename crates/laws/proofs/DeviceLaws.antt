@@ -1,12 +1,12 @@
 -- K5: a device write looks at its list's length and at its own device's record alone, and no call changes the number of devices.
 use Prim.Native.Nat.{ℕ, zero, suc}
-use mathlib.Core.Path.{_≡_, refl, ap, _∙_}
+use mathlib.Core.Path.{_≡_, refl, ap}
 use Rattle.model.specs.declared.State.{State}
 use Rattle.model.specs.Guard.{Guard, inMode, withPending}
 use Rattle.model.specs.Questions.{firstNo, seen, deviceWriteQuestions}
-use Rattle.model.specs.Calls.{Outcome, settle, Call, questionsOf, effectOf, broughtBy, refusedOf, answer}
-use Rattle.model.specs.Windows.{SameBut, WindowsIndependent, DevicesKept}
-use Rattle.model.proofs.CallLaws.{effects}
+use Rattle.model.specs.Calls.{Outcome, settle, questionsOf, effectOf, broughtBy, refusedOf, answer}
+use Rattle.laws.specs.Windows.{WindowsIndependent, DevicesKept}
+use Rattle.laws.proofs.CallLaws.{effects}
 
 pub windows-independent : WindowsIndependent
 unfolding WindowsIndependent answer questionsOf effectOf broughtBy deviceWriteQuestions

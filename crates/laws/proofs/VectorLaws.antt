@@ -9,9 +9,9 @@ use lib.ListN.{length, getD, set, length-set}
 use lib.Pow.{mod-pow-add}
 use lib.Seq.{getD-set-same, getD-set-other, ext-getD}
 use borrow.Author.Tests.{eq-eqb, ne-eqb, eqb-true, eqb-false}
 use Rattle.model.specs.Basics.{bit, flag}
 use Rattle.model.specs.Guard.{vectorBytes, hasBit, byteOf, vectorOf, withBit}
-use Rattle.model.proofs.TableLaws.{length-table, getD-table, past-no, table-read}
+use Rattle.laws.proofs.TableLaws.{length-table, getD-table, past-no, table-read}
 
 -- What holds of 0 to 7 holds of every number below 8.
 pub below8 : (P : ℕ → Type 0) → P 0 → P 1 → P 2 → P 3 → P 4 → P 5 → P 6 → P 7 → (j : ℕ) → j < 8 → P j

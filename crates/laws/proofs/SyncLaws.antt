@@ -5,11 +5,11 @@ use mathlib.Core.Logic.{_⊎_, inl, inr}
 use mathlib.Core.Path.{_≡_, refl}
 use lib.Dec.{leb, eqb}
 use borrow.Author.Tests.{leb-false, not-true}
 use Rattle.model.specs.declared.Entry.the-variants.{Absent, Present}
 use Rattle.model.specs.Guard.{none}
 use Rattle.model.specs.Bits.{frameOf, fieldsOf, valid, takenApart, approved, ordinary, inspected}
 use Rattle.model.specs.Sync.{Rules, Slot, slot, stepOf, step}
-use Rattle.model.proofs.BitLaws.{taken-apart, present-valid}
+use Rattle.laws.proofs.BitLaws.{taken-apart, present-valid}
 
 -- A choice has a property if each of the two has it where it is chosen.
 pub cond-cases : {A : Type 0} (P : A → Type 0) (b : Bool) {x y : A} → (b ≡ true → P x) → (b ≡ false → P y) → P (cond b x y)

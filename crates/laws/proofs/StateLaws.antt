@@ -6,14 +6,14 @@ use mathlib.Core.List.{List, [], _∷_}
 use mathlib.Core.Path.{_≡_, refl, sym, _∙_}
 use lib.Dec.{eqb}
 use borrow.Author.Tests.{lt-ltb, ltb-true, eqb-true, not-false}
 use Rattle.model.specs.declared.Mode.{Mode}
 use Rattle.model.specs.declared.Pending.{Pending}
 use Rattle.model.specs.declared.State.{State}
 use Rattle.model.specs.Basics.{within}
 use Rattle.model.specs.Sizes.{pagesInRange, framesInRange, devicesInRange}
 use Rattle.model.specs.Guard.{inUser, running, modeOf, inMode, withPending}
 use Rattle.model.specs.Questions.{pendingInRange, stateInOrder, inOrder}
-use Rattle.model.proofs.QuestionLaws.{both-yes, both-no-after, both-first, both-second, within-high}
+use Rattle.laws.proofs.QuestionLaws.{both-yes, both-no-after, both-first, both-second, within-high}
 
 -- Kernel or user, and the page that runs, of a mode made of both.
 pub inUser-modeOf : (user : Bool) (page : ℕ) → inUser (modeOf user page) ≡ user

@@ -10,13 +10,13 @@ use lib.ListN.{length, getD}
 use native.Mathlib.Nat.{le-of-suc-le-suc}
 use native.Mathlib.Omega.{arith}
 use borrow.Author.Tests.{ltb-true, lt-ltb, not-true, not-false, eqb-true, eq-eqb}
 use Rattle.model.specs.Basics.{both, either, within, member}
 use Rattle.model.specs.Sizes.{pagesInRange, framesInRange}
 use Rattle.model.specs.Guard.{vectorBytes}
 use Rattle.model.specs.Policy.{Givens, Policy, numberAt, numbersAt, frameFor}
 use Rattle.model.specs.Questions.{firstNo, sizesInRange, countsInRange, rising, allBelow, policyQuestions, givensInRange, recordQuestions, Lengths, lengthsFit, startQuestions}
-use Rattle.model.proofs.QuestionLaws.{either-second, both-yes, both-no, both-first, both-second, within-low, within-high, asked, numbered, all-yes, firstNo-both}
-use Rattle.model.proofs.StateLaws.{in-order}
+use Rattle.laws.proofs.QuestionLaws.{either-second, both-yes, both-no, both-first, both-second, within-low, within-high, asked, numbered, all-yes, firstNo-both}
+use Rattle.laws.proofs.StateLaws.{in-order}
 
 -- Numbers in a row: none, one more at the front, how many, and each of them.
 pub numbersAt-none : (bytes : List ℕ) (at : ℕ) {left : ℕ} → left ≡ 0 → numbersAt bytes at left ≡ []

@@ -7,21 +7,22 @@ use lib.Dec.{ltb, eqb}
 use lib.ListN.{length, getD}
 use native.Mathlib.Omega.{arith}
 use borrow.Author.Tests.{eq-eqb, eqb-true}
 use Rattle.model.specs.declared.Entry.{Entry}
 use Rattle.model.specs.declared.Entry.the-variants.{Absent, Present}
-use Rattle.model.specs.Basics.{both, either, bit, table}
+use Rattle.model.specs.Basics.{both, either, bit}
 use Rattle.model.specs.Guard.{Guard}
 use Rattle.model.specs.Bits.{takenApart}
 use Rattle.model.specs.Tree.{Tree, tablesIn, treeInOrder, placeAbove, Rights, allRights, Walk, meeting, onward, walkFrom, walkOf, flatAt, readsAt}
-use Rattle.model.specs.Sync.{Slot, before, sweepFrom, entryIn, stepFrom}
+use Rattle.model.specs.Sync.{Slot, sweepFrom, entryIn, stepFrom}
 use Rattle.model.specs.Questions.{Question, question, firstNo, seen, inOrder, syncAllQuestions, syncPageQuestions, syncAllTreeQuestions, syncPageTreeQuestions}
 use Rattle.model.specs.Calls.{settle, refusedOf, Call, syncPage, syncAll, syncPageTree, syncAllTree, broughtBy, questionsOf, allSynced, pageFrom, allFrom, effectOf, answer}
-use Rattle.model.specs.Walks.{ReadsWithin, flatTable, TreeAsFlat, guardFits, TreeRefused}
-use Rattle.model.proofs.QuestionLaws.{both-first, asked, numbered, all-yes, firstNo-yes, firstNo-no}
-use Rattle.model.proofs.StateLaws.{in-order}
-use Rattle.model.proofs.CallLaws.{settle-refused-by}
-use Rattle.model.proofs.AcceptedLaws.{syncPageTree-page}
-use Rattle.model.proofs.TableLaws.{length-table, getD-table}
+use Rattle.model.specs.Walks.{flatTable}
+use Rattle.laws.specs.Trees.{ReadsWithin, TreeAsFlat, guardFits, TreeRefused}
+use Rattle.laws.proofs.QuestionLaws.{both-first, asked, numbered, all-yes, firstNo-yes, firstNo-no}
+use Rattle.laws.proofs.StateLaws.{in-order}
+use Rattle.laws.proofs.CallLaws.{settle-refused-by}
+use Rattle.laws.proofs.AcceptedLaws.{syncPageTree-page}
+use Rattle.laws.proofs.TableLaws.{length-table, getD-table}
 
 -- A choice of two walks meets no more entries than each of them may.
 either-reads : (limit : ℕ) (b : Bool) (x y : Walk) → length (x .met) ≤ limit → length (y .met) ≤ limit → length (cond b x y .met) ≤ limit

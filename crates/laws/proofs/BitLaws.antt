@@ -8,15 +8,15 @@ use native.Mathlib.Omega.{arith}
 use lib.Pow.{pow-lt, shr-lt, field, mod-mod-pow}
 use lib.Dec.{eqb}
 use borrow.Author.Tests.{eqb-true}
 use Rattle.model.specs.declared.Entry.{Entry}
 use Rattle.model.specs.declared.Entry.the-variants.{Absent, Present}
 use Rattle.model.specs.declared.Fields.{Fields}
 use Rattle.model.specs.Basics.{bit, flag}
 use Rattle.model.specs.Bits.{present, writable, userBit, writeThrough, cacheDisable, noExecute, frameOf, approvedMark, approvedNoExecute, approved, fieldsOf, reserved, valid, takenApart, ordinaryNoExecute, ordinary, inspected}
 use Rattle.model.specs.Switch.{noExecuteIn, switched}
-use Rattle.model.specs.Cache.{OrdinaryCarries, SwitchKeeps}
-use Rattle.model.proofs.VectorLaws.{flag-weight, flag-small, flag-test, bits-to}
-use Rattle.model.proofs.QuestionLaws.{both-first, both-second}
+use Rattle.laws.specs.Cache.{OrdinaryCarries, SwitchKeeps}
+use Rattle.laws.proofs.VectorLaws.{flag-weight, flag-small, flag-test, bits-to}
+use Rattle.laws.proofs.QuestionLaws.{both-first, both-second}
 
 -- A bit that is a Boolean's digit, one that is 1 and one that is 0.
 pub bit-is : (k x : ℕ) (b : Bool) → x / 2 ^ k % 2 ≡ flag b 0 → bit k x ≡ b

@@ -3,10 +3,10 @@ use Prim.Native.Nat.{ℕ}
 use mathlib.Core.List.{List}
 use mathlib.Core.Path.{_≡_}
 use lib.ListN.{length}
 use Rattle.model.specs.declared.Device.{Device}
 use Rattle.model.specs.Guard.{Guard}
 use Rattle.model.specs.Devices.{deviceAt}
-use Rattle.model.specs.Calls.{Outcome, Call, deviceWrite, answer}
+use Rattle.model.specs.Calls.{Call, deviceWrite, answer}
 
 -- Two lists of one length that have the same record for every device but one.
 pub record SameBut (changed : ℕ) (before after : List Device) : Type 0 where

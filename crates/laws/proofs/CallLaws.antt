@@ -6,14 +6,14 @@ use mathlib.Core.Logic.{_⊎_, inl, inr}
 use mathlib.Core.Path.{_≡_, refl, sym, _∙_}
 use native.Mathlib.Omega.{arith}
 use borrow.Author.Tests.{not-true, not-false}
 use Rattle.model.specs.declared.Answer.the-variants.{Refused}
 use Rattle.model.specs.declared.Called.{Called}
 use Rattle.model.specs.Guard.{Guard, running, inMode, withPending}
 use Rattle.model.specs.Questions.{Question, question, firstNo, View, seen, stateInOrder, syncPageQuestions, syncAllQuestions, syncPageTreeQuestions, syncAllTreeQuestions, fetchQuestions, writeQuestions, enterQuestions, leaveQuestions, deviceWriteQuestions, askQuestions, commitQuestions, dropQuestions}
 use Rattle.model.specs.Calls.{replyOf, settle, Outcome, outcomeBy, refusedOf, Call, syncPage, syncAll, syncPageTree, syncAllTree, fetch, write, enter, leave, deviceWrite, ask, commit, drop, broughtBy, questionsOf, pageSynced, allSynced, pageFrom, allFrom, switchTo, bitPut, pairCommitted, effectOf, answer}
-use Rattle.model.proofs.QuestionLaws.{firstNo-yes, firstNo-no, settle-accepted}
-use Rattle.model.proofs.StateLaws.{running-modeOf, state-no}
-use Rattle.model.proofs.AcceptedLaws.{fetch-page, enter-page, leave-page}
+use Rattle.laws.proofs.QuestionLaws.{firstNo-yes, firstNo-no, settle-accepted}
+use Rattle.laws.proofs.StateLaws.{running-modeOf, state-no}
+use Rattle.laws.proofs.AcceptedLaws.{fetch-page, enter-page, leave-page}
 
 -- Down the questions: past a yes, past one that is always answered so, at a no, and at the end.
 pub passed : (n k : ℕ) (r b : Bool) (qs : List Question) → r ≡ b → not r ≡ false → k ≡ firstNo qs → k ≡ firstNo (question n b ∷ qs)

@@ -5,10 +5,10 @@ use mathlib.Core.Path.{_≡_, refl, sym, _∙_}
 use lib.Dec.{leb, ltb, eqb}
 use borrow.Author.Tests.{leb-true, leb-false, le-leb, lt-leb, le-ltb, eqb-true, eqb-false}
 use native.Mathlib.Omega.{arith}
 use Rattle.model.specs.Basics.{both, within, everyFrom}
 use Rattle.model.specs.Sizes.{lastByte, lastPage, touched}
 use Rattle.model.specs.Questions.{everyTouched}
-use Rattle.model.proofs.QuestionLaws.{both-first, both-second, both-no, within-low, within-high}
+use Rattle.laws.proofs.QuestionLaws.{both-first, both-second, both-no, within-low, within-high}
 
 -- Two tests that hold of the same numbers. `ltb a b` is `leb (suc a) b`.
 pub same-test : (a b c d : ℕ) → (a ≤ b → c ≤ d) → (b < a → d < c) → leb a b ≡ leb c d
