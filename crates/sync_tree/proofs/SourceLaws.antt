@@ -17,31 +17,31 @@ use Rattle.step.specs.Steps.{stored}
 use Rattle.sync_tree.specs.Runs.{sweptFrom, Holds, wordBy, flatBy, entryBy}
 use Rattle.sync_tree.proofs.RunLaws.{swept-more, swept-over, swept-same, swept-append, all-swept}
 
-module _ (words : List ℕ) (source : Source) (large : Bool) where
-  pub fewer : (n m : ℕ) → Holds large words source n → m ≤ n → Holds large words source m
-  fewer n m h l = at large h
+module _ (words : List ℕ) (source : Source) where
+  pub fewer : (n m : ℕ) → Holds (source .large) words source n → m ≤ n → Holds (source .large) words source m
+  fewer n m h l = at (source .large) h
     where
       at : (b : Bool) → Holds b words source n → Holds b words source m
       at true h = (h .0, omega (arith, h .1))
       at false h = omega arith
 
-  module _ (before : ℕ) (h : Holds large words source (before + 1)) where
+  module _ (before : ℕ) (h : Holds (source .large) words source (before + 1)) where
     -- A large page's frames fit its entry.
-    pub large-fits : large ≡ true → source .entry < 2 ^ 64 → source .entry + before * 2 ^ 12 < 2 ^ 64
+    pub large-fits : source .large ≡ true → source .entry < 2 ^ 64 → source .entry + before * 2 ^ 12 < 2 ^ 64
     large-fits e l = let holds : (source .entry % 2 ^ 21 < 2 ^ 12) × (before + 1 ≤ 512) = rw e at h in omega (arith, holds .0, holds .1)
 
-    pub few : large ≡ true → before < 512
+    pub few : source .large ≡ true → before < 512
     few e = let holds : (source .entry % 2 ^ 21 < 2 ^ 12) × (before + 1 ≤ 512) = rw e at h in omega (arith, holds .1)
 
     -- An entry among the words is there.
-    pub word-in : large ≡ false → source .at + before < length words
+    pub word-in : source .large ≡ false → source .at + before < length words
     word-in e = let holds : source .at + (before + 1) ≤ length words = rw e at h in omega arith
 
-  pub word-large : (before : ℕ) → large ≡ true → source .entry + before * 2 ^ 12 ≡ wordBy large words source before
+  pub word-large : (before : ℕ) → source .large ≡ true → source .entry + before * 2 ^ 12 ≡ wordBy words source before
   unfolding wordBy
   word-large before e = rw e
 
-  pub word-table : (before : ℕ) → large ≡ false → getD words (source .at + before) 0 ≡ wordBy large words source before
+  pub word-table : (before : ℕ) → source .large ≡ false → getD words (source .at + before) 0 ≡ wordBy words source before
   unfolding wordBy
   word-table before e = rw e
 
@@ -57,16 +57,16 @@ unfolding step
 step-same r k k′ a e = rw e
 
 -- After page i of a run.
-pub run-more : (r : Rules) (large : Bool) (words : List ℕ) (source : Source) (first end i k : ℕ) (shadow map shadow′ map′ : List ℕ)
+pub run-more : (r : Rules) (words : List ℕ) (source : Source) (first end i k : ℕ) (shadow map shadow′ map′ : List ℕ)
     (changed joined x y : ℕ) (all : Sweep)
-    → let f : ℕ → ℕ → ℕ → Slot = stepFrom r (entryBy large words source first) in
+    → let f : ℕ → ℕ → ℕ → Slot = stepFrom r (entryBy words source first) in
     sweptFrom f i (end - i) (sweep shadow map changed joined) ≡ all → i < end
-    → takenApart k ≡ takenApart (flatBy source (wordBy large words source (i - first)))
+    → takenApart k ≡ takenApart (flatBy source (wordBy words source (i - first)))
     → sweep shadow′ map′ x y ≡ stored i (sweep shadow map changed joined) (step r k (getD map i 0))
     → sweptFrom f (i + 1) (end - (i + 1)) (sweep shadow′ map′ x y) ≡ all
 unfolding stepFrom entryBy
-run-more r large words source first end i k shadow map shadow′ map′ changed joined x y all inv l apart p =
-    swept-more (stepFrom r (entryBy large words source first)) i end (sweep shadow map changed joined) (sweep shadow′ map′ x y) all inv l
+run-more r words source first end i k shadow map shadow′ map′ changed joined x y all inv l apart p =
+    swept-more (stepFrom r (entryBy words source first)) i end (sweep shadow map changed joined) (sweep shadow′ map′ x y) all inv l
     (p ∙ ap (stored i (sweep shadow map changed joined)) (step-same r k _ (getD map i 0) apart))
 
 -- An even entry has no flat entry.
@@ -79,34 +79,34 @@ absent-flat rights entry even =
 -- The pages of a part: each way in which it goes on gives them what the part does.
 module _ (r : Rules) (words : List ℕ) (part : Part) (source : Source) (first end : ℕ) (before after : Sweep) (begins : first % 512 ≡ 0)
     (few-pages : end - first ≤ 512) (all : source .all ≡ part .all) (any : source .any ≡ part .any) where
-  abbrev gives : Bool → Type 0
-  gives large =
-      after ≡ sweptFrom (stepFrom r (entryBy large words source first)) first (end - first) before
+  abbrev gives : Type 0
+  gives =
+      after ≡ sweptFrom (stepFrom r (entryBy words source first)) first (end - first) before
       → after ≡ sweptFrom (stepFrom r (flatIn words part)) first (end - first) before
 
   -- The low nine bits of a page are its place in the part.
   low-bits : (p : ℕ) → first ≤ p → p < first + (end - first) → p - first ≡ p % 512
   low-bits p a b = omega arith
 
-  by-entries : (large : Bool) → ((p : ℕ) → first ≤ p → p < first + (end - first) → entryBy large words source first p ≡ flatIn words part p) → gives large
+  by-entries : ((p : ℕ) → first ≤ p → p < first + (end - first) → entryBy words source first p ≡ flatIn words part p) → gives
   unfolding stepFrom
-  by-entries large h e =
-      e ∙ swept-same (stepFrom r (entryBy large words source first)) (stepFrom r (flatIn words part)) first (end - first) before (λ p s m a b.
+  by-entries h e =
+      e ∙ swept-same (stepFrom r (entryBy words source first)) (stepFrom r (flatIn words part)) first (end - first) before (λ p s m a b.
       ap (λ (k : ℕ). step r k m) (h p a b))
 
-  pub part-table : (number : ℕ) → part .below ≡ Table number → source .at ≡ number * 512 → gives false
+  pub part-table : (number : ℕ) → part .below ≡ Table number → source .large ≡ false → source .at ≡ number * 512 → gives
   unfolding entryBy flatBy wordBy flatIn flatBelow
-  part-table number below at =
-      by-entries false (λ p a b. rw (below, at, all, any, low-bits p a b))
+  part-table number below kind at =
+      by-entries (λ p a b. rw (below, kind, at, all, any, low-bits p a b))
 
-  pub part-large : (entry : ℕ) → part .below ≡ Large entry → source .entry ≡ entry → gives true
+  pub part-large : (entry : ℕ) → part .below ≡ Large entry → source .large ≡ true → source .entry ≡ entry → gives
   unfolding entryBy flatBy wordBy flatIn flatBelow
-  part-large entry below at = by-entries true (λ p a b. rw (below, at, all, any, low-bits p a b))
+  part-large entry below kind at = by-entries (λ p a b. rw (below, kind, at, all, any, low-bits p a b))
 
   -- An entry 0, whatever frame is added, is absent.
-  pub part-nowhere : part .below ≡ Nowhere → source .entry ≡ 0 → gives true
+  pub part-nowhere : part .below ≡ Nowhere → source .large ≡ true → source .entry ≡ 0 → gives
   unfolding entryBy flatBy wordBy flatIn flatBelow
-  part-nowhere below at = by-entries true (λ p a b. rw (below, at) (absent-flat _ (0 + (p - first) * 2 ^ 12) (omega arith)))
+  part-nowhere below kind at = by-entries (λ p a b. rw (below, kind, at) (absent-flat _ (0 + (p - first) * 2 ^ 12) (omega arith)))
 
 -- What a part's pages read is there.
 module _ (words : List ℕ) (part : Part) (n : ℕ) (sound : Sound words part) (few-pages : n ≤ 512) where

@@ -16,8 +16,7 @@ ghost use Rattle.model.specs.Tree.{treeOf, treeInOrder, flatAt};
 ghost use Rattle.model.specs.Sync.{sweep, sweepFrom, stepFrom};
 ghost use Rattle.model.specs.Calls.{keptBy, syncPageTree, syncAllTree, answer};
 ghost use Rattle.tree.specs.Parts.{flatIn, Sound};
-ghost use Rattle.step.specs.Steps.{rulesBy};
-ghost use Rattle.sync_tree.specs.Runs.{sweptFrom, Holds, wordBy, flatBy, entryBy};
+ghost use Rattle.sync_tree.specs.Runs.{rulesIn, sweptFrom, Holds, wordBy, flatBy, entryBy};
 
 // The pages that share every entry of a tree above level 1, and the weight of a frame in an entry.
 const PART: usize = 512;
@@ -30,9 +29,17 @@ struct Pages {
     end: usize,
 }
 
-// The kernel entries of a run of pages: those in the words from a place on, or that of a large page with the frames after its own; and the rights above
-// them, by the bits that all entries have and those that any has.
+// What the step of every page reads beside the vector: whether user mode runs, F, and the pending frame, or 65535.
+struct Rules {
+    user: bool,
+    frames: u16,
+    pending: u16,
+}
+
+// The kernel entries of a run of pages: that of a large page with the frames after its own, or those in the words from a place on; and the rights above
+// them, by the bits that all entries have and those that any has. `large` is a constant wherever one is made, so that each has a loop that does not ask it.
 struct Source {
+    large: bool,
     at: usize,
     entry: u64,
     all: u64,
@@ -40,11 +47,11 @@ struct Source {
 }
 
 // The entry of a page of the run, by how many pages lie before it.
-fn entry_of(large: bool, words: &[u64], source: Source, before: usize) -> u64
-    requires { ⌜ Holds large (now words) source (before + 1) ⌝ }
-    ensures { λ r. ⌜ r ≡ wordBy large (now (words .entry)) source before ⌝ }
+fn entry_of(words: &[u64], source: Source, before: usize) -> u64
+    requires { ⌜ Holds (source .large) (now words) source (before + 1) ⌝ }
+    ensures { λ r. ⌜ r ≡ wordBy (now (words .entry)) source before ⌝ }
 {
-    if large {
+    if source.large {
         return source.entry + before as u64 * FRAME;
     }
     let at = source.at + before;
@@ -52,24 +59,16 @@ fn entry_of(large: bool, words: &[u64], source: Source, before: usize) -> u64
 }
 
 // That narrowed to the rights above it: an entry that is taken apart as its flat entry is.
-fn kernel_entry(large: bool, words: &[u64], source: Source, before: usize) -> u64
-    requires { ⌜ Holds large (now words) source (before + 1) ⌝ }
-    ensures { λ r. ⌜ takenApart r ≡ takenApart (flatBy source (wordBy large (now (words .entry)) source before)) ⌝ }
+fn kernel_entry(words: &[u64], source: Source, before: usize) -> u64
+    requires { ⌜ Holds (source .large) (now words) source (before + 1) ⌝ }
+    ensures { λ r. ⌜ takenApart r ≡ takenApart (flatBy source (wordBy (now (words .entry)) source before)) ⌝ }
 {
-    tree::narrow(
-        source.all,
-        source.any,
-        entry_of(large, words, source, before),
-    )
+    tree::narrow(source.all, source.any, entry_of(words, source, before))
 }
 
-// Every page of a run, in rising order. No more pages were counted than lie before it. Callers name `large` as a constant, so that each has a loop of
-// its own, which does not ask it.
+// Every page of a run, in rising order. No more pages were counted than lie before it.
 fn sync_run(
-    user: bool,
-    large: bool,
-    frames: u16,
-    pending: u16,
+    rules: Rules,
     exclusion: &[u8],
     words: &[u64],
     source: Source,
@@ -79,9 +78,9 @@ fn sync_run(
     counts: Counts,
 ) -> Counts
     requires { ⌜ (pages .first ≤ pages .end) × (pages .end ≤ length (now shadow)) × (length (now map) ≡ length (now shadow)) × (counts .changed ≤ pages .first)
-        × (counts .joined ≤ pages .first) × (length (now exclusion) ≡ vectorBytes frames) × Holds large (now words) source (pages .end - pages .first) ⌝ }
+        × (counts .joined ≤ pages .first) × (length (now exclusion) ≡ vectorBytes (rules .frames)) × Holds (source .large) (now words) source (pages .end - pages .first) ⌝ }
     ensures { λ r. ⌜ (sweep (now (shadow .exit)) (now (map .exit)) (r .changed) (r .joined)
-        ≡ sweptFrom (stepFrom (rulesBy user frames pending (now (exclusion .entry))) (entryBy large (now (words .entry)) source (pages .first))) (pages .first)
+        ≡ sweptFrom (stepFrom (rulesIn rules (now (exclusion .entry))) (entryBy (now (words .entry)) source (pages .first))) (pages .first)
         (pages .end - pages .first) (sweep (now (shadow .entry)) (now (map .entry)) (counts .changed) (counts .joined)))
         × (r .changed ≤ pages .end) × (r .joined ≤ pages .end) ⌝ }
 {
@@ -90,11 +89,11 @@ fn sync_run(
     let mut counts = counts;
     let mut i = first;
     while i < end {
-        let entry = kernel_entry(large, words, source, i - first);
+        let entry = kernel_entry(words, source, i - first);
         counts = step::sync_at(
-            user,
-            frames,
-            pending,
+            rules.user,
+            rules.frames,
+            rules.pending,
             exclusion,
             entry,
             shadow,
@@ -109,9 +108,7 @@ fn sync_run(
 
 // The pages of a tree's part. It begins with a page whose low nine bits are 0.
 fn sync_part(
-    user: bool,
-    frames: u16,
-    pending: u16,
+    rules: Rules,
     exclusion: &[u8],
     words: &[u64],
     part: Part,
@@ -121,10 +118,10 @@ fn sync_part(
     counts: Counts,
 ) -> Counts
     requires { ⌜ (pages .first ≤ pages .end) × (pages .end ≤ length (now shadow)) × (length (now map) ≡ length (now shadow)) × (counts .changed ≤ pages .first)
-        × (counts .joined ≤ pages .first) × (length (now exclusion) ≡ vectorBytes frames) × (pages .first % 512 ≡ 0) × (pages .end - pages .first ≤ 512)
+        × (counts .joined ≤ pages .first) × (length (now exclusion) ≡ vectorBytes (rules .frames)) × (pages .first % 512 ≡ 0) × (pages .end - pages .first ≤ 512)
         × Sound (now words) part ⌝ }
     ensures { λ r. ⌜ (sweep (now (shadow .exit)) (now (map .exit)) (r .changed) (r .joined)
-        ≡ sweptFrom (stepFrom (rulesBy user frames pending (now (exclusion .entry))) (flatIn (now (words .entry)) part)) (pages .first) (pages .end - pages .first)
+        ≡ sweptFrom (stepFrom (rulesIn rules (now (exclusion .entry))) (flatIn (now (words .entry)) part)) (pages .first) (pages .end - pages .first)
         (sweep (now (shadow .entry)) (now (map .entry)) (counts .changed) (counts .joined)))
         × (r .changed ≤ pages .end) × (r .joined ≤ pages .end) ⌝ }
 {
@@ -132,66 +129,33 @@ fn sync_part(
     match below {
         Below::Table(number) => {
             let table = Source {
+                large: false,
                 at: number as usize * PART,
                 entry: 0,
                 all: part.all,
                 any: part.any,
             };
-            sync_run(
-                user,
-                false,
-                frames,
-                pending,
-                exclusion,
-                words,
-                table,
-                shadow,
-                map,
-                pages,
-                counts,
-            )
+            sync_run(rules, exclusion, words, table, shadow, map, pages, counts)
         }
         Below::Large(entry) => {
             let large = Source {
+                large: true,
                 at: 0,
                 entry,
                 all: part.all,
                 any: part.any,
             };
-            sync_run(
-                user,
-                true,
-                frames,
-                pending,
-                exclusion,
-                words,
-                large,
-                shadow,
-                map,
-                pages,
-                counts,
-            )
+            sync_run(rules, exclusion, words, large, shadow, map, pages, counts)
         }
         Below::Nowhere => {
             let absent = Source {
+                large: true,
                 at: 0,
                 entry: 0,
                 all: part.all,
                 any: part.any,
             };
-            sync_run(
-                user,
-                true,
-                frames,
-                pending,
-                exclusion,
-                words,
-                absent,
-                shadow,
-                map,
-                pages,
-                counts,
-            )
+            sync_run(rules, exclusion, words, absent, shadow, map, pages, counts)
         }
     }
 }
@@ -210,9 +174,7 @@ fn part_end(first: usize, pages: usize) -> usize
 
 // Every page from a tree, part by part.
 fn sync_parts(
-    user: bool,
-    frames: u16,
-    pending: u16,
+    rules: Rules,
     exclusion: &[u8],
     words: &[u64],
     root: u64,
@@ -220,9 +182,9 @@ fn sync_parts(
     shadow: &mut [u64],
     map: &mut [u16],
 ) -> Counts
-    requires { ⌜ (treeInOrder (treeOf (now words) root depth) ≡ true) × (length (now map) ≡ length (now shadow)) × (length (now exclusion) ≡ vectorBytes frames) ⌝ }
+    requires { ⌜ (treeInOrder (treeOf (now words) root depth) ≡ true) × (length (now map) ≡ length (now shadow)) × (length (now exclusion) ≡ vectorBytes (rules .frames)) ⌝ }
     ensures { λ r. ⌜ sweep (now (shadow .exit)) (now (map .exit)) (r .changed) (r .joined)
-        ≡ sweepFrom (stepFrom (rulesBy user frames pending (now (exclusion .entry))) (flatAt (treeOf (now (words .entry)) root depth))) 0 (now (shadow .entry)) (now (map .entry)) ⌝ }
+        ≡ sweepFrom (stepFrom (rulesIn rules (now (exclusion .entry))) (flatAt (treeOf (now (words .entry)) root depth))) 0 (now (shadow .entry)) (now (map .entry)) ⌝ }
 {
     let mut counts = Counts {
         changed: 0,
@@ -233,9 +195,7 @@ fn sync_parts(
         let end = part_end(first, shadow.len());
         let part = tree::part_of(words, root, depth, first as u64);
         counts = sync_part(
-            user,
-            frames,
-            pending,
+            rules,
             exclusion,
             words,
             part,
@@ -318,16 +278,11 @@ pub fn sync_all_tree(
     }
     let mode = s.mode;
     let pending = s.pending;
-    let all = sync_parts(
-        state::in_user(mode),
-        s.frames,
-        state::pending_frame(pending),
-        exclusion,
-        words,
-        root,
-        depth,
-        shadow,
-        map,
-    );
+    let rules = Rules {
+        user: state::in_user(mode),
+        frames: s.frames,
+        pending: state::pending_frame(pending),
+    };
+    let all = sync_parts(rules, exclusion, words, root, depth, shadow, map);
     Answer::Done(all.changed, all.joined)
 }

@@ -6,7 +6,7 @@ use Rattle.sync_tree.proofs.entry_of.Statement.{statement}
 use Rattle.sync_tree.proofs.entry_of.Tie as tie
 
 mul-result : tie.Need-mul-result
-mul-result c = let small = few _ _ _ _ (c .before .pre) (c .if1 .taken) in omega (arith, small)
+mul-result c = let small = few _ _ _ (c .before .pre) (c .if1 .taken) in omega (arith, small)
 
 add-result : tie.Need-add-result
 add-result c = record { fits = search (needs, large-fits) }
@@ -15,10 +15,10 @@ returns : tie.Need-returns
 returns c = search (needs, word-large)
 
 add-at : tie.Need-add-at
-add-at c = let inside = word-in _ _ _ _ (c .before .before .pre) (c .before .if1 .left) in omega (arith, inside)
+add-at c = let inside = word-in _ _ _ (c .before .before .pre) (c .before .if1 .left) in omega (arith, inside)
 
 mul-result-2 : tie.Need-mul-result-2
-mul-result-2 c = let inside = word-in _ _ _ _ (c .before .before .pre) (c .before .if1 .left) in omega (arith, inside)
+mul-result-2 c = let inside = word-in _ _ _ (c .before .before .pre) (c .before .if1 .left) in omega (arith, inside)
 
 shared-slice-read-result : tie.Need-shared-slice-read-result
 shared-slice-read-result c = search (needs, word-in)

@@ -9,8 +9,8 @@ use Rattle.sync_tree.proofs.sync_part.Tie as tie
 enum-known-below : tie.Need-enum-known-below
 enum-known-below c = search needs
 
-mul-t19 : tie.Need-mul-t19
-mul-t19 c =
+mul-t17 : tie.Need-mul-t17
+mul-t17 c =
     let inside = table-holds (c .before .before .before .before .before .before .before .args .words .now) (c .before .before .before .before .before .before .before .args .part) _ (c .before .before .before .before .before .before .before .pre .8) (c .before .before .before .before .before .before .before .pre .7) (c .before .below .given .0 .0) (search needs) in
     omega (arith, inside)
 
@@ -38,7 +38,7 @@ same-length-2 c = search needs
 returns : tie.Need-returns
 returns c =
     let run = c .before .before .before .before .sync-run .ensures in
-    (part-table _ _ _ _ _ _ _ _ (c .before .before .before .before .before .before .before .before .before .before .before .before .before .before .pre .6) (c .before .before .before .before .before .before .before .before .before .before .before .before .before .before .pre .7) refl refl _ (search needs) refl (run .0), run .1, run .2)
+    (part-table _ _ _ _ _ _ _ _ (c .before .before .before .before .before .before .before .before .before .before .before .before .before .before .pre .6) (c .before .before .before .before .before .before .before .before .before .before .before .before .before .before .pre .7) refl refl _ (search needs) refl refl (run .0), run .1, run .2)
 
 same-length-3 : tie.Need-same-length-3
 same-length-3 c = search needs
@@ -49,7 +49,7 @@ same-length-4 c = search needs
 returns-2 : tie.Need-returns-2
 returns-2 c =
     let run = c .before .before .before .before .sync-run2 .ensures in
-    (part-large _ _ _ _ _ _ _ _ (c .before .before .before .before .before .before .before .before .before .before .before .before .before .before .pre .6) (c .before .before .before .before .before .before .before .before .before .before .before .before .before .before .pre .7) refl refl _ (search needs) refl (run .0), run .1, run .2)
+    (part-large _ _ _ _ _ _ _ _ (c .before .before .before .before .before .before .before .before .before .before .before .before .before .before .pre .6) (c .before .before .before .before .before .before .before .before .before .before .before .before .before .before .pre .7) refl refl _ (search needs) refl refl (run .0), run .1, run .2)
 
 same-length-5 : tie.Need-same-length-5
 same-length-5 c = search needs
@@ -60,11 +60,11 @@ same-length-6 c = search needs
 returns-3 : tie.Need-returns-3
 returns-3 c =
     let run = c .before .before .before .before .sync-run3 .ensures in
-    (part-nowhere _ _ _ _ _ _ _ _ (c .before .before .before .before .before .before .before .before .before .before .before .before .before .pre .6) (c .before .before .before .before .before .before .before .before .before .before .before .before .before .pre .7) refl refl (search needs) refl (run .0), run .1, run .2)
+    (part-nowhere _ _ _ _ _ _ _ _ (c .before .before .before .before .before .before .before .before .before .before .before .before .before .pre .6) (c .before .before .before .before .before .before .before .before .before .before .before .before .before .pre .7) refl refl (search needs) refl refl (run .0), run .1, run .2)
 
 pub sync-part-spec : {M : Type 1} → statement M
 sync-part-spec =
     tie.close
-    (tie.spec enum-known-below mul-t19 sync-run-requires enum-known-below-2 sync-run-requires-2 enum-told
+    (tie.spec enum-known-below mul-t17 sync-run-requires enum-known-below-2 sync-run-requires-2 enum-told
     sync-run-requires-3 same-length same-length-2 returns same-length-3 same-length-4 returns-2 same-length-5
     same-length-6 returns-3)

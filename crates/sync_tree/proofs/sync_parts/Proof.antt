@@ -5,22 +5,21 @@ use native.Mathlib.Omega.{arith}
 use lib.ListN.{length}
 use Rattle.model.specs.Tree.{treeOf, flatAt}
 use Rattle.model.specs.Sync.{sweep, stepFrom}
-use Rattle.step.specs.Steps.{rulesBy}
-use Rattle.sync_tree.specs.Runs.{sweptFrom}
+use Rattle.sync_tree.specs.Runs.{rulesIn, sweptFrom}
 use Rattle.sync_tree.proofs.SourceLaws.{parts-more, parts-over}
 use borrow.Author.Needs.{needs}
 use Rattle.sync_tree.proofs.sync_parts.Statement.{statement}
 use Rattle.sync_tree.proofs.sync_parts.Tie as tie
 
 abbrev Inv-loop : tie.InvT-loop
-Inv-loop user frames pending exclusion words root depth shadow₀ map₀ counts₀ first₀ shadow map counts first =
+Inv-loop rules exclusion words root depth shadow₀ map₀ counts₀ first₀ shadow map counts first =
     (first ≤ length shadow₀) × (length shadow ≡ length shadow₀) × (length map ≡ length shadow₀) × (counts .changed ≤ first) × (counts .joined ≤ first)
     × (first < length shadow₀ → first % 512 ≡ 0)
-    × (sweptFrom (stepFrom (rulesBy user frames pending exclusion) (flatAt (treeOf words root depth))) first (length shadow₀ - first) (sweep shadow map (counts .changed) (counts .joined))
-    ≡ sweptFrom (stepFrom (rulesBy user frames pending exclusion) (flatAt (treeOf words root depth))) 0 (length shadow₀ - 0) (sweep shadow₀ map₀ 0 0))
+    × (sweptFrom (stepFrom (rulesIn rules exclusion) (flatAt (treeOf words root depth))) first (length shadow₀ - first) (sweep shadow map (counts .changed) (counts .joined))
+    ≡ sweptFrom (stepFrom (rulesIn rules exclusion) (flatAt (treeOf words root depth))) 0 (length shadow₀ - 0) (sweep shadow₀ map₀ 0 0))
 
 abbrev μ-loop : tie.MeasureT-loop
-μ-loop user frames pending exclusion words root depth shadow₀ map₀ counts₀ first₀ shadow map counts first = length shadow₀ - first
+μ-loop rules exclusion words root depth shadow₀ map₀ counts₀ first₀ shadow map counts first = length shadow₀ - first
 
 loop-holds : tie.Need-loop-holds Inv-loop μ-loop
 loop-holds c = (omega arith, refl, search needs, omega arith, omega arith, λ l. refl, refl)

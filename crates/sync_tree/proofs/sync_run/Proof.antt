@@ -4,8 +4,7 @@ use mathlib.Core.Path.{_≡_, refl}
 use native.Mathlib.Omega.{arith}
 use lib.ListN.{length}
 use Rattle.model.specs.Sync.{sweep, stepFrom}
-use Rattle.step.specs.Steps.{rulesBy}
-use Rattle.sync_tree.specs.Runs.{sweptFrom, entryBy}
+use Rattle.sync_tree.specs.Runs.{rulesIn, sweptFrom, entryBy}
 use Rattle.sync_tree.proofs.RunLaws.{swept-over}
 use Rattle.sync_tree.proofs.SourceLaws.{fewer, run-more}
 use borrow.Author.Needs.{needs}
@@ -13,13 +12,13 @@ use Rattle.sync_tree.proofs.sync_run.Statement.{statement}
 use Rattle.sync_tree.proofs.sync_run.Tie as tie
 
 abbrev Inv-loop : tie.InvT-loop
-Inv-loop user large frames pending exclusion words source shadow₀ map₀ first end counts₀ i₀ shadow map counts i =
+Inv-loop rules exclusion words source shadow₀ map₀ first end counts₀ i₀ shadow map counts i =
     (first ≤ i) × (i ≤ end) × (length shadow ≡ length shadow₀) × (length map ≡ length shadow₀) × (counts .changed ≤ i) × (counts .joined ≤ i)
-    × (sweptFrom (stepFrom (rulesBy user frames pending exclusion) (entryBy large words source first)) i (end - i) (sweep shadow map (counts .changed) (counts .joined))
-    ≡ sweptFrom (stepFrom (rulesBy user frames pending exclusion) (entryBy large words source first)) first (end - first) (sweep shadow₀ map₀ (counts₀ .changed) (counts₀ .joined)))
+    × (sweptFrom (stepFrom (rulesIn rules exclusion) (entryBy words source first)) i (end - i) (sweep shadow map (counts .changed) (counts .joined))
+    ≡ sweptFrom (stepFrom (rulesIn rules exclusion) (entryBy words source first)) first (end - first) (sweep shadow₀ map₀ (counts₀ .changed) (counts₀ .joined)))
 
 abbrev μ-loop : tie.MeasureT-loop
-μ-loop user large frames pending exclusion words source shadow₀ map₀ first end counts₀ i₀ shadow map counts i = end - i
+μ-loop rules exclusion words source shadow₀ map₀ first end counts₀ i₀ shadow map counts i = end - i
 
 loop-holds : tie.Need-loop-holds Inv-loop μ-loop
 loop-holds c = (omega arith, omega arith, refl, omega arith, omega arith, omega arith, refl)
@@ -29,7 +28,7 @@ sub-kernel-entry c = omega arith
 
 kernel-entry-requires : tie.Need-kernel-entry-requires Inv-loop μ-loop
 kernel-entry-requires c κs =
-    fewer (c .before .before .before .before .before .before .args .words .now) (c .before .before .before .before .before .before .args .source) (c .before .before .before .before .before .before .args .large) _ _ (c .before .before .before .before .before .before .pre .6) (omega arith)
+    fewer (c .before .before .before .before .before .before .args .words .now) (c .before .before .before .before .before .before .args .source) _ _ (c .before .before .before .before .before .before .pre .6) (omega arith)
 
 sync-at-requires : tie.Need-sync-at-requires Inv-loop μ-loop
 sync-at-requires c κs = (omega arith, omega arith, omega arith, omega arith, search needs)
@@ -48,7 +47,7 @@ loop-again c = (
   omega arith,
   omega arith,
   omega arith,
-  run-more _ _ _ _ _ _ _ _ _ _ _ _ _ _ _ _ _ (c .before .before .before .before .before .before .before .before .before .loop .inv .6) (c .before .before .before .before .before .before .before .before .loop-test .taken) (c .before .before .before .before .before .before .before .kernel-entry .ensures) (c .before .before .before .before .sync-at .ensures .0),
+  run-more _ _ _ _ _ _ _ _ _ _ _ _ _ _ _ _ (c .before .before .before .before .before .before .before .before .before .loop .inv .6) (c .before .before .before .before .before .before .before .before .loop-test .taken) (c .before .before .before .before .before .before .before .kernel-entry .ensures) (c .before .before .before .before .sync-at .ensures .0),
 )
 
 same-length : tie.Need-same-length Inv-loop μ-loop
