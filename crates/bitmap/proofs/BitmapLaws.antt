@@ -36,16 +36,21 @@ module _ (b : ℕ) (small : b < 256) where
   clearBit : ℕ → ℕ → Bool
   clearBit k j = cond (eqb j k) false (bit j b)
 
-  pub less-bit : (k : ℕ) → k < 8 → (1 * 2 ^ k % 256 ≤ bitOr b (1 * 2 ^ k % 256)) × (bitOr b (1 * 2 ^ k % 256) - 1 * 2 ^ k % 256 ≡ byteOf (λ j. cond (eqb j k) false (bit j b)))
+  pub less-bit : (k : ℕ) → k < 8
+      → (1 * 2 ^ k % 256 ≤ bitOr b (1 * 2 ^ k % 256)) × (bitOr b (1 * 2 ^ k % 256) - 1 * 2 ^ k % 256 ≡ byteOf (λ j. cond (eqb j k) false (bit j b)))
   unfolding clearBit flag
   less-bit =
       let whole : byteOf (λ j. bit j b) ≡ b = byteOf-bits b small in
       let old = byteOf-sum (λ j. bit j b) in
       below8 (λ k. (1 * 2 ^ k % 256 ≤ bitOr b (1 * 2 ^ k % 256)) × (bitOr b (1 * 2 ^ k % 256) - 1 * 2 ^ k % 256 ≡ byteOf (clearBit k)))
-      (omega (arith, old, or-sum 0), omega (arith, old, or-sum 0, byteOf-sum (clearBit 0) .0)) (omega (arith, old, or-sum 1), omega (arith, old, or-sum 1, byteOf-sum (clearBit 1) .0))
-      (omega (arith, old, or-sum 2), omega (arith, old, or-sum 2, byteOf-sum (clearBit 2) .0)) (omega (arith, old, or-sum 3), omega (arith, old, or-sum 3, byteOf-sum (clearBit 3) .0))
-      (omega (arith, old, or-sum 4), omega (arith, old, or-sum 4, byteOf-sum (clearBit 4) .0)) (omega (arith, old, or-sum 5), omega (arith, old, or-sum 5, byteOf-sum (clearBit 5) .0))
-      (omega (arith, old, or-sum 6), omega (arith, old, or-sum 6, byteOf-sum (clearBit 6) .0)) (omega (arith, old, or-sum 7), omega (arith, old, or-sum 7, byteOf-sum (clearBit 7) .0))
+      (omega (arith, old, or-sum 0), omega (arith, old, or-sum 0, byteOf-sum (clearBit 0) .0))
+      (omega (arith, old, or-sum 1), omega (arith, old, or-sum 1, byteOf-sum (clearBit 1) .0))
+      (omega (arith, old, or-sum 2), omega (arith, old, or-sum 2, byteOf-sum (clearBit 2) .0))
+      (omega (arith, old, or-sum 3), omega (arith, old, or-sum 3, byteOf-sum (clearBit 3) .0))
+      (omega (arith, old, or-sum 4), omega (arith, old, or-sum 4, byteOf-sum (clearBit 4) .0))
+      (omega (arith, old, or-sum 5), omega (arith, old, or-sum 5, byteOf-sum (clearBit 5) .0))
+      (omega (arith, old, or-sum 6), omega (arith, old, or-sum 6, byteOf-sum (clearBit 6) .0))
+      (omega (arith, old, or-sum 7), omega (arith, old, or-sum 7, byteOf-sum (clearBit 7) .0))
 
 -- A frame's bit, in a byte of the vector and past its end.
 pub test-bit-in : (x : List ℕ) (f : ℕ) → eqb (getD x (f / 8) 0 / 2 ^ (f % 8) % 2) 1 ≡ hasBit x f

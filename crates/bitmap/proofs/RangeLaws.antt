@@ -77,7 +77,8 @@ clear-is n first (suc count) =
     let half : n / 2 ^ suc first ≡ m / 2 = rw (← add-one first) (sym (shr-shr n first 1)) in
     let parts : m % 2 ^ suc count ≡ (m / 2 % 2 ^ count) * 2 + m % 2 = rw (← add-one count) (mod-pow-add m count 1) in
     let sum : eqb ((m / 2 % 2 ^ count) * 2 + m % 2) 0 ≡ both (eqb ((m / 2 % 2 ^ count) * 2) 0) (eqb (m % 2) 0) = sum-zero ((m / 2 % 2 ^ count) * 2) (m % 2) in
-    let twice : eqb ((m / 2 % 2 ^ count) * 2) 0 ≡ eqb (m / 2 % 2 ^ count) 0 = same-zero ((m / 2 % 2 ^ count) * 2) (m / 2 % 2 ^ count) (λ h. omega arith) (λ h. omega arith) in
+    let twice : eqb ((m / 2 % 2 ^ count) * 2) 0 ≡ eqb (m / 2 % 2 ^ count) 0 =
+    same-zero ((m / 2 % 2 ^ count) * 2) (m / 2 % 2 ^ count) (λ h. omega arith) (λ h. omega arith) in
     rw (rest, half, even m, parts, sum, twice) (both-swap (eqb (m % 2) 0) (eqb (m / 2 % 2 ^ count) 0))
 
 -- A byte shifted down has the bits from there on, and shifted up those up to there.
@@ -165,7 +166,8 @@ pub rest-more : (x : List ℕ) (from to i all : ℕ) → restClear x to i all �
 rest-more x from to i all inv h small =
     let count : (to - i) * 8 ≡ 8 + (to - (i + 1)) * 8 = omega arith in
     let next : i * 8 + 8 ≡ (i + 1) * 8 = omega arith in
-    let parts : freeFrom x (i * 8) (8 + (to - (i + 1)) * 8) ≡ both (freeFrom x (i * 8) 8) (freeFrom x (i * 8 + 8) ((to - (i + 1)) * 8)) = every-more _ (i * 8) 8 ((to - (i + 1)) * 8) in
+    let parts : freeFrom x (i * 8) (8 + (to - (i + 1)) * 8) ≡ both (freeFrom x (i * 8) 8) (freeFrom x (i * 8 + 8) ((to - (i + 1)) * 8)) =
+    every-more _ (i * 8) 8 ((to - (i + 1)) * 8) in
     rw (or-clear all (getD x i 0), byte-clear x i small)
     (sym (both-assoc (eqb all 0) (freeFrom x (i * 8) 8) (freeFrom x ((i + 1) * 8) ((to - (i + 1)) * 8))) ∙ ap (λ f. both (eqb all 0) (both (freeFrom x (i * 8) 8) (freeFrom x f ((to - (i + 1)) * 8)))) (sym next) ∙ ap (both (eqb all 0)) (sym parts) ∙ ap (λ n. both (eqb all 0) (freeFrom x (i * 8) n)) (sym count) ∙ inv)
 
@@ -218,7 +220,8 @@ module _ (x : List ℕ) (first last : ℕ) (up : first ≤ last) where
       module _ (y : not h ≡ false) (t : Bool) (et : t ≡ clearBits (getD x (last / 8) 0) 0 (suc (last % 8))) where
         pub tail-set : not t ≡ true → false ≡ freeFrom x first (suc (last - first))
         unfolding both
-        tail-set n = sym (range-parts ∙ rw (sym eh ∙ not-false h y, sym et ∙ not-true t n) (both-swap (freeFrom x ((first / 8 + 1) * 8) ((last / 8 - (first / 8 + 1)) * 8)) false))
+        tail-set n =
+            sym (range-parts ∙ rw (sym eh ∙ not-false h y, sym et ∙ not-true t n) (both-swap (freeFrom x ((first / 8 + 1) * 8) ((last / 8 - (first / 8 + 1)) * 8)) false))
 
         pub middle-found : (m : Bool) → not t ≡ false → m ≡ freeFrom x ((first / 8 + 1) * 8) ((last / 8 - (first / 8 + 1)) * 8)
             → m ≡ freeFrom x first (suc (last - first))

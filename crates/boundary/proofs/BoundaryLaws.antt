@@ -92,11 +92,13 @@ module _ (run numbers : List ℕ) (b : Bool) (asks : b ≡ usable answerNumbers 
     (after : List ℕ) (r : ℕ) (listed : ℕ) (d : Device) (device address size : ℕ) where
   abbrev OfEvery : ((t : Tables) → Call → Type 0) → Type 0
   OfEvery holds =
-      (t : Tables) (devices : List Device) → length devices ≡ listed → (device < listed → deviceAt devices device ≡ d) → holds t (deviceWrite devices device address size)
+      (t : Tables) (devices : List Device) → length devices ≡ listed → (device < listed → deviceAt devices device ≡ d)
+      → holds t (deviceWrite devices device address size)
 
   pub transfer-kept : (exclusion exclusion′ : List ℕ) (a : Answer)
       → OfEvery (λ t call. keptBy a s (withExclusion exclusion′ t) ≡ answer (guardOf s (withExclusion exclusion t)) call)
       → r ≡ replyOf a .number → after ≡ withNumbers answerNumbers numbers (replyOf a)
       → OfEvery (λ t call. returned r run after (withExclusion exclusion′ t) ≡ callAt run numbers (withExclusion exclusion t) call)
   transfer-kept exclusion exclusion′ a e n w t devices long is =
-      vector-kept run numbers b (deviceWrite devices device address size) asks used s in-run after r exclusion exclusion′ a refl (λ t. e t devices long is) n w t
+      vector-kept run numbers b (deviceWrite devices device address size) asks used s in-run after r exclusion exclusion′ a refl
+      (λ t. e t devices long is) n w t

@@ -19,13 +19,15 @@ module _ (run numbers : List ℕ) (b : Bool) (call : Call) (asks : b ≡ usable 
       → ((t : Tables) → outcomeBy c (withThree shadow map exclusion′ t) ≡ answer (guardOf s (withThree shadow map exclusion t)) call)
       → Says (numbersBy call) (c .answer) r numbers after → run′ ≡ runAfter run (changedBy call) (replyOf (c .answer)) (c .state)
       → (t : Tables) → returned r run′ after (withThree shadow map exclusion′ t) ≡ callAt run numbers (withThree shadow map exclusion t) call
-  ask-called shadow map exclusion exclusion′ = called run numbers b call asks used s in-run after r (withThree shadow map exclusion) (withThree shadow map exclusion′)
+  ask-called shadow map exclusion exclusion′ =
+      called run numbers b call asks used s in-run after r (withThree shadow map exclusion) (withThree shadow map exclusion′)
 
   pub commit-called : (shadow map shadow′ map′ run′ : List ℕ) (c : Called)
       → ((t : Tables) → outcomeBy c (withShadow shadow′ (withMap map′ t)) ≡ answer (guardOf s (withShadow shadow (withMap map t))) call)
       → Says (numbersBy call) (c .answer) r numbers after → run′ ≡ runAfter run (changedBy call) (replyOf (c .answer)) (c .state)
       → (t : Tables) → returned r run′ after (withShadow shadow′ (withMap map′ t)) ≡ callAt run numbers (withShadow shadow (withMap map t)) call
-  commit-called shadow map shadow′ map′ = called run numbers b call asks used s in-run after r (λ t. withShadow shadow (withMap map t)) (λ t. withShadow shadow′ (withMap map′ t))
+  commit-called shadow map shadow′ map′ =
+      called run numbers b call asks used s in-run after r (λ t. withShadow shadow (withMap map t)) (λ t. withShadow shadow′ (withMap map′ t))
 
   pub vector-called : (exclusion exclusion′ run′ : List ℕ) (c : Called)
       → ((t : Tables) → outcomeBy c (withExclusion exclusion′ t) ≡ answer (guardOf s (withExclusion exclusion t)) call)

@@ -22,7 +22,8 @@ use Rattle.model.specs.Devices.{deviceOf}
 use Rattle.model.specs.Policy.{policyOf, numberAt}
 use Rattle.model.specs.Questions.{firstNo}
 use Rattle.model.specs.Calls.{Outcome, refused, replyOf, outcomeBy, settle, answer}
-use Rattle.drill_model.specs.Drill.{policyExtent, windowsOf, kindOf, indexOf, lengthOf, valueOf, edited, callOf, withGuard, performed, line, startLine, turnOf, turn}
+use Rattle.drill_model.specs.Drill.{policyExtent, windowsOf, kindOf, indexOf, lengthOf, valueOf, edited, callOf, withGuard, performed, line, startLine, turnOf}
+use Rattle.drill_model.specs.Drill.{turn}
 use Rattle.laws.proofs.QuestionLaws.{within-high}
 use Rattle.drill_calls.specs.declared.TurnResult.{TurnResult}
 use Rattle.drill_calls.specs.Turns.{drillOf, editedBy, performedBy, turnBy, openingOf, openedBy, pagesLent, bytesLent}
@@ -94,17 +95,20 @@ value-is call e f g h p q = omega arith
 
 -- An edit: of a page that does not exist, of one that the kernel table has, and of one past its end.
 pub edit-refused : {t : Bool} (page pages value : ℕ) (kernel : List ℕ) → t ≡ ltb page pages → not t ≡ true
-    → (g : Guard) (devices : List Device) → g .state .pages ≡ pages → editedBy (Refused 9) (drillOf g kernel devices) ≡ edited (drillOf g kernel devices) page value
+    → (g : Guard) (devices : List Device) → g .state .pages ≡ pages
+    → editedBy (Refused 9) (drillOf g kernel devices) ≡ edited (drillOf g kernel devices) page value
 unfolding edited editedBy replyOf firstNo settle
 edit-refused {t} page pages value kernel e p g devices h = rw (h, ← e, not-true t p)
 
 pub edit-done : {t : Bool} (page pages value : ℕ) (kernel : List ℕ) → t ≡ ltb page pages → not t ≡ false
-    → (g : Guard) (devices : List Device) → g .state .pages ≡ pages → editedBy (Done 0 0) (drillOf g (set kernel page value) devices) ≡ edited (drillOf g kernel devices) page value
+    → (g : Guard) (devices : List Device) → g .state .pages ≡ pages
+    → editedBy (Done 0 0) (drillOf g (set kernel page value) devices) ≡ edited (drillOf g kernel devices) page value
 unfolding edited editedBy replyOf firstNo settle
 edit-done {t} page pages value kernel e p g devices h = rw (h, ← e, not-false t p)
 
 pub edit-past : {t : Bool} (page pages value : ℕ) (kernel : List ℕ) → t ≡ ltb page pages → not t ≡ false → length kernel ≤ page
-    → (g : Guard) (devices : List Device) → g .state .pages ≡ pages → editedBy (Done 0 0) (drillOf g kernel devices) ≡ edited (drillOf g kernel devices) page value
+    → (g : Guard) (devices : List Device) → g .state .pages ≡ pages
+    → editedBy (Done 0 0) (drillOf g kernel devices) ≡ edited (drillOf g kernel devices) page value
 edit-past page pages value kernel e p q g devices h = rw (set-out kernel page value q) at (edit-done page pages value kernel e p g devices h)
 
 -- The call of a kind: an edit, and a guard's call.

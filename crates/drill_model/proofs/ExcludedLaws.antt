@@ -12,12 +12,15 @@ use Rattle.model.specs.Basics.{member}
 use Rattle.model.specs.Guard.{Tables, Guard, vectorBytes, hasBit, inMode}
 use Rattle.model.specs.Policy.{policyOf, named, startState, startTables, startGuard}
 use Rattle.model.specs.Questions.{firstNo, seen, Lengths, lengthsOf, allBelow, startQuestions}
-use Rattle.model.specs.Calls.{Outcome, settle, startOf, Call, syncPage, syncAll, fetch, write, enter, leave, deviceWrite, broughtBy, questionsOf, pageFrom, allFrom, pageSynced, allSynced, switchTo, effectOf, refusedOf, answer}
+use Rattle.model.specs.Calls.{Outcome, settle, startOf, Call, syncPage, syncAll, fetch, write, enter, leave, deviceWrite, broughtBy, questionsOf, pageFrom}
+use Rattle.model.specs.Calls.{allFrom, pageSynced, allSynced, switchTo, effectOf, refusedOf, answer}
 use Rattle.laws.proofs.PolicyLaws.{Passed, start-passed, length-numbersAt, allBelow-member, member-here}
 use Rattle.laws.proofs.QuestionLaws.{settle-accepted, settle-refused}
 use Rattle.laws.proofs.SyncLaws.{cond-cases}
 use Rattle.laws.proofs.VectorLaws.{vectorOf-bit}
-use Rattle.drill_model.specs.Drill.{policyExtent, Drill, drillGiven, drillStart, begun, kindOf, indexOf, lengthOf, valueOf, Drilled, withGuard, edited, callOf, performed, startLine, Turn, turnOf, turn, entryLines, countFrom, shareLine, closing, callLimit, callLines, drillOutput}
+use Rattle.drill_model.specs.Drill.{policyExtent, Drill, drillGiven, drillStart, begun, kindOf, indexOf, lengthOf, valueOf, Drilled, withGuard, edited}
+use Rattle.drill_model.specs.Drill.{callOf, performed, startLine, Turn, turnOf, turn, entryLines, countFrom, shareLine, closing, callLimit, callLines}
+use Rattle.drill_model.specs.Drill.{drillOutput}
 use Rattle.drill_model.specs.Share.{SomeExcluded, EndsWith, ShareLast}
 
 -- Of numbers of which one passes the test, one is counted at least.
@@ -50,7 +53,8 @@ module _ (bytes : List ℕ) (l : Lengths) (accepted : firstNo (startQuestions dr
       → hasBit (startGuard drillGiven (policyOf bytes) .tables .exclusion) f ≡ true
   unfolding startGuard startTables named
   listed-excluded f m =
-      vectorOf-bit (policyOf bytes .frames) (named (policyOf bytes)) (λ g e. allBelow-member (policyOf bytes .frames) g (policyOf bytes .listedFrames) (passed .frames-below) e) f ∙ m
+      vectorOf-bit (policyOf bytes .frames) (named (policyOf bytes))
+      (λ g e. allBelow-member (policyOf bytes .frames) g (policyOf bytes .listedFrames) (passed .frames-below) e) f ∙ m
 
   started-some : 1 ≤ countFrom (hasBit (startGuard drillGiven (policyOf bytes) .tables .exclusion)) 0 (startGuard drillGiven (policyOf bytes) .state .frames)
   unfolding startGuard startState

@@ -19,8 +19,10 @@ use Rattle.model.specs.Guard.{inUser, running, modeOf, stateOf, inMode, withPen
 use Rattle.model.specs.Questions.{pendingInRange}
 use Rattle.laws.proofs.QuestionLaws.{both-yes, both-first, both-second}
 use Rattle.laws.proofs.TableLaws.{is-table, table-same}
-use Rattle.decode.specs.Words.{stateWords, pagesAt, framesAt, entryCountAt, entryPagesAt, entryWords, modeAt, runningAt, devicesAt, pendingAt, pendingPageAt, pendingFrameAt}
-use Rattle.decode.specs.Words.{narrow, field, entryPagesIn, pendingIn, pendingWords, stateIn, modeWord, lastWords, wordsOf, withWords, pagePlaces, modePlaces, pendingPlaces}
+use Rattle.decode.specs.Words.{stateWords, pagesAt, framesAt, entryCountAt, entryPagesAt, entryWords, modeAt, runningAt, devicesAt, pendingAt, pendingPageAt}
+use Rattle.decode.specs.Words.{pendingFrameAt}
+use Rattle.decode.specs.Words.{narrow, field, entryPagesIn, pendingIn, pendingWords, stateIn, modeWord, lastWords, wordsOf, withWords, pagePlaces, modePlaces}
+use Rattle.decode.specs.Words.{pendingPlaces}
 use Rattle.decode.proofs.WordLaws.{narrow-fits}
 use Rattle.encode.proofs.RunLaws.{front-none, front-word, front-table, front-so-far, front-known, front-full}
 

@@ -13,7 +13,8 @@ use Rattle.model.specs.Bits.{present, noExecute, frameOf}
 use Rattle.model.specs.declared.Device.{Device}
 use Rattle.model.specs.Tree.{Tree}
 use Rattle.model.specs.Devices.{inWindow}
-use Rattle.model.specs.Questions.{View, firstNo, syncPageQuestions, syncPageTreeQuestions, fetchPermitted, fetchQuestions, free, everyTouched, writeQuestions, enterQuestions, leaveQuestions, deviceWriteQuestions, askQuestions, commitQuestions, dropQuestions}
+use Rattle.model.specs.Questions.{View, firstNo, syncPageQuestions, syncPageTreeQuestions, fetchPermitted, fetchQuestions, free, everyTouched, writeQuestions}
+use Rattle.model.specs.Questions.{enterQuestions, leaveQuestions, deviceWriteQuestions, askQuestions, commitQuestions, dropQuestions}
 use Rattle.laws.proofs.QuestionLaws.{asked, numbered, all-yes, both-first, both-second, within-low, within-high, within-yes}
 use Rattle.laws.proofs.TouchLaws.{touched-at}
 
@@ -96,9 +97,11 @@ module _ (v : View) where
     unfolding inWindow lastPage lastByte
     deviceWrite-windowed a l m =
         let low : d .first ≤ address / pageBytes =
-        within-low (d .first) (d .last) (address / pageBytes) (both-first (inWindow d (address / pageBytes)) (inWindow d (lastPage address size)) window-ends) in
+        within-low (d .first) (d .last) (address / pageBytes)
+        (both-first (inWindow d (address / pageBytes)) (inWindow d (lastPage address size)) window-ends) in
         let high : lastPage address size ≤ d .last =
-        within-high (d .first) (d .last) (lastPage address size) (both-second (inWindow d (address / pageBytes)) (inWindow d (lastPage address size)) window-ends) in
+        within-high (d .first) (d .last) (lastPage address size)
+        (both-second (inWindow d (address / pageBytes)) (inWindow d (lastPage address size)) window-ends) in
         within-yes (d .first) (d .last) (a / pageBytes) (omega arith) (omega arith)
 
   -- Of an ask (K6): page and frame are in range, nothing is pending, and its frame is not excluded.

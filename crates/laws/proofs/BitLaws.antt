@@ -12,7 +12,8 @@ use Rattle.model.specs.declared.Entry.{Entry}
 use Rattle.model.specs.declared.Entry.the-variants.{Absent, Present}
 use Rattle.model.specs.declared.Fields.{Fields}
 use Rattle.model.specs.Basics.{bit, flag}
-use Rattle.model.specs.Bits.{present, writable, userBit, writeThrough, cacheDisable, noExecute, frameOf, approvedMark, approvedNoExecute, approved, fieldsOf, reserved, valid, takenApart, ordinaryNoExecute, ordinary, inspected}
+use Rattle.model.specs.Bits.{present, writable, userBit, writeThrough, cacheDisable, noExecute, frameOf, approvedMark, approvedNoExecute, approved, fieldsOf}
+use Rattle.model.specs.Bits.{reserved, valid, takenApart, ordinaryNoExecute, ordinary, inspected}
 use Rattle.model.specs.Switch.{noExecuteIn, switched}
 use Rattle.laws.specs.Cache.{OrdinaryCarries, SwitchKeeps}
 use Rattle.laws.proofs.VectorLaws.{flag-weight, flag-small, flag-test, bits-to}

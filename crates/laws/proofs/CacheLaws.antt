@@ -10,7 +10,8 @@ use Rattle.model.specs.Basics.{bit, both}
 use Rattle.model.specs.Bits.{present, writable, writeThrough, cacheDisable, frameOf, approvedMark, fieldsOf, approved, ordinary, inspected}
 use Rattle.model.specs.Sync.{Slot}
 use Rattle.laws.specs.Cache.{ApartYields, isOrdinary, StepCarries, StepWrites}
-use Rattle.laws.proofs.BitLaws.{bit-above, fields-apart, approvedMark-approved, approved-none, present-ordinary, writable-ordinary, approvedMark-ordinary, inspected-keeps, ordinary-carries}
+use Rattle.laws.proofs.BitLaws.{bit-above, fields-apart, approvedMark-approved, approved-none, present-ordinary, writable-ordinary}
+use Rattle.laws.proofs.BitLaws.{approvedMark-ordinary, inspected-keeps, ordinary-carries}
 use Rattle.laws.proofs.SyncLaws.{step-cases}
 
 pub apart-yields : ApartYields
@@ -59,7 +60,8 @@ unfolding Carries both inspected writable
 step-writes rules entry approval =
     let low : 1 ≤ 1 = omega arith in
     let h : 1 < 5 = omega arith in
-    step-cases (λ (s : Slot). Carries 1 (both (not (eqb (frameOf entry) (rules .pending))) (bit 1 entry)) low h (s .entry)) rules entry approval (absent 1 _ low h)
+    step-cases (λ (s : Slot). Carries 1 (both (not (eqb (frameOf entry) (rules .pending))) (bit 1 entry)) low h (s .entry)) rules entry approval
+    (absent 1 _ low h)
     (λ e. mapped 1 _ low h (rules .user) approval)
     (λ p m e. plain 1 _ low h (rules .user) (inspected (fieldsOf entry)) (rw e (writable-ordinary (rules .user) (inspected (fieldsOf entry)))))
     (λ m o e. mapped 1 _ low h (rules .user) (frameOf entry))

@@ -9,8 +9,12 @@ use borrow.Author.Tests.{not-true, not-false}
 use Rattle.model.specs.declared.Answer.the-variants.{Refused}
 use Rattle.model.specs.declared.Called.{Called}
 use Rattle.model.specs.Guard.{Guard, running, inMode, withPending}
-use Rattle.model.specs.Questions.{Question, question, firstNo, View, seen, stateInOrder, syncPageQuestions, syncAllQuestions, syncPageTreeQuestions, syncAllTreeQuestions, fetchQuestions, writeQuestions, enterQuestions, leaveQuestions, deviceWriteQuestions, askQuestions, commitQuestions, dropQuestions}
-use Rattle.model.specs.Calls.{replyOf, settle, Outcome, outcomeBy, refusedOf, Call, syncPage, syncAll, syncPageTree, syncAllTree, fetch, write, enter, leave, deviceWrite, ask, commit, drop, broughtBy, questionsOf, pageSynced, allSynced, pageFrom, allFrom, switchTo, bitPut, pairCommitted, effectOf, answer}
+use Rattle.model.specs.Questions.{Question, question, firstNo, View, seen, stateInOrder, syncPageQuestions, syncAllQuestions, syncPageTreeQuestions}
+use Rattle.model.specs.Questions.{syncAllTreeQuestions, fetchQuestions, writeQuestions, enterQuestions, leaveQuestions, deviceWriteQuestions, askQuestions}
+use Rattle.model.specs.Questions.{commitQuestions, dropQuestions}
+use Rattle.model.specs.Calls.{replyOf, settle, Outcome, outcomeBy, refusedOf, Call, syncPage, syncAll, syncPageTree, syncAllTree, fetch, write, enter, leave}
+use Rattle.model.specs.Calls.{deviceWrite, ask, commit, drop, broughtBy, questionsOf, pageSynced, allSynced, pageFrom, allFrom, switchTo, bitPut, pairCommitted}
+use Rattle.model.specs.Calls.{effectOf, answer}
 use Rattle.laws.proofs.QuestionLaws.{firstNo-yes, firstNo-no, settle-accepted}
 use Rattle.laws.proofs.StateLaws.{running-modeOf, state-no}
 use Rattle.laws.proofs.AcceptedLaws.{fetch-page, enter-page, leave-page}
@@ -49,7 +53,8 @@ module _ (g : Guard) (call : Call) where
 
 -- A state that is not in order: every call refuses it with 7, whatever else it asks.
 pub state-refused : (v : View) (call : Call) → v .stateFits ≡ false → firstNo (questionsOf v call) ≡ 7
-unfolding questionsOf syncPageQuestions syncAllQuestions syncPageTreeQuestions syncAllTreeQuestions fetchQuestions writeQuestions enterQuestions leaveQuestions deviceWriteQuestions askQuestions commitQuestions dropQuestions
+unfolding questionsOf syncPageQuestions syncAllQuestions syncPageTreeQuestions syncAllTreeQuestions fetchQuestions writeQuestions enterQuestions leaveQuestions
+    deviceWriteQuestions askQuestions commitQuestions dropQuestions
 state-refused v (syncPage kernel page) p = firstNo-no 7 _ (state-no _ _ p)
 state-refused v (syncAll kernel) p = firstNo-no 7 _ (state-no _ _ p)
 state-refused v (syncPageTree tree page) p = firstNo-no 7 _ (state-no _ _ p)

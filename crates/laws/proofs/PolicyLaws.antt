@@ -14,8 +14,10 @@ use Rattle.model.specs.Basics.{both, either, within, member}
 use Rattle.model.specs.Sizes.{pagesInRange, framesInRange}
 use Rattle.model.specs.Guard.{vectorBytes}
 use Rattle.model.specs.Policy.{Givens, Policy, numberAt, numbersAt, frameFor}
-use Rattle.model.specs.Questions.{firstNo, sizesInRange, countsInRange, rising, allBelow, policyQuestions, givensInRange, recordQuestions, Lengths, lengthsFit, startQuestions}
-use Rattle.laws.proofs.QuestionLaws.{either-second, both-yes, both-no, both-first, both-second, within-low, within-high, asked, numbered, all-yes, firstNo-both}
+use Rattle.model.specs.Questions.{firstNo, sizesInRange, countsInRange, rising, allBelow, policyQuestions, givensInRange, recordQuestions, Lengths, lengthsFit}
+use Rattle.model.specs.Questions.{startQuestions}
+use Rattle.laws.proofs.QuestionLaws.{either-second, both-yes, both-no, both-first, both-second, within-low, within-high, asked, numbered, all-yes}
+use Rattle.laws.proofs.QuestionLaws.{firstNo-both}
 use Rattle.laws.proofs.StateLaws.{in-order}
 
 -- Numbers in a row: none, one more at the front, how many, and each of them.

@@ -15,7 +15,8 @@ use Rattle.model.specs.Bits.{takenApart}
 use Rattle.model.specs.Tree.{Tree, tablesIn, treeInOrder, placeAbove, Rights, allRights, Walk, meeting, onward, walkFrom, walkOf, flatAt, readsAt}
 use Rattle.model.specs.Sync.{Slot, sweepFrom, entryIn, stepFrom}
 use Rattle.model.specs.Questions.{Question, question, firstNo, seen, inOrder, syncAllQuestions, syncPageQuestions, syncAllTreeQuestions, syncPageTreeQuestions}
-use Rattle.model.specs.Calls.{settle, refusedOf, Call, syncPage, syncAll, syncPageTree, syncAllTree, broughtBy, questionsOf, allSynced, pageFrom, allFrom, effectOf, answer}
+use Rattle.model.specs.Calls.{settle, refusedOf, Call, syncPage, syncAll, syncPageTree, syncAllTree, broughtBy, questionsOf, allSynced, pageFrom, allFrom}
+use Rattle.model.specs.Calls.{effectOf, answer}
 use Rattle.model.specs.Walks.{flatTable}
 use Rattle.laws.specs.Trees.{ReadsWithin, TreeAsFlat, guardFits, TreeRefused}
 use Rattle.laws.proofs.QuestionLaws.{both-first, asked, numbered, all-yes, firstNo-yes, firstNo-no}

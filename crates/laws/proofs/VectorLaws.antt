@@ -97,7 +97,8 @@ byteOf-bits b small =
 -- Two bytes are the same where their bits are.
 pub byteOf-ext : (h k : ℕ → Bool) → ((j : ℕ) → j < 8 → h j ≡ k j) → byteOf h ≡ byteOf k
 unfolding byteOf
-byteOf-ext h k e = cc (e 0 (omega arith), e 1 (omega arith), e 2 (omega arith), e 3 (omega arith), e 4 (omega arith), e 5 (omega arith), e 6 (omega arith), e 7 (omega arith))
+byteOf-ext h k e =
+    cc (e 0 (omega arith), e 1 (omega arith), e 2 (omega arith), e 3 (omega arith), e 4 (omega arith), e 5 (omega arith), e 6 (omega arith), e 7 (omega arith))
 
 -- Two tests of equality that hold together.
 eqb-together : (a b c d : ℕ) → (a ≡ b → c ≡ d) → (c ≡ d → a ≡ b) → eqb a b ≡ eqb c d

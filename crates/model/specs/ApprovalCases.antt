@@ -8,7 +8,8 @@ use Rattle.model.specs.declared.Pending.the-variants.{Nothing, Pair}
 use Rattle.model.specs.declared.Mode.{Mode}
 use Rattle.model.specs.declared.Mode.the-variants.{Kernel, User}
 use Rattle.model.specs.Guard.{tables, Guard, guardOf, stateOf}
-use Rattle.model.specs.Calls.{outcome, accepted, refused, syncPage, syncAll, syncPageTree, syncAllTree, fetch, write, enter, leave, deviceWrite, ask, commit, drop, answer}
+use Rattle.model.specs.Calls.{outcome, accepted, refused, syncPage, syncAll, syncPageTree, syncAllTree, fetch, write, enter, leave, deviceWrite, ask}
+use Rattle.model.specs.Calls.{commit, drop, answer}
 use Rattle.model.specs.Cases.{Case, row}
 use Rattle.model.specs.Further.{threeDevices, with6, shadow6, left6, started6, at0, stays, inState}
 use Rattle.model.specs.Orders.{misfit}
@@ -166,7 +167,8 @@ commitCases =
     -- by the current mode
     ∷ row (answer (asked6 (User 1) user6) commit) (outcome (accepted 1 1) (committed6 (User 1) (set user6 3 0x8000000000006401) (set map6 3 6)))
     -- "and so every unapproved page whose present shadow entry has that frame": one, and two, synchronised while pending and read-only before; in user mode
-    ∷ row (answer (asked6 (Kernel 1) inspected6) commit) (outcome (accepted 2 2) (committed6 (Kernel 1) (set (set shadow6 0 0x6401) 3 0x6401) (set (set map6 0 6) 3 6)))
+    ∷ row (answer (asked6 (Kernel 1) inspected6) commit)
+    (outcome (accepted 2 2) (committed6 (Kernel 1) (set (set shadow6 0 0x6401) 3 0x6401) (set (set map6 0 6) 3 6)))
     ∷ row (answer (asked6 (Kernel 1) (set readOnly6 5 0x8000000000006201)) commit)
     (outcome (accepted 3 3) (committed6 (Kernel 1) (0x6401 ∷ 0x5401 ∷ 0x3401 ∷ 0x6401 ∷ 0x5401 ∷ 0x6401 ∷ []) (6 ∷ 5 ∷ 3 ∷ 6 ∷ 5 ∷ 6 ∷ [])))
     ∷ row (answer (asked6 (User 0) (set user6 0 0x6005)) commit)
@@ -174,7 +176,8 @@ commitCases =
     ∷ row (answer (asked6 (User 5) (set (set user6 0 0x8000000000006205) 5 0x6005)) commit)
     (outcome (accepted 3 3)
     (committed6 (User 5)
-    (0x8000000000006401 ∷ 0x8000000000005401 ∷ 0x8000000000003401 ∷ 0x8000000000006401 ∷ 0x8000000000005401 ∷ 0x8000000000006401 ∷ []) (6 ∷ 5 ∷ 3 ∷ 6 ∷ 5 ∷ 6 ∷ [])))
+    (0x8000000000006401 ∷ 0x8000000000005401 ∷ 0x8000000000003401 ∷ 0x8000000000006401 ∷ 0x8000000000005401 ∷ 0x8000000000006401 ∷ [])
+    (6 ∷ 5 ∷ 3 ∷ 6 ∷ 5 ∷ 6 ∷ [])))
     -- not a page with another number in the map, or with that one, whatever its entry has; not an entry with bit 0 clear or of another frame
     ∷ row (answer (asked6 (Kernel 1) others6) commit) (outcome (accepted 1 1) (alone6 others6))
     ∷ row (answer (asked6 (Kernel 1) moreOthers6) commit) (outcome (accepted 1 1) (alone6 moreOthers6))
@@ -286,7 +289,8 @@ pendingCases =
     ∷ stays (asked6 (Kernel 1) shadow6) (syncPage (replicate 6 0x10006003) 3) (accepted 0 0)
     -- by the pair, where a damaged vector lacks its bit; frame 0
     ∷ row (answer (paired 3 6 0x28) (syncPage (replicate 6 0x6007) 0)) (outcome (accepted 1 0) (pendingWith (Kernel 1) (Pair 3 6) inspected6 map6 0x28))
-    ∷ row (answer (paired 0 0 0x29) (syncPage (replicate 6 0x7) 3)) (outcome (accepted 1 0) (pendingWith (Kernel 1) (Pair 0 0) (set shadow6 3 0x8000000000000205) map6 0x29))
+    ∷ row (answer (paired 0 0 0x29) (syncPage (replicate 6 0x7) 3))
+    (outcome (accepted 1 0) (pendingWith (Kernel 1) (Pair 0 0) (set shadow6 3 0x8000000000000205) map6 0x29))
     -- from a tree
     ∷ row (answer (asked6 (Kernel 1) shadow6) (syncPageTree (oneTable 512 0x6007) 0)) (outcome (accepted 1 0) (asked6 (Kernel 1) inspected6))
     ∷ row (answer (asked6 (User 1) user6) (syncAllTree (oneTable 512 0x6017)))

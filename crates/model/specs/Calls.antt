@@ -14,7 +14,8 @@ use Rattle.model.specs.declared.Answer.the-variants.{Done, Refused}
 use Rattle.model.specs.declared.Called.{Called}
 use Rattle.model.specs.Basics.{differs}
 use Rattle.model.specs.Sizes.{pageBytes, lastPage}
-use Rattle.model.specs.Guard.{none, Tables, withShadow, withMap, withExclusion, Guard, guardOf, hasBit, withBit, inUser, modeOf, pendingFrame, isAsked, inMode, withPending}
+use Rattle.model.specs.Guard.{none, Tables, withShadow, withMap, withExclusion, Guard, guardOf, hasBit, withBit, inUser, modeOf, pendingFrame, isAsked}
+use Rattle.model.specs.Guard.{inMode, withPending}
 use Rattle.model.specs.Policy.{Givens, Policy, policyOf, startGuard, zeroState}
 use Rattle.model.specs.Bits.{frameOf}
 use Rattle.model.specs.Tree.{Tree, flatAt}
@@ -22,7 +23,9 @@ use Rattle.model.specs.Devices.{deviceAt}
 use Rattle.model.specs.Approvals.{committedSlot}
 use Rattle.model.specs.Sync.{Rules, rules, Slot, Sweep, sweepFrom, entryIn, stepFrom}
 use Rattle.model.specs.Switch.{switchedAll, changes}
-use Rattle.model.specs.Questions.{Question, firstNo, View, seen, lengthsOf, startQuestions, syncPageQuestions, syncAllQuestions, syncPageTreeQuestions, syncAllTreeQuestions, fetchQuestions, writeQuestions, enterQuestions, leaveQuestions, deviceWriteQuestions, askQuestions, commitQuestions, dropQuestions}
+use Rattle.model.specs.Questions.{Question, firstNo, View, seen, lengthsOf, startQuestions, syncPageQuestions, syncAllQuestions, syncPageTreeQuestions}
+use Rattle.model.specs.Questions.{syncAllTreeQuestions, fetchQuestions, writeQuestions, enterQuestions, leaveQuestions, deviceWriteQuestions}
+use Rattle.model.specs.Questions.{askQuestions, commitQuestions, dropQuestions}
 
 -- Whether a call was accepted; the number of the question that refused it, or 0; and the call's two numbers.
 pub record Reply : Type 0 where

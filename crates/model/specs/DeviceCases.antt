@@ -10,7 +10,8 @@ use Rattle.model.specs.Guard.{Guard, guardOf, stateOf}
 use Rattle.model.specs.Policy.{givenOf}
 use Rattle.model.specs.Devices.{deviceOf}
 use Rattle.model.specs.Tree.{treeOf}
-use Rattle.model.specs.Calls.{Outcome, outcome, accepted, refused, startOf, syncPage, syncAll, syncPageTree, syncAllTree, fetch, write, enter, leave, deviceWrite}
+use Rattle.model.specs.Calls.{Outcome, outcome, accepted, refused, startOf, syncPage, syncAll, syncPageTree, syncAllTree, fetch, write, enter, leave}
+use Rattle.model.specs.Calls.{deviceWrite}
 use Rattle.model.specs.Cases.{row, Case}
 use Rattle.model.specs.Further.{twoEntries, threeDevices, startRefused, with6, shadow6, started6, left6, leaving, stays}
 

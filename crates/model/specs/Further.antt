@@ -16,7 +16,8 @@ use Rattle.model.specs.Guard.{tables, withShadow, withMap, withExclusion
 use Rattle.model.specs.Policy.{givenOf}
 use Rattle.model.specs.Devices.{deviceOf}
 use Rattle.model.specs.Bits.{takenApart}
-use Rattle.model.specs.Calls.{Reply, Outcome, outcome, outcomeBy, accepted, refused, startOf, Call, syncPage, syncAll, fetch, write, enter, leave, deviceWrite, answer}
+use Rattle.model.specs.Calls.{Reply, Outcome, outcome, outcomeBy, accepted, refused, startOf, Call, syncPage, syncAll, fetch, write, enter, leave}
+use Rattle.model.specs.Calls.{deviceWrite, answer}
 use Rattle.model.specs.Cases.{started, startedUser, holding, mapStarted, Row, Case, row}
 
 -- V 6, F 8, n 3, e 2, pages 1, 2 and 4, frames 5, 3 and 5.

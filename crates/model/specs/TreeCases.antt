@@ -318,7 +318,8 @@ treeCases =
     -- keep their numbers
     ∷ row (answer (filled (Kernel 1)) (syncAllTree (twoTree 0x1006 sixEntries))) (outcome (accepted 6 0) (with6 (Kernel 1) (replicate 6 0)))
     ∷ row (answer (filled (Kernel 1)) (syncAllTree (twoTree 0x0010000000001007 sixEntries))) (outcome (accepted 6 0) (with6 (Kernel 1) (replicate 6 0)))
-    ∷ row (answer (filled (Kernel 1)) (syncAllTree (threeTree 0x4000000000001007 0x2007 sixEntries))) (outcome (accepted 6 0) (with6 (Kernel 1) (replicate 6 0)))
+    ∷ row (answer (filled (Kernel 1)) (syncAllTree (threeTree 0x4000000000001007 0x2007 sixEntries)))
+    (outcome (accepted 6 0) (with6 (Kernel 1) (replicate 6 0)))
     ∷ row (answer (filled (Kernel 1)) (syncAllTree (twoTree 0x2007 sixEntries))) (outcome (accepted 6 0) (with6 (Kernel 1) (replicate 6 0)))
     ∷ row (answer (filled (Kernel 1)) (syncAllTree (twoTree 0x1087 sixEntries))) (outcome (accepted 6 0) (with6 (Kernel 1) (replicate 6 0)))
     -- One page: an alias that joins, an ordinary one, one in user mode with both cache bits, one that a marker makes absent, one of a large page that

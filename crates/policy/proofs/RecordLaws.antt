@@ -11,7 +11,8 @@ use borrow.Author.Tests.{le-leb, lt-leb, eq-eqb, ne-eqb}
 use Rattle.model.specs.Basics.{both, within}
 use Rattle.model.specs.Sizes.{pagesInRange, framesInRange, devicesInRange}
 use Rattle.model.specs.Policy.{Policy, Givens, numberAt, numbersAt, policyOf}
-use Rattle.model.specs.Questions.{Question, question, firstNo, sizesInRange, countsInRange, rising, allBelow, policyQuestions, givensInRange, recordQuestions, Lengths, lengthsFit, startQuestions}
+use Rattle.model.specs.Questions.{Question, question, firstNo, sizesInRange, countsInRange, rising, allBelow, policyQuestions, givensInRange, recordQuestions}
+use Rattle.model.specs.Questions.{Lengths, lengthsFit, startQuestions}
 use Rattle.laws.proofs.QuestionLaws.{both-true, firstNo-yes, firstNo-no, firstNo-front, firstNo-back, numbered}
 use Rattle.laws.proofs.CallLaws.{passed, stopped, none-left}
 use Rattle.laws.proofs.PolicyLaws.{numbersAt-none, numbersAt-more, rising-refuses, allBelow-none, allBelow-more, allBelow-no}

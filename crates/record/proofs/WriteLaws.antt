@@ -20,7 +20,8 @@ use Rattle.record_model.specs.Record.{policyBy, numberBytes, numbersBytes, reco
 use Rattle.laws.proofs.QuestionLaws.{firstNo-yes, firstNo-no, firstNo-front, firstNo-back, numbered}
 use Rattle.laws.proofs.CallLaws.{passed, stopped, none-left, settle-refused-by}
 use Rattle.laws.proofs.PolicyLaws.{Passed, policy-passed}
-use Rattle.record_model.proofs.RecordLaws.{length-numbersBytes, numbersBytes-append, written-length, write-passed, pages-exact, frames-exact, room-there, written-is}
+use Rattle.record_model.proofs.RecordLaws.{length-numbersBytes, numbersBytes-append, written-length, write-passed, pages-exact, frames-exact, room-there}
+use Rattle.record_model.proofs.RecordLaws.{written-is}
 use Rattle.record.proofs.ArrayLaws.{array-front, array-ends}
 
 -- Two stores put a number.

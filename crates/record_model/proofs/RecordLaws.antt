@@ -16,10 +16,12 @@ use Rattle.model.specs.Guard.{Tables}
 use Rattle.model.specs.Policy.{Givens, Policy, numberAt, numbersAt, policyOf, startGuard}
 use Rattle.model.specs.Questions.{firstNo, allBelow, policyQuestions, givensInRange, recordQuestions, lengthsOf, lengthsFit, startQuestions}
 use Rattle.model.specs.Calls.{accepted, outcome, startOf}
-use Rattle.record_model.specs.Record.{numberBytes, numbersBytes, recordOf, arraysExact, writeRecordQuestions, Written, written, writeRecordOf, WrittenStarts, WrittenAgain}
+use Rattle.record_model.specs.Record.{numberBytes, numbersBytes, recordOf, arraysExact, writeRecordQuestions, Written, written, writeRecordOf}
+use Rattle.record_model.specs.Record.{WrittenStarts, WrittenAgain}
 use Rattle.laws.proofs.QuestionLaws.{both-first, both-second, asked, numbered, all-yes, firstNo-yes, firstNo-back, firstNo-both, settle-accepted, settle-number}
 use Rattle.laws.proofs.CallLaws.{none-left}
-use Rattle.laws.proofs.PolicyLaws.{length-numbersAt, getD-numbersAt, exact-yes, policy-asked, record-length, allBelow-more, allBelow-head, allBelow-tail, allBelow-wider, Passed, policy-passed}
+use Rattle.laws.proofs.PolicyLaws.{length-numbersAt, getD-numbersAt, exact-yes, policy-asked, record-length, allBelow-more, allBelow-head, allBelow-tail}
+use Rattle.laws.proofs.PolicyLaws.{allBelow-wider, Passed, policy-passed}
 
 -- The bytes of numbers in a row: how many, those of two rows, and each number read back.
 pub length-numbersBytes : (numbers : List ℕ) → length (numbersBytes numbers) ≡ 2 * length numbers
@@ -42,7 +44,8 @@ number-back [] i h = absurd (omega arith)
 number-back (x ∷ numbers) zero h = omega arith
 number-back (x ∷ numbers) (suc i) h =
     let e : 2 * suc i ≡ suc (suc (2 * i)) = omega arith in
-    ap (numberAt (numbersBytes (x ∷ numbers))) e ∙ (number-later (x % 256) (x / 256) (numbersBytes numbers) (2 * i) ∙ number-back numbers i (le-of-suc-le-suc h))
+    ap (numberAt (numbersBytes (x ∷ numbers))) e ∙
+    (number-later (x % 256) (x / 256) (numbersBytes numbers) (2 * i) ∙ number-back numbers i (le-of-suc-le-suc h))
 
 -- The bytes of 16-bit numbers are bytes.
 bytes-small : (numbers : List ℕ) → allBelow 65536 numbers ≡ true → (i : ℕ) → i < length (numbersBytes numbers) → getD (numbersBytes numbers) i 0 < 256

@@ -35,7 +35,8 @@ module _ (from t t₀ : List ℕ) (i : ℕ) (e : t ≡ take i from ++ drop i t�
       let inside : i < length t₀ = omega arith in
       let here : i < length from = omega arith in
       let long : length (take i from) ≡ i = length-take-le i from (omega arith) in
-      rw (e, drop-cons t₀ i 0 inside, set-at (take i from) (getD t₀ i 0) (drop (suc i) t₀) (getD from i 0) i long, add-one, take-suc from i 0 here) (sym (append-snoc (take i from) (getD from i 0) (drop (suc i) t₀)))
+      rw (e, drop-cons t₀ i 0 inside, set-at (take i from) (getD t₀ i 0) (drop (suc i) t₀) (getD from i 0) i long, add-one, take-suc from i 0 here)
+      (sym (append-snoc (take i from) (getD from i 0) (drop (suc i) t₀)))
 
   pub copy-ends : length t ≤ i → length t ≡ length t₀ → i ≤ length t₀ → t ≡ take (length t₀) from
   copy-ends h l b =

@@ -24,7 +24,8 @@ use Rattle.start.specs.Start.{refusedStart, acceptedStart, entryTable, w
 use Rattle.start.proofs.TablesSet.{entries-are, first-is, each-length}
 
 -- The answer of an accepted start, made of the numbers that were read.
-pub accepted-is : (given : Givens) (bytes : List ℕ) (count entries pages frames first devices : ℕ) (entry : List ℕ) → count ≡ numberAt bytes 4 → entries ≡ numberAt bytes 6
+pub accepted-is : (given : Givens) (bytes : List ℕ) (count entries pages frames first devices : ℕ) (entry : List ℕ) → count ≡ numberAt bytes 4
+    → entries ≡ numberAt bytes 6
     → entry ≡ entryTable bytes entries → pages ≡ numberAt bytes 0 → frames ≡ numberAt bytes 2 → first ≡ numberAt bytes 8
     → policyOf bytes .entryCount ≤ policyOf bytes .count → 1 ≤ policyOf bytes .count → devices ≡ given .devices
     → _≡_ {A = Called}

@@ -101,7 +101,8 @@ module _ (bytes : List ℕ) (count : ℕ) (read : count ≡ numberAt bytes 4) wh
   unfolding policyOf
   numbers-inside l = omega arith
 
-  pub pages-inside : (t t₀ : List ℕ) → length t ≡ length t₀ → length t₀ ≡ policyOf bytes .pages → allBelow (policyOf bytes .pages) (policyOf bytes .listedPages) ≡ true
+  pub pages-inside : (t t₀ : List ℕ) → length t ≡ length t₀ → length t₀ ≡ policyOf bytes .pages
+      → allBelow (policyOf bytes .pages) (policyOf bytes .listedPages) ≡ true
       → allBelow (length t) (numbersAt bytes 8 count) ≡ true
   pages-inside t t₀ e l h = rw (pages-are, e, l) h
 

@@ -41,7 +41,8 @@ bit-either k a b =
     ∙ two-digits bitOr either refl refl refl refl (a / 2 ^ k % 2) (b / 2 ^ k % 2) (omega arith) (omega arith)
 
 -- The rights that an entry of level 1 or 2 leaves, gathered in words.
-pub gathered-by : (level all any entry : ℕ) → eqb level 3 ≡ false → gathered level (rightsBy all any) (fieldsOf entry) ≡ rightsBy (bitAnd all entry) (bitOr any entry)
+pub gathered-by : (level all any entry : ℕ) → eqb level 3 ≡ false
+    → gathered level (rightsBy all any) (fieldsOf entry) ≡ rightsBy (bitAnd all entry) (bitOr any entry)
 unfolding gathered rightsBy fieldsOf writable userBit noExecute
 gathered-by level all any entry e = rw (e, bit-both 1 all entry, bit-both 2 all entry, bit-either 63 any entry)
 
@@ -263,7 +264,9 @@ module _ (all any entry : ℕ) (l : any < 2 ^ 64) (m : entry < 2 ^ 64) where
       let flat : ℕ = frameOf entry * 2 ^ 12 + entry / 2 ^ 3 % 4 * 2 ^ 3 + bitAnd all entry / 2 % 4 * 2 + 1 + bitOr any entry / 2 ^ 63 * 2 ^ 63 in
       let o : bitOr any entry < 2 ^ 64 = or-lt 64 any entry l m in
       let same : flat ≡ lastFlat (rightsBy all any) (takenApart entry) = flat-present all any entry (takenApart entry) refl (fieldsOf entry) l m there in
-      let d = flat-digits (frameOf entry) (entry / 2 ^ 3 % 4) (bitAnd all entry / 2 % 4) (bitOr any entry / 2 ^ 63) (omega arith) (omega arith) (omega arith) (omega arith) in
+      let d =
+      flat-digits (frameOf entry) (entry / 2 ^ 3 % 4) (bitAnd all entry / 2 % 4) (bitOr any entry / 2 ^ 63) (omega arith) (omega arith) (omega arith)
+      (omega arith) in
       apart-same narrowed flat (narrowed-low ∙ ap (λ (x : ℕ). entry / 2 ^ 3 % 4 * 2 ^ 3 + bitAnd all entry / 2 % 4 * 2 + x) (parts .0) ∙ sym (d .0))
       (narrowed-frame ∙ sym (d .1)) (narrowed-reserved ∙ parts .1 ∙ sym (d .2)) (at-63 ∙ sym (d .3))
       ∙ ap takenApart same

@@ -13,7 +13,8 @@ use Rattle.model.specs.declared.Entry.the-variants.{Absent, Present}
 use Rattle.model.specs.declared.Fields.{Fields}
 use Rattle.model.specs.Basics.{both, bit}
 use Rattle.model.specs.Bits.{frameOf, fieldsOf, takenApart}
-use Rattle.model.specs.Tree.{tablesIn, placeAbove, Rights, gathered, flatEntry, largeEntry, treeOf, Walk, ending, meeting, onward, walkFrom, walkOf, flatAt, readsAt}
+use Rattle.model.specs.Tree.{tablesIn, placeAbove, Rights, gathered, flatEntry, largeEntry, treeOf, Walk, ending, meeting, onward, walkFrom, walkOf, flatAt}
+use Rattle.model.specs.Tree.{readsAt}
 use Rattle.laws.proofs.BitLaws.{present-valid, valid-parts, fields-apart}
 use Rattle.tree.specs.declared.Below.{Below}
 use Rattle.tree.specs.declared.Below.the-variants.{Table, Large, Nowhere}
@@ -120,7 +121,8 @@ module _ (words : List ℕ) (page all any number reads : ℕ) where
     walk-here p same = rw (← (high-place p page lower same l m)) (walk-in p lower h)
 
     -- By what follows: where it ends, and where it goes on.
-    ends-here : (r : Part) → ((p : ℕ) → p / 512 ≡ page / 512 → (follows p lower entry .flat ≡ flatIn words r p) × (reads + 1 + length (follows p lower entry .met) ≡ readsIn r))
+    ends-here : (r : Part)
+        → ((p : ℕ) → p / 512 ≡ page / 512 → (follows p lower entry .flat ≡ flatIn words r p) × (reads + 1 + length (follows p lower entry .met) ≡ readsIn r))
         → Gives words page (suc lower) all any number reads r
     unfolding meeting
     ends-here r rest p same = rw (walk-here p same) ((rest p same) .0, (let n = (rest p same) .1 in omega (arith, n)))
@@ -204,7 +206,8 @@ module _ (words : List ℕ) (page level all any number reads : ℕ) (e : Entry) 
             large-last : (p : ℕ) → lastFlat (rightsBy all any) (takenApart (upper + p % 512 * 2 ^ 12))
                 ≡ flatEntry (gathered 2 (rightsBy all any) x) x (x .frame + p % 2 ^ 9)
             large-last p =
-                rw (← (gathered-same (rightsBy all any) x), ← fields) (added-last upper (p % 512) low-bits (omega arith) (rightsBy all any) (present-valid upper x present))
+                rw (← (gathered-same (rightsBy all any) x), ← fields)
+                (added-last upper (p % 512) low-bits (omega arith) (rightsBy all any) (present-valid upper x present))
 
         -- No rights are gathered above level 2.
         pub level-large-all : all ≡ 2 ^ 64 - 1 → any ≡ 0 → x .frame % 512 ≡ 0

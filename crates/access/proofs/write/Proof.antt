@@ -21,7 +21,9 @@ shared-slice-read-first c = search (needs, written-first-in)
 last-page-requires : tie.Need-last-page-requires
 last-page-requires c κs =
     let a = c .before .before .before .before .before .before .before .before .args in
-    written-last _ (a .shadow .now) (a .exclusion .now) _ (c .before .before .before .before .before .write-in-order .ensures) _ _ (c .before .before .before .before .if1 .left) _ _ (c .before .before .before .in-user .ensures) (c .before .before .write-refusal .ensures) (c .before .if2 .left)
+    written-last _ (a .shadow .now) (a .exclusion .now) _ (c .before .before .before .before .before .write-in-order .ensures) _ _
+    (c .before .before .before .before .if1 .left) _ _ (c .before .before .before .in-user .ensures) (c .before .before .write-refusal .ensures)
+    (c .before .if2 .left)
 
 mul-last : tie.Need-mul-last
 mul-last c = search (needs, written-last-in)

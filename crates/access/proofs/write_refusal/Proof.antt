@@ -12,11 +12,13 @@ returns-2 c = search (needs, write-absent)
 
 shared-slice-read-first : tie.Need-shared-slice-read-first
 shared-slice-read-first c =
-    first-in _ _ _ _ _ (c .before .before .before .before .write-length .ensures) (c .before .before .before .if1 .left) (c .before .before .write-exists .ensures) (c .before .if2 .left) _ (c .before .before .before .before .before .before .before .pre .0)
+    first-in _ _ _ _ _ (c .before .before .before .before .write-length .ensures) (c .before .before .before .if1 .left)
+    (c .before .before .write-exists .ensures) (c .before .if2 .left) _ (c .before .before .before .before .before .before .before .pre .0)
 
 last-page-requires : tie.Need-last-page-requires
 last-page-requires c κs =
-    write-last _ _ _ _ _ (c .before .before .before .before .write-length .ensures) (c .before .before .before .if1 .left) (c .before .before .write-exists .ensures) (c .before .if2 .left) (c .before .before .before .before .before .before .before .fits .pages)
+    write-last _ _ _ _ _ (c .before .before .before .before .write-length .ensures) (c .before .before .before .if1 .left)
+    (c .before .before .write-exists .ensures) (c .before .if2 .left) (c .before .before .before .before .before .before .before .fits .pages)
 
 mul-last : tie.Need-mul-last
 mul-last c = search (needs, last-in)

@@ -26,7 +26,8 @@ loop-less : tie.Need-loop-less Inv-loop μ-loop
 loop-less c = omega arith
 
 loop-again : tie.Need-loop-again Inv-loop μ-loop
-loop-again c = (rest-more _ _ _ (c .before .before .loop .i) (c .before .before .loop .all) (c .before .before .loop .inv .0) (c .before .loop-test .taken) (c .shared-slice-known .given _ .fits), omega arith)
+loop-again c =
+    (rest-more _ _ _ (c .before .before .loop .i) (c .before .before .loop .all) (c .before .before .loop .inv .0) (c .before .loop-test .taken) (c .shared-slice-known .given _ .fits), omega arith)
 
 returns : tie.Need-returns Inv-loop μ-loop
 returns c = search (needs, rest-over)

@@ -15,7 +15,8 @@ returns-2 c =
     let b = c .before .before .before .before in
     let u = b .before .before .before in
     let a = u .before .before .before .before .before .args in
-    transfer-kept _ _ _ (u .usable .ensures) (b .before .before .if1 .left) _ (b .before .state-in .ensures) _ _ _ (a .window) _ _ _ _ _ _ (b .device-write .ensures)
+    transfer-kept _ _ _ (u .usable .ensures) (b .before .before .if1 .left) _ (b .before .state-in .ensures) _ _ _ (a .window) _ _ _ _ _ _
+    (b .device-write .ensures)
     (c .before .before .reply2 .ensures .0) (search needs)
 
 pub device-write-spec : {M : Type 1} → statement M

@@ -12,13 +12,15 @@ use Rattle.model.specs.declared.Pending.the-variants.{Pair}
 use Rattle.model.specs.declared.State.{State}
 use Rattle.model.specs.Guard.{Tables, Guard, guardOf, running, modeOf, inMode, withPending}
 use Rattle.model.specs.Questions.{firstNo, seen, pendingInRange}
-use Rattle.model.specs.Calls.{settle, Outcome, refusedOf, Call, syncPage, syncAll, syncPageTree, syncAllTree, fetch, write, enter, leave, deviceWrite, ask, commit, drop, broughtBy, questionsOf, effectOf, answer, pageSynced, allSynced, pageFrom, allFrom, switchTo, bitPut, pairCommitted}
+use Rattle.model.specs.Calls.{settle, Outcome, refusedOf, Call, syncPage, syncAll, syncPageTree, syncAllTree, fetch, write, enter, leave, deviceWrite, ask}
+use Rattle.model.specs.Calls.{commit, drop, broughtBy, questionsOf, effectOf, answer, pageSynced, allSynced, pageFrom, allFrom, switchTo, bitPut, pairCommitted}
 use Rattle.laws.proofs.StateLaws.{inUser-modeOf, running-modeOf}
 use Rattle.laws.proofs.CallLaws.{effects, effect-runs}
 use Rattle.laws.proofs.AcceptedLaws.{ask-page, ask-frame}
 use Rattle.laws.proofs.QuestionLaws.{both-yes}
 use Rattle.laws.proofs.TableLaws.{length-table}
-use Rattle.decode.specs.Words.{stateWords, pagesAt, framesAt, entryWords, modeAt, runningAt, entryPagesIn, stateIn, field, numbersBy, modePlaces, pendingPlaces, changedBy, withWords, lendable, runAfter}
+use Rattle.decode.specs.Words.{stateWords, pagesAt, framesAt, entryWords, modeAt, runningAt, entryPagesIn, stateIn, field, numbersBy, modePlaces, pendingPlaces}
+use Rattle.decode.specs.Words.{changedBy, withWords, lendable, runAfter}
 use Rattle.decode.proofs.WordLaws.{narrow-below, run-lent}
 use Rattle.encode.proofs.StateLaws.{mode-decoded, page-decoded, pending-decoded}
 use Rattle.boundary.specs.Boundary.{replied, callAt, StateHeld}

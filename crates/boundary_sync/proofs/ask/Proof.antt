@@ -12,7 +12,9 @@ state-in-requires : tie.Need-state-in-requires
 state-in-requires c κs = search (needs, run-used)
 
 put-paired-requires : tie.Need-put-paired-requires
-put-paired-requires c κs = run-used _ _ _ _ (c .before .before .before .before .before .before .before .before .before .usable .ensures) (c .before .before .before .before .before .before .before .before .if1 .left)
+put-paired-requires c κs =
+    run-used _ _ _ _ (c .before .before .before .before .before .before .before .before .before .usable .ensures)
+    (c .before .before .before .before .before .before .before .before .if1 .left)
 
 returns-2 : tie.Need-returns-2
 returns-2 c = search (needs, ask-called)

@@ -1,6 +1,7 @@
 -- `drill_calls::call` meets its contract.
 use borrow.Author.Needs.{needs}
-use Rattle.drill_calls.proofs.CallLaws.{sync-page-answered, sync-all-answered, fetch-answered, write-answered, enter-answered, leave-answered, device-write-answered}
+use Rattle.drill_calls.proofs.CallLaws.{sync-page-answered, sync-all-answered, fetch-answered, write-answered, enter-answered, leave-answered}
+use Rattle.drill_calls.proofs.CallLaws.{device-write-answered}
 use Rattle.drill_calls.proofs.call.Statement.{statement}
 use Rattle.drill_calls.proofs.call.Tie as tie
 

@@ -7,7 +7,8 @@ use Rattle.lines.proofs.entry_line.Tie as tie
 
 returns : tie.Need-returns
 unfolding hexDigits
-returns c = cc (div-one (c .before .before .before .before .before .before .before .before .before .before .before .before .before .before .before .before .args .entry))
+returns c =
+    cc (div-one (c .before .before .before .before .before .before .before .before .before .before .before .before .before .before .before .before .args .entry))
 
 pub entry-line-spec : {M : Type 1} → statement M
 entry-line-spec =

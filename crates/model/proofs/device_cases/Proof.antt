@@ -9,7 +9,8 @@ use Rattle.model.proofs.device_cases.Statement.{statement}
 use Rattle.model.proofs.device_cases.Tie as tie
 
 returns : tie.Need-returns
-unfolding computed row twoEntries threeDevices zeros startRefused sixPages with6 shadow6 started6 left6 stays startWith ofDevices manyFrames lastOf64 cards windowed deviceCases
+unfolding computed row twoEntries threeDevices zeros startRefused sixPages with6 shadow6 started6 left6 stays startWith ofDevices manyFrames lastOf64 cards
+    windowed deviceCases
 returns c = hold deviceCases refl
 
 pub device-cases-spec : {M : Type 1} → statement M

@@ -1,6 +1,7 @@
 -- C1 to C12: each row's outcome computes to the one that document 01 fixes.
 use mathlib.Core.Path.{refl}
-use Rattle.model.specs.Cases.{policyBytes, twoDevices, theStart, started, startedUser, only, startedWritable, fourPages, holding, shadowStarted, mapStarted, row, cases}
+use Rattle.model.specs.Cases.{policyBytes, twoDevices, theStart, started, startedUser, only, startedWritable, fourPages, holding, shadowStarted}
+use Rattle.model.specs.Cases.{mapStarted, row, cases}
 use Rattle.model.proofs.Computed.{computed}
 use Rattle.model.proofs.CaseLaws.{hold}
 use Rattle.model.proofs.twelve_cases.Statement.{statement}

@@ -10,10 +10,14 @@ set-pages-requires : tie.Need-set-pages-requires
 set-pages-requires c κs = pages-ready _ _ _ _ (c .before .before .before .start-question .ensures) (c .before .before .if1 .left)
 
 set-vector-requires : tie.Need-set-vector-requires
-set-vector-requires c κs = vector-ready _ _ _ _ (c .before .before .before .before .before .before .before .before .before .start-question .ensures) (c .before .before .before .before .before .before .before .before .if1 .left)
+set-vector-requires c κs =
+    vector-ready _ _ _ _ (c .before .before .before .before .before .before .before .before .before .start-question .ensures)
+    (c .before .before .before .before .before .before .before .before .if1 .left)
 
 accepted-start-requires : tie.Need-accepted-start-requires
-accepted-start-requires c κs = answer-ready _ _ _ _ (c .before .before .before .before .before .before .before .before .before .before .before .before .start-question .ensures) (c .before .before .before .before .before .before .before .before .before .before .before .if1 .left)
+accepted-start-requires c κs =
+    answer-ready _ _ _ _ (c .before .before .before .before .before .before .before .before .before .before .before .before .start-question .ensures)
+    (c .before .before .before .before .before .before .before .before .before .before .before .if1 .left)
 
 returns-2 : tie.Need-returns-2
 returns-2 c = search (needs, start-accepts)

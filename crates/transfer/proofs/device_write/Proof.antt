@@ -18,7 +18,8 @@ returns-2 c = search (needs, transfer-refused)
 last-page-requires : tie.Need-last-page-requires
 last-page-requires c κs =
     let a = c .before .before .before .before .before .args in
-    transferred-last _ (a .exclusion .now) _ (a .window) _ _ _ _ (c .before .before .before .device-write-in-order .ensures) (c .before .before .if1 .left) _ (c .before .device-write-refusal .ensures) (c .if2 .left)
+    transferred-last _ (a .exclusion .now) _ (a .window) _ _ _ _ (c .before .before .before .device-write-in-order .ensures) (c .before .before .if1 .left) _
+    (c .before .device-write-refusal .ensures) (c .if2 .left)
 
 returns-3 : tie.Need-returns-3
 returns-3 c = search (needs, transfer-accepted)

@@ -1,6 +1,7 @@
 -- `transfer::device_write_refusal` meets its contract.
 use borrow.Author.Needs.{needs}
-use Rattle.transfer.proofs.TransferLaws.{transfer-unlike, transfer-unlisted, transfer-absent, transfer-last, transfer-rises, transfer-frames, transfer-outside, transfer-excluded, transfer-fits}
+use Rattle.transfer.proofs.TransferLaws.{transfer-unlike, transfer-unlisted, transfer-absent, transfer-last, transfer-rises, transfer-frames}
+use Rattle.transfer.proofs.TransferLaws.{transfer-outside, transfer-excluded, transfer-fits}
 use Rattle.transfer.proofs.device_write_refusal.Statement.{statement}
 use Rattle.transfer.proofs.device_write_refusal.Tie as tie
 
@@ -17,14 +18,16 @@ last-page-requires : tie.Need-last-page-requires
 last-page-requires c κs =
     let b = c .before .before in
     let a = b .before .before .before .before .args in
-    transfer-last _ _ (a .exclusion .now) (a .window) _ _ _ _ (b .before .before .device-length .ensures) (b .before .if1 .left) (b .if2 .left) _ (c .before .transfer-exists .ensures) (c .if3 .left)
+    transfer-last _ _ (a .exclusion .now) (a .window) _ _ _ _ (b .before .before .device-length .ensures) (b .before .if1 .left) (b .if2 .left) _
+    (c .before .transfer-exists .ensures) (c .if3 .left)
     (b .before .before .before .before .fits .frames)
 
 in-window-requires : tie.Need-in-window-requires
 in-window-requires c κs =
     let b = c .before .before .before in
     let a = b .before .before .before .before .args in
-    transfer-rises _ _ (a .exclusion .now) (a .window) _ _ _ _ (b .before .before .device-length .ensures) (b .before .if1 .left) (b .if2 .left) _ (c .before .before .transfer-exists .ensures) (c .before .if3 .left)
+    transfer-rises _ _ (a .exclusion .now) (a .window) _ _ _ _ (b .before .before .device-length .ensures) (b .before .if1 .left) (b .if2 .left) _
+    (c .before .before .transfer-exists .ensures) (c .before .if3 .left)
     _ (c .last-page .ensures)
 
 returns-4 : tie.Need-returns-4
@@ -35,7 +38,8 @@ none-set-requires c κs =
     let b = c .before .before .before in
     let d = b .before .before in
     let a = d .before .before .before .before .args in
-    transfer-frames _ _ (a .exclusion .now) (a .window) _ _ _ _ (d .before .before .device-length .ensures) (d .before .if1 .left) (d .if2 .left) _ (b .before .transfer-exists .ensures) (b .if3 .left)
+    transfer-frames _ _ (a .exclusion .now) (a .window) _ _ _ _ (d .before .before .device-length .ensures) (d .before .if1 .left) (d .if2 .left) _
+    (b .before .transfer-exists .ensures) (b .if3 .left)
     _ _ (c .before .before .last-page .ensures) (search needs)
 
 returns-5 : tie.Need-returns-5

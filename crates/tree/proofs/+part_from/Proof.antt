@@ -2,7 +2,8 @@
 use Prim.Native.Nat.{ℕ, _+_, _-_, _*_, _/_, _%_, _^_, _<_}
 use native.Mathlib.Omega.{arith}
 use lib.ListN.{length}
-use Rattle.tree.proofs.WalkLaws.{gives-alike, gives-outside, gives-table, level-absent, level-3, level-2, level-misaligned, level-large-all, large-low, large-odd, table-sound, met-in}
+use Rattle.tree.proofs.WalkLaws.{gives-alike, gives-outside, gives-table, level-absent, level-3, level-2, level-misaligned, level-large-all, large-low}
+use Rattle.tree.proofs.WalkLaws.{large-odd, table-sound, met-in}
 use borrow.Author.Needs.{needs}
 use borrow.Fn.Kinds.{In}
 use borrow.Fn.PlainCycle.{Measures, is, falls, and}

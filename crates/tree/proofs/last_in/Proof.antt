@@ -9,17 +9,20 @@ use Rattle.tree.proofs.last_in.Tie as tie
 
 mul-result : tie.Need-mul-result
 mul-result c =
-    let inside : c .before .below .given .0 .0 * 512 + c .before .before .before .args .page % 512 < length (c .before .before .before .args .words .now) = search (needs, table-in) in
+    let inside : c .before .below .given .0 .0 * 512 + c .before .before .before .args .page % 512 < length
+    (c .before .before .before .args .words .now) = search (needs, table-in) in
     omega arith
 
 add-result : tie.Need-add-result
 add-result c =
-    let inside : c .before .below .given .0 .0 * 512 + c .before .before .before .args .page % 512 < length (c .before .before .before .args .words .now) = search (needs, table-in) in
+    let inside : c .before .below .given .0 .0 * 512 + c .before .before .before .args .page % 512 < length
+    (c .before .before .before .args .words .now) = search (needs, table-in) in
     omega arith
 
 mul-result-2 : tie.Need-mul-result-2
 mul-result-2 c =
-    let inside : c .before .below .given .0 .0 * 512 + c .before .before .before .args .page % 512 < length (c .before .before .before .args .words .now) = search (needs, table-in) in
+    let inside : c .before .below .given .0 .0 * 512 + c .before .before .before .args .page % 512 < length
+    (c .before .before .before .args .words .now) = search (needs, table-in) in
     omega arith
 
 shared-slice-read-result : tie.Need-shared-slice-read-result

@@ -21,13 +21,15 @@ shr-if1 : tie.Need-shr-if1
 shr-if1 c = omega (arith, depth-most _ _ _ (c .before .pre))
 
 returns : tie.Need-returns
-returns c = ((tt, omega arith), too-many-bits _ _ _ _ (depth-least _ _ _ (c .before .before .pre)) (depth-most _ _ _ (c .before .before .pre)) _ _ (c .if1 .taken))
+returns c =
+    ((tt, omega arith), too-many-bits _ _ _ _ (depth-least _ _ _ (c .before .before .pre)) (depth-most _ _ _ (c .before .before .pre)) _ _ (c .if1 .taken))
 
 returns-2 : tie.Need-returns-2
 returns-2 c =
     let inside = root-in _ _ _ (c .before .before .before .pre) in (
       (table-sound _ _ inside, omega arith),
-      from-root _ _ _ _ (depth-least _ _ _ (c .before .before .before .pre)) (depth-most _ _ _ (c .before .before .before .pre)) _ _ (c .before .if1 .left) (alike-same _ _ refl refl refl) (gives-table _ _ _ _ _ _ _ (c .if2 .taken) inside),
+      from-root _ _ _ _ (depth-least _ _ _ (c .before .before .before .pre)) (depth-most _ _ _ (c .before .before .before .pre)) _ _ (c .before .if1 .left)
+          (alike-same _ _ refl refl refl) (gives-table _ _ _ _ _ _ _ (c .if2 .taken) inside),
     )
 
 part-from-requires : tie.Need-part-from-requires

@@ -17,7 +17,8 @@ part-of-requires c κs = search (needs, tree-yes)
 returns-3 : tie.Need-returns-3
 returns-3 c =
     let gives = c .before .before .before .part-of .ensures .1 _ refl in
-    walk-done _ _ _ _ (c .before .before .before .before .before .before .if1 .left) (c .before .before .before .before .before .in-order .ensures) _ _ (c .before .before .before .before .if2 .left)
+    walk-done _ _ _ _ (c .before .before .before .before .before .before .if1 .left) (c .before .before .before .before .before .in-order .ensures) _ _
+    (c .before .before .before .before .if2 .left)
     (c .before .flat .ensures ∙ c .before .before .last-in .ensures ∙ sym (gives .0)) (c .reads-in .ensures ∙ sym (gives .1))
 
 pub walk-spec : {M : Type 1} → statement M
