@@ -13,7 +13,8 @@ use Rattle.model.specs.declared.State.{State}
 use Rattle.model.specs.declared.Answer.the-variants.{Done, Refused}
 use Rattle.model.specs.declared.Called.{Called}
 use Rattle.model.specs.Basics.{both, everyFrom}
-use Rattle.model.specs.Guard.{none, Tables, withShadow, withMap, withExclusion, withThree, Guard, guardOf, vectorBytes, hasBit, withBit, inUser, isPending, pendingFrame, isAsked, withPending}
+use Rattle.model.specs.Guard.{none, Tables, withShadow, withMap, withExclusion, withThree, Guard, guardOf, vectorBytes, hasBit, withBit, inUser, isPending}
+use Rattle.model.specs.Guard.{pendingFrame, isAsked, withPending}
 use Rattle.model.specs.Approvals.{mapsWritable, committedSlot}
 use Rattle.model.specs.Sync.{Sweep, sweep, sweepFrom}
 use Rattle.model.specs.Questions.{Question, pendingInRange, stateInOrder, inOrder, askQuestions, pageUnapproved, commitQuestions, dropQuestions}
@@ -63,7 +64,8 @@ writable-over frame shadow i all inv past =
 
 -- An ask.
 module _ (s : State) (shadow map exclusion : List ℕ) (page frame : ℕ) (r7 : Bool)
-    (e7 : r7 ≡ inOrder (stateInOrder s) (eqb (length shadow) (s .pages) ∷ eqb (length map) (s .pages) ∷ eqb (length exclusion) (vectorBytes (s .frames)) ∷ [])) where
+    (e7 : r7 ≡ inOrder (stateInOrder s)
+    (eqb (length shadow) (s .pages) ∷ eqb (length map) (s .pages) ∷ eqb (length exclusion) (vectorBytes (s .frames)) ∷ [])) where
   abbrev before : Tables → Guard
   before t = guardOf s (withThree shadow map exclusion t)
 
@@ -88,7 +90,8 @@ module _ (s : State) (shadow map exclusion : List ℕ) (page frame : ℕ) (r7 : 
       pub ask-20 : (r : Called) → not r20 ≡ true → r .answer ≡ Refused 20 → r .state ≡ s → Refuses r
       unfolding questionsOf askQuestions
       ask-20 r n a i t =
-          refused-by (before t) (ask page frame) r 20 (sym (passed 7 20 r7 _ _ e7 y7 (passed 9 20 r9 _ _ e9 y9 (stopped 20 r20 _ _ e20-is n)))) (λ z. omega arith) a i
+          refused-by (before t) (ask page frame) r 20 (sym (passed 7 20 r7 _ _ e7 y7 (passed 9 20 r9 _ _ e9 y9 (stopped 20 r20 _ _ e20-is n))))
+          (λ z. omega arith) a i
 
       -- Page and frame fit 16 bits, and the shadow table has V entries.
       in-range : both (ltb page (s .pages)) (ltb frame (s .frames)) ≡ true
@@ -184,13 +187,17 @@ module _ (s : State) (shadow map : List ℕ) (r7 : Bool)
       unfolding questionsOf commitQuestions pageUnapproved isPending effectOf pairCommitted outcomeBy replyOf pendingFrame isAsked
       commit-accepted user after shadow′ map′ x y free u p q t =
           accepted-by (lent t) commit _
-          (sym (passed 7 0 r7 _ _ e7 y7 (rw is (sym (firstNo-yes 20 _ (eq-eqb (getD map page none) none (sym has ∙ free)) ∙ firstNo-yes 22 _ refl ∙ sym none-left)))))
-          (rw q (ap (λ (z : Sweep). outcome (accepted (z .changed) (z .joined)) (guardOf (withPending s Nothing) (withShadow (z .shadow) (withMap (z .map) t)))) (rw u at p ∙ sym same)))
+          (sym (passed 7 0 r7 _ _ e7 y7
+          (rw is (sym (firstNo-yes 20 _ (eq-eqb (getD map page none) none (sym has ∙ free)) ∙ firstNo-yes 22 _ refl ∙ sym none-left)))))
+          (rw q
+          (ap (λ (z : Sweep). outcome (accepted (z .changed) (z .joined)) (guardOf (withPending s Nothing) (withShadow (z .shadow) (withMap (z .map) t))))
+          (rw u at p ∙ sym same)))
         where
-          same : sweepFrom (λ q entry approval. committedSlot (inUser (s .mode)) (pendingFrame (s .pending)) (isAsked (s .pending) q) entry approval) 0 shadow map
-              ≡ sweepFrom (committing (inUser (s .mode)) page frame) 0 shadow map
+          same : sweepFrom (λ q entry approval. committedSlot (inUser (s .mode)) (pendingFrame (s .pending)) (isAsked (s .pending) q) entry approval) 0 shadow
+              map ≡ sweepFrom (committing (inUser (s .mode)) page frame) 0 shadow map
           same =
-              ap (λ (pending : Pending). sweepFrom (λ q entry approval. committedSlot (inUser (s .mode)) (pendingFrame pending) (isAsked pending q) entry approval) 0 shadow map) is
+              ap (λ (pending : Pending).
+              sweepFrom (λ q entry approval. committedSlot (inUser (s .mode)) (pendingFrame pending) (isAsked pending q) entry approval) 0 shadow map) is
 
 -- A drop.
 module _ (s : State) (exclusion : List ℕ) (r7 : Bool) (e7 : r7 ≡ inOrder (stateInOrder s) (eqb (length exclusion) (vectorBytes (s .frames)) ∷ [])) where

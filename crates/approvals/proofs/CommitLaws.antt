@@ -76,8 +76,8 @@ module _ (user : Bool) (frame : ℕ) (few : frame < 4096) where
 
   -- Page p approved, and then a commit that asks for no page, is a commit that asks for p.
   first-then : (p k : ℕ) (shadow map : List ℕ) → p < length shadow → p < length map
-      → appended (sweep [] [] (differs (getD shadow p 0) e) (differs (getD map p 0) frame)) (sweepFrom (joining user frame) k (set shadow p e) (set map p frame))
-      ≡ sweepFrom (committing user (p + k) frame) k shadow map
+      → appended (sweep [] [] (differs (getD shadow p 0) e) (differs (getD map p 0) frame))
+      (sweepFrom (joining user frame) k (set shadow p e) (set map p frame)) ≡ sweepFrom (committing user (p + k) frame) k shadow map
   unfolding sweepFrom
   first-then p k [] map a b = absurd (not-suc-le-zero a)
   first-then p k (s ∷ shadow) [] a b = absurd (not-suc-le-zero b)
@@ -85,7 +85,12 @@ module _ (user : Bool) (frame : ℕ) (few : frame < 4096) where
       rw (zero-add k, eq-eqb k k refl, asked-is s m, ← (past-asked k (suc k) shadow map (omega arith)), approved-stays)
       (first-here s m (sweepFrom (joining user frame) (suc k) shadow map))
   first-then (suc p) k (s ∷ shadow) (m ∷ map) a b =
-      rw (suc-add p k, ne-eqb k (suc (p + k)) (λ q. omega arith), ← (add-suc p k), ← (first-then p (suc k) shadow map (le-of-suc-le-suc a) (le-of-suc-le-suc b)))
+      rw (
+        suc-add p k,
+        ne-eqb k (suc (p + k)) (λ q. omega arith),
+        ← (add-suc p k),
+        ← (first-then p (suc k) shadow map (le-of-suc-le-suc a) (le-of-suc-le-suc b)),
+      )
       (first-later _ _ s m (joining user frame k s m) (sweepFrom (joining user frame) (suc k) (set shadow p e) (set map p frame)))
 
   -- The same of the tables that the code has.

@@ -129,8 +129,8 @@ fn commit_pages(user: bool, page: u16, frame: u16, shadow: &mut [u64], map: &mut
     }
 }
 
-// Commits what is pending: the asked page and every other that has the frame are approved with it. Where nothing is pending 20 is answered yes, so that 22 may be
-// asked first.
+// Commits what is pending: the asked page and every other that has the frame are approved with it. Where nothing is pending 20 is answered yes, so that 22
+// may be asked first.
 pub fn commit(s: State, shadow: &mut [u64], map: &mut [u16]) -> Called
     ensures { λ r. ⌜ ((t : Tables) → outcomeBy r (withShadow (now (shadow .exit)) (withMap (now (map .exit)) t))
         ≡ answer (guardOf s (withShadow (now (shadow .entry)) (withMap (now (map .entry)) t))) Calls.commit) ⌝ }

@@ -46,7 +46,16 @@ module _ (r : Rules) (k a : ℕ) (e : Entry) (apart : e ≡ takenApart k) where
       → n ≡ ordinary true (inspected (fieldsOf k)) → slot n a ≡ step r k a
   unfolding step stepOf
   step-pending x n p q l o u =
-      rw (← apart, p, eq-eqb a none q, lt-leb (r .frames) (x .frame) l, eq-eqb (x .frame) (r .pending) o, u, fields-apart k x (sym apart ∙ p), inspected-mode (r .user) x)
+      rw (
+        ← apart,
+        p,
+        eq-eqb a none q,
+        lt-leb (r .frames) (x .frame) l,
+        eq-eqb (x .frame) (r .pending) o,
+        u,
+        fields-apart k x (sym apart ∙ p),
+        inspected-mode (r .user) x,
+      )
 
   pub step-excluded : (x : Fields) (n : ℕ) (b : Bool) → e ≡ Present x → a ≡ 65535 → x .frame < r .frames → (x .frame ≡ r .pending → ⊥)
       → b ≡ r .excluded (x .frame) → b ≡ true → n ≡ approved (r .user) (x .frame) → slot n (x .frame) ≡ step r k a

@@ -91,9 +91,9 @@ fn put_approval(map: &mut [u16], i: usize, approval: u16, joined: u64) -> u64
     joined + 1
 }
 
-// The step of page i on its kernel entry, stored in both tables and counted. It asks that both tables have the page and that the
-// vector has its length, which question 7 and the limit at V have settled in every caller, and that no more pages were counted than lie before it. The map's number is settled before an entry is written,
-// so that it is read once.
+// The step of page i on its kernel entry, stored in both tables and counted. It asks that both tables have the page and that the vector has its length,
+// which question 7 and the limit at V have settled in every caller, and that no more pages were counted than lie before it. The map's number is settled
+// before an entry is written, so that it is read once.
 pub fn sync_at(
     user: bool,
     frames: u16,

@@ -98,7 +98,8 @@ module _ (s : State) (kernel shadow map exclusion : List ℕ) (r : Bool)
           refused-by (before t) (syncPage kernel page) _ 9 (sym (passed 7 9 r _ _ asked yes7 (stopped 9 b _ _ exists p))) (λ z. omega arith) refl refl
 
       pub page-accepted : (u : Bool) (f : ℕ) (shadow′ map′ : List ℕ) (x y : ℕ) → not b ≡ false → u ≡ inUser (s .mode) → f ≡ pendingFrame (s .pending)
-          → sweep shadow′ map′ x y ≡ stored page (sweep shadow map 0 0) (step (rulesBy u (s .frames) f exclusion) (getD kernel page 0) (getD map page 0)) → (t : Tables)
+          → sweep shadow′ map′ x y ≡ stored page (sweep shadow map 0 0) (step (rulesBy u (s .frames) f exclusion) (getD kernel page 0) (getD map page 0))
+          → (t : Tables)
           → keptBy (Done x y) s (withThree shadow′ map′ exclusion t) ≡ answer (before t) (syncPage kernel page)
       unfolding questionsOf syncPageQuestions effectOf
       page-accepted u f shadow′ map′ x y there q w p t =

@@ -56,6 +56,7 @@ module _ (s : State) (shadow map exclusion : List ℕ) (kernel : ℕ → ℕ) wh
   one-given u f page shadow′ map′ x y inside q w p t =
       let z : Slot = step (rulesOf s exclusion) (kernel page) (getD map page none) in
       let e
-      : sweep shadow′ map′ x y ≡ sweep (set shadow page (z .entry)) (set map page (z .approval)) (differs (getD shadow page 0) (z .entry)) (differs (getD map page none) (z .approval))
+      : sweep shadow′ map′ x y ≡ sweep (set shadow page (z .entry)) (set map page (z .approval)) (differs (getD shadow page 0) (z .entry))
+      (differs (getD map page none) (z .approval))
       = simp zero-add at (rw (q, w, getD-inside map page 0 none inside) at p) in
       ap (allSynced (guard t)) e

@@ -23,7 +23,8 @@ fn sync_pages(
     requires { ⌜ (length (now shadow) ≡ length (now kernel)) × (length (now map) ≡ length (now kernel))
         × (length (now exclusion) ≡ vectorBytes frames) ⌝ }
     ensures { λ r. ⌜ sweep (now (shadow .exit)) (now (map .exit)) (r .changed) (r .joined)
-        ≡ sweepFrom (stepFrom (rulesBy user frames pending (now (exclusion .entry))) (entryIn (now (kernel .entry)))) 0 (now (shadow .entry)) (now (map .entry)) ⌝ }
+        ≡ sweepFrom (stepFrom (rulesBy user frames pending (now (exclusion .entry))) (entryIn (now (kernel .entry)))) 0
+        (now (shadow .entry)) (now (map .entry)) ⌝ }
 {
     let mut counts = Counts {
         changed: 0,

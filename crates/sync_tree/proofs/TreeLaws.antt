@@ -91,7 +91,8 @@ module _ (s : State) (words : List ℕ) (root depth : ℕ) (shadow map exclusion
             → keptBy (Refused 9) s (withThree shadow map exclusion t) ≡ answer (before-tree t) (syncPageTree tree page)
         unfolding questionsOf syncPageTreeQuestions
         page-tree-9 p t =
-            refused-by (before-tree t) (syncPageTree tree page) _ 9 (sym (passed 7 9 r _ _ asked yes7 (passed 17 9 w _ _ walks yes17 (stopped 9 b _ _ exists p)))) (λ z. omega arith) refl refl
+            refused-by (before-tree t) (syncPageTree tree page) _ 9
+            (sym (passed 7 9 r _ _ asked yes7 (passed 17 9 w _ _ walks yes17 (stopped 9 b _ _ exists p)))) (λ z. omega arith) refl refl
 
         pub page-tree-accepted : (u : Bool) (f k : ℕ) (shadow′ map′ : List ℕ) (x y : ℕ) → not b ≡ false → u ≡ inUser (s .mode) → f ≡ pendingFrame (s .pending)
             → takenApart k ≡ takenApart (flatAt tree page)

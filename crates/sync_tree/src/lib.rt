@@ -78,7 +78,8 @@ fn sync_run(
     counts: Counts,
 ) -> Counts
     requires { ⌜ (pages .first ≤ pages .end) × (pages .end ≤ length (now shadow)) × (length (now map) ≡ length (now shadow)) × (counts .changed ≤ pages .first)
-        × (counts .joined ≤ pages .first) × (length (now exclusion) ≡ vectorBytes (rules .frames)) × Holds (source .large) (now words) source (pages .end - pages .first) ⌝ }
+        × (counts .joined ≤ pages .first) × (length (now exclusion) ≡ vectorBytes (rules .frames))
+        × Holds (source .large) (now words) source (pages .end - pages .first) ⌝ }
     ensures { λ r. ⌜ (sweep (now (shadow .exit)) (now (map .exit)) (r .changed) (r .joined)
         ≡ sweptFrom (stepFrom (rulesIn rules (now (exclusion .entry))) (entryBy (now (words .entry)) source (pages .first))) (pages .first)
         (pages .end - pages .first) (sweep (now (shadow .entry)) (now (map .entry)) (counts .changed) (counts .joined)))
@@ -118,8 +119,8 @@ fn sync_part(
     counts: Counts,
 ) -> Counts
     requires { ⌜ (pages .first ≤ pages .end) × (pages .end ≤ length (now shadow)) × (length (now map) ≡ length (now shadow)) × (counts .changed ≤ pages .first)
-        × (counts .joined ≤ pages .first) × (length (now exclusion) ≡ vectorBytes (rules .frames)) × (pages .first % 512 ≡ 0) × (pages .end - pages .first ≤ 512)
-        × Sound (now words) part ⌝ }
+        × (counts .joined ≤ pages .first) × (length (now exclusion) ≡ vectorBytes (rules .frames)) × (pages .first % 512 ≡ 0)
+        × (pages .end - pages .first ≤ 512) × Sound (now words) part ⌝ }
     ensures { λ r. ⌜ (sweep (now (shadow .exit)) (now (map .exit)) (r .changed) (r .joined)
         ≡ sweptFrom (stepFrom (rulesIn rules (now (exclusion .entry))) (flatIn (now (words .entry)) part)) (pages .first) (pages .end - pages .first)
         (sweep (now (shadow .entry)) (now (map .entry)) (counts .changed) (counts .joined)))
@@ -182,9 +183,11 @@ fn sync_parts(
     shadow: &mut [u64],
     map: &mut [u16],
 ) -> Counts
-    requires { ⌜ (treeInOrder (treeOf (now words) root depth) ≡ true) × (length (now map) ≡ length (now shadow)) × (length (now exclusion) ≡ vectorBytes (rules .frames)) ⌝ }
+    requires { ⌜ (treeInOrder (treeOf (now words) root depth) ≡ true) × (length (now map) ≡ length (now shadow))
+        × (length (now exclusion) ≡ vectorBytes (rules .frames)) ⌝ }
     ensures { λ r. ⌜ sweep (now (shadow .exit)) (now (map .exit)) (r .changed) (r .joined)
-        ≡ sweepFrom (stepFrom (rulesIn rules (now (exclusion .entry))) (flatAt (treeOf (now (words .entry)) root depth))) 0 (now (shadow .entry)) (now (map .entry)) ⌝ }
+        ≡ sweepFrom (stepFrom (rulesIn rules (now (exclusion .entry))) (flatAt (treeOf (now (words .entry)) root depth))) 0
+        (now (shadow .entry)) (now (map .entry)) ⌝ }
 {
     let mut counts = Counts {
         changed: 0,

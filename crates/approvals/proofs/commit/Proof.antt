@@ -17,7 +17,8 @@ returns-3 c = search (needs, commit-20)
 commit-pages-requires : tie.Need-commit-pages-requires
 commit-pages-requires c κs =
     let below =
-    commit-below _ (now (c .before .before .before .before .before .before .before .before .before .before .before .before .before .args .shadow)) (now (c .before .before .before .before .before .before .before .before .before .before .before .before .before .args .map)) _
+    commit-below _ (now (c .before .before .before .before .before .before .before .before .before .before .before .before .before .args .shadow))
+    (now (c .before .before .before .before .before .before .before .before .before .before .before .before .before .args .map)) _
     (c .before .before .before .before .before .before .before .before .before .before .commit-in-order .ensures)
     (c .before .before .before .before .before .before .before .before .before .if1 .left) _ _
     (c .before .before .before .before .before .before .before .pending .given .1) in

@@ -6,7 +6,10 @@ use Rattle.approvals.proofs.commit_pages.Tie as tie
 
 returns : tie.Need-returns
 returns c =
-    asked-first _ _ (c .before .before .before .before .before .before .before .before .before .before .before .before .before .before .before .before .before .before .before .before .pre .3) _ _ _ _ _ _ _ _ _ _ _ (c .before .before .before .before .before .before .before .before .before .before .before .before .before .before .before .before .before .before .before .before .pre .2) (c .before .before .before .before .before .before .before .before .before .before .before .before .before .before .before .before .before .before .before .before .pre .0) (c .before .before .before .before .before .before .before .before .before .before .before .before .before .before .before .approve-at .ensures .0) (c .before .before .before .before .before .before .before .before .commit-others .ensures .0)
+    let asked = c .before .before .before .before .before .before .before .before .before .before .before .before .before .before .before in
+    let pre = asked .before .before .before .before .before .pre in
+    asked-first _ _ (pre .3) _ _ _ _ _ _ _ _ _ _ _ (pre .2) (pre .0) (asked .approve-at .ensures .0)
+    (c .before .before .before .before .before .before .before .before .commit-others .ensures .0)
 
 pub commit-pages-spec : {M : Type 1} → statement M
 commit-pages-spec =

@@ -13,20 +13,28 @@ returns-2 c = search (needs, page-absent)
 
 mul-sync-at : tie.Need-mul-sync-at
 mul-sync-at c =
-    let inside = flat-page-kernel _ _ _ _ _ _ (c .before .before .before .before .before .sync-in-order .ensures) (c .before .before .before .before .if1 .left) _ _ (c .before .before .before .page-exists .ensures) (c .before .before .if2 .left) in
+    let inside =
+    flat-page-kernel _ _ _ _ _ _ (c .before .before .before .before .before .sync-in-order .ensures) (c .before .before .before .before .if1 .left) _ _
+    (c .before .before .before .page-exists .ensures) (c .before .before .if2 .left) in
     omega arith
 
 shared-slice-read-sync-at : tie.Need-shared-slice-read-sync-at
 shared-slice-read-sync-at c =
-    flat-page-kernel _ _ _ _ _ _ (c .before .before .before .before .before .before .sync-in-order .ensures) (c .before .before .before .before .before .if1 .left) _ _ (c .before .before .before .before .page-exists .ensures) (c .before .before .before .if2 .left)
+    flat-page-kernel _ _ _ _ _ _ (c .before .before .before .before .before .before .sync-in-order .ensures)
+    (c .before .before .before .before .before .if1 .left) _ _ (c .before .before .before .before .page-exists .ensures) (c .before .before .before .if2 .left)
 
 sync-at-requires : tie.Need-sync-at-requires
 sync-at-requires c κs = (
-  flat-page-shadow _ _ _ _ _ _ (c .before .before .before .before .before .before .before .before .sync-in-order .ensures) (c .before .before .before .before .before .before .before .if1 .left) _ _ (c .before .before .before .before .before .before .page-exists .ensures) (c .before .before .before .before .before .if2 .left),
-  flat-page-map _ _ _ _ _ _ (c .before .before .before .before .before .before .before .before .sync-in-order .ensures) (c .before .before .before .before .before .before .before .if1 .left) _ _ (c .before .before .before .before .before .before .page-exists .ensures) (c .before .before .before .before .before .if2 .left),
+  flat-page-shadow _ _ _ _ _ _ (c .before .before .before .before .before .before .before .before .sync-in-order .ensures)
+      (c .before .before .before .before .before .before .before .if1 .left) _ _ (c .before .before .before .before .before .before .page-exists .ensures)
+      (c .before .before .before .before .before .if2 .left),
+  flat-page-map _ _ _ _ _ _ (c .before .before .before .before .before .before .before .before .sync-in-order .ensures)
+      (c .before .before .before .before .before .before .before .if1 .left) _ _ (c .before .before .before .before .before .before .page-exists .ensures)
+      (c .before .before .before .before .before .if2 .left),
   search needs,
   search needs,
-  flat-vector _ _ _ _ _ _ (c .before .before .before .before .before .before .before .before .sync-in-order .ensures) (c .before .before .before .before .before .before .before .if1 .left),
+  flat-vector _ _ _ _ _ _ (c .before .before .before .before .before .before .before .before .sync-in-order .ensures)
+      (c .before .before .before .before .before .before .before .if1 .left),
 )
 
 returns-3 : tie.Need-returns-3

@@ -13,8 +13,10 @@ returns-2 c = search (needs, all-tree-17)
 sync-parts-requires : tie.Need-sync-parts-requires
 sync-parts-requires c κs = (
   tree-yes _ _ _ _ (c .before .before .before .before .before .in-order .ensures) (c .before .before .before .before .if2 .left),
-  tree-map _ _ _ _ _ (c .before .before .before .before .before .before .before .three-tables-in-order .ensures) (c .before .before .before .before .before .before .if1 .left),
-  tree-vector _ _ _ _ _ (c .before .before .before .before .before .before .before .three-tables-in-order .ensures) (c .before .before .before .before .before .before .if1 .left),
+  tree-map _ _ _ _ _ (c .before .before .before .before .before .before .before .three-tables-in-order .ensures)
+      (c .before .before .before .before .before .before .if1 .left),
+  tree-vector _ _ _ _ _ (c .before .before .before .before .before .before .before .three-tables-in-order .ensures)
+      (c .before .before .before .before .before .before .if1 .left),
 )
 
 returns-3 : tie.Need-returns-3

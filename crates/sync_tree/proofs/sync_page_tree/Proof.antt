@@ -23,8 +23,10 @@ sync-at-requires : tie.Need-sync-at-requires
 sync-at-requires c κs =
     let seven = c .before .before .before .before .before .before .before .before .before .before .before .before .three-tables-in-order .ensures in
     let nine = c .before .before .before .before .before .before .before .before .page-exists .ensures in (
-      tree-page-shadow _ _ _ _ _ seven (c .before .before .before .before .before .before .before .before .before .before .before .if1 .left) _ _ nine (c .before .before .before .before .before .before .before .if3 .left),
-      tree-page-map _ _ _ _ _ seven (c .before .before .before .before .before .before .before .before .before .before .before .if1 .left) _ _ nine (c .before .before .before .before .before .before .before .if3 .left),
+      tree-page-shadow _ _ _ _ _ seven (c .before .before .before .before .before .before .before .before .before .before .before .if1 .left) _ _ nine
+          (c .before .before .before .before .before .before .before .if3 .left),
+      tree-page-map _ _ _ _ _ seven (c .before .before .before .before .before .before .before .before .before .before .before .if1 .left) _ _ nine
+          (c .before .before .before .before .before .before .before .if3 .left),
       omega arith,
       omega arith,
       tree-vector _ _ _ _ _ seven (c .before .before .before .before .before .before .before .before .before .before .before .if1 .left),
@@ -33,9 +35,16 @@ sync-at-requires c κs =
 returns-4 : tie.Need-returns-4
 returns-4 c =
     let part = c .before .before .before .before .before .before .before .before .before .before .before .part-of .ensures .1 _ refl in
-    let apart = c .before .before .before .before .before .before .before .narrow .ensures ∙ ap takenApart (c .before .before .before .before .before .before .before .before .before .before .last-in .ensures ∙ sym (part .0)) in
-    page-tree-accepted _ _ _ _ _ _ _ _ (c .before .before .before .before .before .before .before .before .before .before .before .before .before .before .before .before .before .three-tables-in-order .ensures) (c .before .before .before .before .before .before .before .before .before .before .before .before .before .before .before .before .if1 .left) _ (c .before .before .before .before .before .before .before .before .before .before .before .before .before .before .before .in-order .ensures) (c .before .before .before .before .before .before .before .before .before .before .before .before .before .before .if2 .left) _ _
-    (c .before .before .before .before .before .before .before .before .before .before .before .before .before .page-exists .ensures) _ _ _ _ _ _ _ (c .before .before .before .before .before .before .before .before .before .before .before .before .if3 .left) (c .before .before .before .before .before .before .before .before .before .in-user .ensures) (c .before .before .before .before .before .before .before .before .pending-frame .ensures) apart (c .before .before .before .before .sync-at .ensures .0)
+    let apart =
+    c .before .before .before .before .before .before .before .narrow .ensures ∙ ap takenApart
+    (c .before .before .before .before .before .before .before .before .before .before .last-in .ensures ∙ sym (part .0)) in
+    let nine = c .before .before .before .before .before .before .before .before .before .before .before .before in
+    let seventeen = nine .before .before in
+    let seven = seventeen .before .before in
+    page-tree-accepted _ _ _ _ _ _ _ _ (seven .before .three-tables-in-order .ensures) (seven .if1 .left) _ (seventeen .before .in-order .ensures)
+    (seventeen .if2 .left) _ _ (nine .before .page-exists .ensures) _ _ _ _ _ _ _ (nine .if3 .left)
+    (c .before .before .before .before .before .before .before .before .before .in-user .ensures)
+    (c .before .before .before .before .before .before .before .before .pending-frame .ensures) apart (c .before .before .before .before .sync-at .ensures .0)
 
 pub sync-page-tree-spec : {M : Type 1} → statement M
 sync-page-tree-spec =

@@ -11,17 +11,26 @@ enum-known-below c = search needs
 
 mul-t17 : tie.Need-mul-t17
 mul-t17 c =
-    let inside = table-holds (c .before .before .before .before .before .before .before .args .words .now) (c .before .before .before .before .before .before .before .args .part) _ (c .before .before .before .before .before .before .before .pre .8) (c .before .before .before .before .before .before .before .pre .7) (c .before .below .given .0 .0) (search needs) in
+    let start = c .before .before .before .before .before .before .before in
+    let inside = table-holds (start .args .words .now) (start .args .part) _ (start .pre .8) (start .pre .7) (c .before .below .given .0 .0) (search needs) in
     omega (arith, inside)
 
 sync-run-requires : tie.Need-sync-run-requires
-sync-run-requires c κs = (search needs, search needs, search needs, search needs, search needs, search needs, table-holds (c .before .before .before .before .before .before .before .before .before .args .words .now) (c .before .before .before .before .before .before .before .before .before .args .part) _ (c .before .before .before .before .before .before .before .before .before .pre .8) (c .before .before .before .before .before .before .before .before .before .pre .7) (c .before .before .before .below .given .0 .0) (search needs))
+sync-run-requires c κs =
+    let start = c .before .before .before .before .before .before .before .before .before in
+    let part = c .before .before .before .below .given .0 .0 in
+    let holds = table-holds (start .args .words .now) (start .args .part) _ (start .pre .8) (start .pre .7) part (search needs) in
+    (search needs, search needs, search needs, search needs, search needs, search needs, holds)
 
 enum-known-below-2 : tie.Need-enum-known-below-2
 enum-known-below-2 c = search needs
 
 sync-run-requires-2 : tie.Need-sync-run-requires-2
-sync-run-requires-2 c κs = (search needs, search needs, search needs, search needs, search needs, search needs, large-holds (c .before .before .before .before .before .before .before .before .before .args .words .now) (c .before .before .before .before .before .before .before .before .before .args .part) _ (c .before .before .before .before .before .before .before .before .before .pre .8) (c .before .before .before .before .before .before .before .before .before .pre .7) (c .before .before .before .below2 .given .0 .0) (search needs))
+sync-run-requires-2 c κs =
+    let start = c .before .before .before .before .before .before .before .before .before in
+    let part = c .before .before .before .below2 .given .0 .0 in
+    let holds = large-holds (start .args .words .now) (start .args .part) _ (start .pre .8) (start .pre .7) part (search needs) in
+    (search needs, search needs, search needs, search needs, search needs, search needs, holds)
 
 enum-told : tie.Need-enum-told
 enum-told c = search needs
@@ -37,8 +46,9 @@ same-length-2 c = search needs
 
 returns : tie.Need-returns
 returns c =
+    let start = c .before .before .before .before .before .before .before .before .before .before .before .before .before .before in
     let run = c .before .before .before .before .sync-run .ensures in
-    (part-table _ _ _ _ _ _ _ _ (c .before .before .before .before .before .before .before .before .before .before .before .before .before .before .pre .6) (c .before .before .before .before .before .before .before .before .before .before .before .before .before .before .pre .7) refl refl _ (search needs) refl refl (run .0), run .1, run .2)
+    (part-table _ _ _ _ _ _ _ _ (start .pre .6) (start .pre .7) refl refl _ (search needs) refl refl (run .0), run .1, run .2)
 
 same-length-3 : tie.Need-same-length-3
 same-length-3 c = search needs
@@ -48,8 +58,9 @@ same-length-4 c = search needs
 
 returns-2 : tie.Need-returns-2
 returns-2 c =
+    let start = c .before .before .before .before .before .before .before .before .before .before .before .before .before .before in
     let run = c .before .before .before .before .sync-run2 .ensures in
-    (part-large _ _ _ _ _ _ _ _ (c .before .before .before .before .before .before .before .before .before .before .before .before .before .before .pre .6) (c .before .before .before .before .before .before .before .before .before .before .before .before .before .before .pre .7) refl refl _ (search needs) refl refl (run .0), run .1, run .2)
+    (part-large _ _ _ _ _ _ _ _ (start .pre .6) (start .pre .7) refl refl _ (search needs) refl refl (run .0), run .1, run .2)
 
 same-length-5 : tie.Need-same-length-5
 same-length-5 c = search needs
@@ -59,8 +70,9 @@ same-length-6 c = search needs
 
 returns-3 : tie.Need-returns-3
 returns-3 c =
+    let start = c .before .before .before .before .before .before .before .before .before .before .before .before .before in
     let run = c .before .before .before .before .sync-run3 .ensures in
-    (part-nowhere _ _ _ _ _ _ _ _ (c .before .before .before .before .before .before .before .before .before .before .before .before .before .pre .6) (c .before .before .before .before .before .before .before .before .before .before .before .before .before .pre .7) refl refl (search needs) refl refl (run .0), run .1, run .2)
+    (part-nowhere _ _ _ _ _ _ _ _ (start .pre .6) (start .pre .7) refl refl (search needs) refl refl (run .0), run .1, run .2)
 
 pub sync-part-spec : {M : Type 1} → statement M
 sync-part-spec =

@@ -15,7 +15,8 @@ abbrev Inv-loop : tie.InvT-loop
 Inv-loop rules exclusion words root depth shadow₀ map₀ counts₀ first₀ shadow map counts first =
     (first ≤ length shadow₀) × (length shadow ≡ length shadow₀) × (length map ≡ length shadow₀) × (counts .changed ≤ first) × (counts .joined ≤ first)
     × (first < length shadow₀ → first % 512 ≡ 0)
-    × (sweptFrom (stepFrom (rulesIn rules exclusion) (flatAt (treeOf words root depth))) first (length shadow₀ - first) (sweep shadow map (counts .changed) (counts .joined))
+    × (sweptFrom (stepFrom (rulesIn rules exclusion) (flatAt (treeOf words root depth))) first (length shadow₀ - first)
+    (sweep shadow map (counts .changed) (counts .joined))
     ≡ sweptFrom (stepFrom (rulesIn rules exclusion) (flatAt (treeOf words root depth))) 0 (length shadow₀ - 0) (sweep shadow₀ map₀ 0 0))
 
 abbrev μ-loop : tie.MeasureT-loop
@@ -34,7 +35,9 @@ sync-part-requires : tie.Need-sync-part-requires Inv-loop μ-loop
 sync-part-requires c κs =
     let inv = c .before .before .before .before .before .loop .inv in
     let end = c .before .before .before .part-end .ensures in
-    (omega (arith, end), omega (arith, end, inv), omega (arith, inv), omega (arith, inv), omega (arith, inv), search needs, inv .5 (omega (arith, inv)), omega (arith, end), c .before .before .part-of .ensures .0)
+    let part = c .before .before .part-of .ensures in
+    let begins = inv .5 (omega (arith, inv)) in
+    (omega (arith, end), omega (arith, end, inv), omega (arith, inv), omega (arith, inv), omega (arith, inv), search needs, begins, omega (arith, end), part .0)
 
 loop-less : tie.Need-loop-less Inv-loop μ-loop
 loop-less c = let end = c .before .before .before .before .before .before .before .before .part-end .ensures in omega (arith, end)
@@ -51,7 +54,8 @@ loop-again c =
       run .1,
       run .2,
       λ l. (let at = end .3 (omega (arith, inv, l)) in omega (arith, at, begins)),
-      parts-more _ _ _ _ _ _ _ _ _ _ (inv .6) (omega (arith, end)) (omega (arith, end, inv)) (omega (arith, end)) begins (c .before .before .before .before .before .before .before .part-of .ensures .1) (run .0),
+      parts-more _ _ _ _ _ _ _ _ _ _ (inv .6) (omega (arith, end)) (omega (arith, end, inv)) (omega (arith, end)) begins
+          (c .before .before .before .before .before .before .before .part-of .ensures .1) (run .0),
     )
 
 same-length : tie.Need-same-length Inv-loop μ-loop

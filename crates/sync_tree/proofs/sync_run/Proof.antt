@@ -28,7 +28,8 @@ sub-kernel-entry c = omega arith
 
 kernel-entry-requires : tie.Need-kernel-entry-requires Inv-loop μ-loop
 kernel-entry-requires c κs =
-    fewer (c .before .before .before .before .before .before .args .words .now) (c .before .before .before .before .before .before .args .source) _ _ (c .before .before .before .before .before .before .pre .6) (omega arith)
+    fewer (c .before .before .before .before .before .before .args .words .now) (c .before .before .before .before .before .before .args .source) _ _
+    (c .before .before .before .before .before .before .pre .6) (omega arith)
 
 sync-at-requires : tie.Need-sync-at-requires Inv-loop μ-loop
 sync-at-requires c κs = (omega arith, omega arith, omega arith, omega arith, search needs)
@@ -47,7 +48,9 @@ loop-again c = (
   omega arith,
   omega arith,
   omega arith,
-  run-more _ _ _ _ _ _ _ _ _ _ _ _ _ _ _ _ (c .before .before .before .before .before .before .before .before .before .loop .inv .6) (c .before .before .before .before .before .before .before .before .loop-test .taken) (c .before .before .before .before .before .before .before .kernel-entry .ensures) (c .before .before .before .before .sync-at .ensures .0),
+  run-more _ _ _ _ _ _ _ _ _ _ _ _ _ _ _ _ (c .before .before .before .before .before .before .before .before .before .loop .inv .6)
+      (c .before .before .before .before .before .before .before .before .loop-test .taken)
+      (c .before .before .before .before .before .before .before .kernel-entry .ensures) (c .before .before .before .before .sync-at .ensures .0),
 )
 
 same-length : tie.Need-same-length Inv-loop μ-loop
