@@ -189,7 +189,7 @@ module _ (x : List ℕ) (first last : ℕ) (up : first ≤ last) where
       ∙ ap (λ n. freeFrom x (first / 8 * 8 + first % 8) (suc n)) count
       ∙ ap (λ f. freeFrom x f (suc (last - first))) at
 
-  module _ (apart : first / 8 ≡ last / 8 → ⊥) where
+  module _ (differ : first / 8 ≡ last / 8 → ⊥) where
     range-parts : freeFrom x first (suc (last - first))
         ≡ both (clearBits (getD x (first / 8) 0) (first % 8) (8 - first % 8))
         (both (freeFrom x ((first / 8 + 1) * 8) ((last / 8 - (first / 8 + 1)) * 8)) (clearBits (getD x (last / 8) 0) 0 (suc (last % 8))))

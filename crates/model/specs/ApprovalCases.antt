@@ -57,8 +57,8 @@ readOnly6 = set shadow6 0 0x8000000000006005
 unfoldable pub harmless6 : List ℕ
 harmless6 = 0x6002 ∷ 0x5401 ∷ 0x3401 ∷ 0x8000000000006005 ∷ 0x5401 ∷ 0x8000000000007003 ∷ []
 
-unfoldable pub apart6 : List ℕ
-apart6 = 0x8000000000004003 ∷ 0x5401 ∷ 0x3401 ∷ 0x10006003 ∷ 0x5401 ∷ 0xfff0000000006ffe ∷ []
+unfoldable pub otherHarmless6 : List ℕ
+otherHarmless6 = 0x8000000000004003 ∷ 0x5401 ∷ 0x3401 ∷ 0x10006003 ∷ 0x5401 ∷ 0xfff0000000006ffe ∷ []
 
 -- Entries that a commit for page 3 leaves: bit 0 clear, an approved page's with the frame, a higher frame; a lower one, frame 65,542.
 unfoldable pub others6 : List ℕ
@@ -129,7 +129,7 @@ askCases =
     ∷ stays (guardOf (stateOf 6 2 2 (replicate 16 0) (Kernel 1) 3 Nothing) (tables (set shadow6 5 0x1003) map6 (0 ∷ []))) (ask 3 1) (refused 21)
     -- none of these entries counts
     ∷ row (answer (with6 (Kernel 1) harmless6) (ask 3 6)) (outcome (accepted 0 0) (asked6 (Kernel 1) harmless6))
-    ∷ row (answer (with6 (Kernel 1) apart6) (ask 3 6)) (outcome (accepted 0 0) (asked6 (Kernel 1) apart6))
+    ∷ row (answer (with6 (Kernel 1) otherHarmless6) (ask 3 6)) (outcome (accepted 0 0) (asked6 (Kernel 1) otherHarmless6))
     -- 7: the state's V, e, running page and number of devices, and each table that is lent
     ∷ stays (inState 5 8 2 (replicate 16 0) (Kernel 1)) (ask 3 6) (refused 7)
     ∷ stays (inState 6 8 17 (replicate 16 0) (Kernel 1)) (ask 3 6) (refused 7)
