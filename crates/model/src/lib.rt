@@ -1,4 +1,4 @@
-// The declared types of the guard, and the functions that carry the theorems about its definitions.
+// The declared types of the guard, and the functions that carry the rows of its definitions.
 // The definitions themselves stand in specs/, one file for each section of document 01 and for a request that adds to none; those of demand 3, of the
 // drill and of the record that is written (K2) are crates of their own, and so are the laws about the definitions.
 

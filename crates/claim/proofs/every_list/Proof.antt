@@ -1,4 +1,4 @@
--- Demand 3: the claim is proved in ClaimLists.
+-- Demand 3: the claim is proved in ListLaws.
 use Rattle.claim.proofs.ListLaws.{claim}
 use Rattle.claim.proofs.every_list.Statement.{statement}
 use Rattle.claim.proofs.every_list.Tie as tie
