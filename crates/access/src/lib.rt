@@ -4,6 +4,7 @@
 ghost use mathlib.Core.Path.{_≡_};
 ghost use mathlib.Core.Bool.{true, not};
 ghost use mathlib.Core.List.{[]};
+ghost use Prim.Native.Nat.{_≤_};
 ghost use lib.ListN.{length};
 ghost use Rattle.model.specs.Basics.{either};
 ghost use Rattle.model.specs.Guard.{Tables, withShadow, withExclusion, guardOf, vectorBytes};
@@ -36,7 +37,7 @@ fn fetch_permitted(user: bool, entry: u64) -> bool
 }
 
 // The number of the question that refuses a fetch, or 0. Question 7 is answered yes, so that the table has V entries.
-fn fetch_refusal(user: bool, pages: u16, shadow: &[u64], page: u64) -> u64
+fn fetch_refusal(user: bool, pages: u64, shadow: &[u64], page: u64) -> u64
     requires { ⌜ length (now shadow) ≡ pages ⌝ }
     ensures { λ r. ⌜ r ≡ firstNo (fetchQuestions (accessView user pages 0 (now (shadow .entry)) []) page) ⌝ }
 {
@@ -66,7 +67,7 @@ pub fn fetch(s: State, shadow: &[u64], page: u64) -> Called
         return state::refused_call(s, number);
     }
     let frame = entry::frame_of(shadow[page as usize]);
-    let running = state::on_page(mode, (page % 65536) as u16);
+    let running = state::on_page(mode, page);
     let state = state::in_mode(s, running);
     Called {
         answer: Answer::Done(frame, frame),
@@ -82,11 +83,11 @@ fn write_permitted(user: bool, entry: u64) -> bool
 }
 
 // Question 13 of one frame. The vector has a bit for each frame below F, as question 7 has settled.
-fn frame_free(frames: u16, exclusion: &[u8], frame: u64) -> bool
+fn frame_free(frames: u64, exclusion: &[u8], frame: u64) -> bool
     requires { ⌜ length (now exclusion) ≡ vectorBytes frames ⌝ }
     ensures { λ r. ⌜ r ≡ freeIn frames (now (exclusion .entry)) frame ⌝ }
 {
-    if frames as u64 <= frame {
+    if frames <= frame {
         return false;
     }
     !bitmap::test_bit_within(exclusion, frame)
@@ -94,7 +95,7 @@ fn frame_free(frames: u16, exclusion: &[u8], frame: u64) -> bool
 
 // The number of the question that refuses a write by the entries of its first and its last page, or 0.
 // A bit that both entries have is a bit of what they have in common. One frame is asked once.
-fn entries_refusal(user: bool, frames: u16, exclusion: &[u8], first: u64, last: u64) -> u64
+fn entries_refusal(user: bool, frames: u64, exclusion: &[u8], first: u64, last: u64) -> u64
     requires { ⌜ length (now exclusion) ≡ vectorBytes frames ⌝ }
     ensures { λ r. ⌜ r ≡ firstNo (entryQuestions user frames (now (exclusion .entry)) first last) ⌝ }
 {
@@ -123,14 +124,14 @@ fn entries_refusal(user: bool, frames: u16, exclusion: &[u8], first: u64, last: 
 // At most 16 bytes touch no page but the first and the last, which may be one.
 fn write_refusal(
     user: bool,
-    pages: u16,
-    frames: u16,
+    pages: u64,
+    frames: u64,
     shadow: &[u64],
     exclusion: &[u8],
     address: u64,
     length: u64,
 ) -> u64
-    requires { ⌜ (lib.ListN.length (now shadow) ≡ pages) × (lib.ListN.length (now exclusion) ≡ vectorBytes frames) ⌝ }
+    requires { ⌜ (lib.ListN.length (now shadow) ≡ pages) × (lib.ListN.length (now exclusion) ≡ vectorBytes frames) × (pages ≤ 2048) ⌝ }
     ensures { λ r. ⌜ r ≡ firstNo (writeQuestions (accessView user pages frames (now (shadow .entry)) (now (exclusion .entry))) address length) ⌝ }
 {
     if !limits::write_length(length) {

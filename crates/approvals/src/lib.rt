@@ -53,8 +53,8 @@ fn none_writable(shadow: &[u64], frame: u16) -> bool
     true
 }
 
-// Asks for the approval of a frame for a page: the frame is excluded from now on, and both are pending. An accepted ask has a page below V and a frame below F,
-// so that the remainders are those numbers.
+// Asks for the approval of a frame for a page: the frame is excluded from now on, and both are pending. Question 9 has settled that the frame is below F, so
+// that 16 bits hold it.
 pub fn ask(
     s: State,
     shadow: &[u64],
@@ -80,14 +80,13 @@ pub fn ask(
     ) {
         return state::refused_call(s, 20);
     }
-    let asked = (frame % 65536) as u16;
-    if !none_writable(shadow, asked) {
+    if !none_writable(shadow, frame as u16) {
         return state::refused_call(s, 21);
     }
     bitmap::set_bit(exclusion, frame);
     Called {
         answer: Answer::Done(0, 0),
-        state: state::with_pending(s, Pending::Pair((page % 65536) as u16, asked)),
+        state: state::with_pending(s, Pending::Pair(page, frame)),
     }
 }
 
@@ -112,7 +111,7 @@ fn commit_others(user: bool, frame: u16, shadow: &mut [u64], map: &mut [u16]) ->
 
 // What a commit makes of every page. The asked page comes first: with its number in the map it is none of the others, so that the loop does not ask for it. The
 // tables have V entries, and the pair is below V and F, as question 7 has settled.
-fn commit_pages(user: bool, page: u16, frame: u16, shadow: &mut [u64], map: &mut [u16]) -> Counts
+fn commit_pages(user: bool, page: u64, frame: u16, shadow: &mut [u64], map: &mut [u16]) -> Counts
     requires { ⌜ (length (now map) ≡ length (now shadow)) × (length (now shadow) ≤ 2048) × (page < length (now shadow)) × (frame < 4096) ⌝ }
     ensures { λ r. ⌜ sweep (now (shadow .exit)) (now (map .exit)) (r .changed) (r .joined)
         ≡ sweepFrom (λ p entry approval. committedSlot user frame (eqb p page) entry approval) 0 (now (shadow .entry)) (now (map .entry)) ⌝ }
@@ -142,11 +141,11 @@ pub fn commit(s: State, shadow: &mut [u64], map: &mut [u16]) -> Called
     let Pending::Pair(page, frame) = pending else {
         return state::refused_call(s, 22);
     };
-    if approval_of(map, page as u64) != NONE {
+    if approval_of(map, page) != NONE {
         return state::refused_call(s, 20);
     }
     let mode = s.mode;
-    let all = commit_pages(state::in_user(mode), page, frame, shadow, map);
+    let all = commit_pages(state::in_user(mode), page, frame as u16, shadow, map);
     Called {
         answer: Answer::Done(all.changed, all.joined),
         state: state::with_pending(s, Pending::Nothing),
@@ -165,7 +164,7 @@ pub fn drop_pending(s: State, exclusion: &mut [u8]) -> Called
     let Pending::Pair(_, frame) = pending else {
         return state::refused_call(s, 22);
     };
-    bitmap::clear_bit(exclusion, frame as u64);
+    bitmap::clear_bit(exclusion, frame);
     Called {
         answer: Answer::Done(0, 0),
         state: state::with_pending(s, Pending::Nothing),

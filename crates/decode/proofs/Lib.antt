@@ -1,3 +1,2 @@
 -- Laws of the runs. The exported calls cite them.
 pub mod WordLaws
-pub mod OrderLaws

@@ -1,8 +1,7 @@
 -- The runs of words that cross the boundary: the state in a lent run, and the numbers of a reply in another.
 -- Documented for C in include/guard.h.
-use Prim.Native.Nat.{ℕ, _+_, _<_}
-use mathlib.Core.Bool.{Bool, true, false, cond}
-use mathlib.Core.Path.{_≡_}
+use Prim.Native.Nat.{ℕ, _+_}
+use mathlib.Core.Bool.{Bool, cond}
 use mathlib.Core.List.{List, [], _∷_, _++_}
 use lib.ListN.{length, getD, set, take}
 use lib.Dec.{leb, eqb}
@@ -10,9 +9,8 @@ use Rattle.model.specs.declared.State.{State}
 use Rattle.model.specs.declared.Mode.{Mode}
 use Rattle.model.specs.declared.Pending.{Pending}
 use Rattle.model.specs.declared.Pending.the-variants.{Nothing, Pair}
-use Rattle.model.specs.Basics.{both, table, member}
+use Rattle.model.specs.Basics.{both, table}
 use Rattle.model.specs.Guard.{inUser, running, modeOf, stateOf}
-use Rattle.model.specs.Questions.{stateInOrder}
 use Rattle.model.specs.Calls.{Reply, settle, Call, syncPage, syncAll, syncPageTree, syncAllTree, fetch, write, enter, leave, deviceWrite, ask, commit, drop}
 
 -- The layout of a state run: V, F and e, the sixteen entry pages, kernel or user, the page now running, the number of devices (K5), whether a pair is pending
@@ -73,33 +71,22 @@ numbersBy call = answerNumbers
 unfoldable pub modeWord : Mode → ℕ
 modeWord mode = cond (inUser mode) 1 0
 
--- A word as a 16-bit field. A wider word is taken for the widest field, which is above every V, F, e and number of devices, so that question 7 refuses it in those
--- fields and as the running page, and question 9 as the page of an entry index.
-abbrev pub widest : ℕ
-widest = 65535
-
-unfoldable pub narrow : ℕ → ℕ
-narrow word = cond (leb word widest) word widest
-
-unfoldable pub field : List ℕ → ℕ → ℕ
-field run at = narrow (getD run at 0)
-
 unfoldable pub entryPagesIn : List ℕ → List ℕ
-entryPagesIn run = table entryWords (λ i. field run (entryPagesAt + i))
+entryPagesIn run = table entryWords (λ i. getD run (entryPagesAt + i) 0)
 
 -- What is pending: "1 while a pair is pending, else 0", and the pair, whose words "are not read" where none is.
 unfoldable pub pendingIn : List ℕ → Pending
-pendingIn run = cond (eqb (getD run pendingAt 0) 1) (Pair (field run pendingPageAt) (field run pendingFrameAt)) Nothing
+pendingIn run = cond (eqb (getD run pendingAt 0) 1) (Pair (getD run pendingPageAt 0) (getD run pendingFrameAt 0)) Nothing
 
 unfoldable pub pendingWords : Pending → List ℕ
 pendingWords Nothing = 0 ∷ 0 ∷ 0 ∷ []
 pendingWords (Pair page frame) = 1 ∷ page ∷ frame ∷ []
 
--- The state that a run holds.
+-- The state that a run holds, each number as it comes: question 7 refuses a wide one, and question 9 a wide entry page where it is entered.
 unfoldable pub stateIn : List ℕ → State
 stateIn run =
-    stateOf (field run pagesAt) (field run framesAt) (field run entryCountAt) (entryPagesIn run) (modeOf (eqb (getD run modeAt 0) 1) (field run runningAt))
-    (field run devicesAt) (pendingIn run)
+    stateOf (getD run pagesAt 0) (getD run framesAt 0) (getD run entryCountAt 0) (entryPagesIn run) (modeOf (eqb (getD run modeAt 0) 1) (getD run runningAt 0))
+    (getD run devicesAt 0) (pendingIn run)
 
 -- The words that hold a state, in their order; the last of them stand behind the entry pages.
 abbrev pub lastWords : State → List ℕ
@@ -160,21 +147,3 @@ runAfter run places reply s = settle (reply .number) (withWords run s places) (�
 -- An accepted start writes every word of the state run. A refused one leaves the run as it was: the zero state of document 01 is not written.
 unfoldable pub runStarted : List ℕ → Reply → State → List ℕ
 runStarted run reply s = settle (reply .number) (wordsOf s) (λ _. run)
-
--- The words that hold a number of 16 bits which question 7 asks of the state.
-abbrev pub fieldPlaces : List ℕ
-fieldPlaces = pagesAt ∷ framesAt ∷ entryCountAt ∷ runningAt ∷ devicesAt ∷ []
-
--- Beside the length, the mode word and the pending word, the runs need no test of their own: a word wider than its field, as V, F, e, the running page or the number of devices, makes
--- a state that question 7 of every call refuses.
-unfoldable pub WideRefused : Type 0
-WideRefused =
-    (run : List ℕ) (at : ℕ) → widest < getD run at 0 → member at fieldPlaces ≡ true → stateInOrder (stateIn run) ≡ false
-
--- The same of the pair's words, where one is pending.
-abbrev pub pairPlaces : List ℕ
-pairPlaces = pendingPageAt ∷ pendingFrameAt ∷ []
-
-unfoldable pub WidePairRefused : Type 0
-WidePairRefused =
-    (run : List ℕ) (at : ℕ) → widest < getD run at 0 → member at pairPlaces ≡ true → getD run pendingAt 0 ≡ 1 → stateInOrder (stateIn run) ≡ false

@@ -1,29 +1,22 @@
 -- Laws of a state in a run: all words written, and what was written decodes to the same state.
 use Prim.Native.Nat.{ℕ, _+_, _-_, _≤_, _<_}
-use mathlib.Core.Bool.{true}
 use mathlib.Core.List.{List, [], _∷_, _++_, append-nil}
 use mathlib.Core.Path.{_≡_, refl, sym, ap, _∙_}
 use lib.ListN.{length, getD, set, take, length-set, List·getD-append}
 use lib.Seq.{paste, drop-at, getD-drop, getD-set-same, getD-set-other}
-use lib.Dec.{ltb, eqb}
-use borrow.Author.Tests.{lt-ltb, ltb-true}
+use lib.Dec.{eqb}
 use native.Mathlib.Omega.{arith}
-use mir.Syntax.{w16}
-use mir.Val.{Fits}
 use Rattle.model.specs.declared.Mode.{Mode}
 use Rattle.model.specs.declared.Mode.the-variants.{Kernel, User}
 use Rattle.model.specs.declared.Pending.{Pending}
 use Rattle.model.specs.declared.Pending.the-variants.{Nothing, Pair}
 use Rattle.model.specs.declared.State.{State}
 use Rattle.model.specs.Guard.{inUser, running, modeOf, stateOf, inMode, withPending}
-use Rattle.model.specs.Questions.{pendingInRange}
-use Rattle.laws.proofs.QuestionLaws.{both-yes, both-first, both-second}
 use Rattle.laws.proofs.TableLaws.{is-table, table-same}
 use Rattle.decode.specs.Words.{stateWords, pagesAt, framesAt, entryCountAt, entryPagesAt, entryWords, modeAt, runningAt, devicesAt, pendingAt, pendingPageAt}
 use Rattle.decode.specs.Words.{pendingFrameAt}
-use Rattle.decode.specs.Words.{narrow, field, entryPagesIn, pendingIn, pendingWords, stateIn, modeWord, lastWords, wordsOf, withWords, pagePlaces, modePlaces}
+use Rattle.decode.specs.Words.{entryPagesIn, pendingIn, pendingWords, stateIn, modeWord, lastWords, wordsOf, withWords, pagePlaces, modePlaces}
 use Rattle.decode.specs.Words.{pendingPlaces}
-use Rattle.decode.proofs.WordLaws.{narrow-fits}
 use Rattle.encode.proofs.RunLaws.{front-none, front-word, front-table, front-so-far, front-known, front-full}
 
 -- A run keeps its length where words are written between calls that keep it.
@@ -58,31 +51,20 @@ unfolding modeOf modeWord running inUser
 mode-back (Kernel page) = refl
 mode-back (User page) = refl
 
-narrowed : (x : ℕ) → x < 65536 → narrow x ≡ x
-narrowed x h = sym (narrow-fits x (omega arith))
-
--- What is pending, by its three words, where the numbers of a pair have 16 bits.
+-- What is pending, by its three words.
 abbrev pendingWord : Pending → ℕ → ℕ
 pendingWord pending i = getD (pendingWords pending) i 0
 
-pending-back : (run : List ℕ) (pending : Pending) → pendingInRange 65536 65536 pending ≡ true → getD run pendingAt 0 ≡ pendingWord pending 0
-    → getD run pendingPageAt 0 ≡ pendingWord pending 1 → getD run pendingFrameAt 0 ≡ pendingWord pending 2 → pendingIn run ≡ pending
-unfolding pendingIn pendingWords pendingInRange field
-pending-back run Nothing small a b c = rw a refl
-pending-back run (Pair page frame) small a b c =
-    rw (
-      a,
-      b,
-      c,
-      narrowed page (ltb-true page 65536 (both-first (ltb page 65536) (ltb frame 65536) small)),
-      narrowed frame (ltb-true frame 65536 (both-second (ltb page 65536) (ltb frame 65536) small)),
-    )
-    refl
+pending-back : (run : List ℕ) (pending : Pending) → getD run pendingAt 0 ≡ pendingWord pending 0 → getD run pendingPageAt 0 ≡ pendingWord pending 1
+    → getD run pendingFrameAt 0 ≡ pendingWord pending 2 → pendingIn run ≡ pending
+unfolding pendingIn pendingWords
+pending-back run Nothing a b c = rw a refl
+pending-back run (Pair page frame) a b c = rw (a, b, c) refl
 
 -- The same words hold the same.
 pending-same : (run run′ : List ℕ) → getD run′ pendingAt 0 ≡ getD run pendingAt 0 → getD run′ pendingPageAt 0 ≡ getD run pendingPageAt 0
     → getD run′ pendingFrameAt 0 ≡ getD run pendingFrameAt 0 → pendingIn run′ ≡ pendingIn run
-unfolding pendingIn field
+unfolding pendingIn
 pending-same run run′ a b c = rw (a, b, c) refl
 
 -- A state is what its fields are.
@@ -90,7 +72,7 @@ state-made : (s : State) (p f n : ℕ) (e : List ℕ) (m : Mode) (k : ℕ) (w : 
     → e ≡ s .«entry_pages» → m ≡ s .mode → k ≡ s .devices → w ≡ s .pending → stateOf p f n e m k w ≡ s
 state-made s p f n e m k w a b c d h i j = rw (a, b, c, d, h, i, j) refl
 
--- The words of a state decode to it where each fits its field.
+-- The words of a state decode to it.
 module _ (s : State) (long : length (s .«entry_pages») ≡ entryWords) where
   entry-word : (i : ℕ) → i < entryWords → getD (wordsOf s) (entryPagesAt + i) 0 ≡ getD (s .«entry_pages») i 0
   unfolding wordsOf
@@ -100,28 +82,19 @@ module _ (s : State) (long : length (s .«entry_pages») ≡ entryWords) where
   unfolding wordsOf
   last-word i = sym (getD-drop modeAt (wordsOf s) i 0) ∙ ap (λ (l : List ℕ). getD l i 0) (drop-at (s .«entry_pages») (lastWords s) entryWords long)
 
-  field-back : (at x : ℕ) → getD (wordsOf s) at 0 ≡ x → x < 65536 → field (wordsOf s) at ≡ x
-  unfolding field
-  field-back at x e h = ap narrow e ∙ narrowed x h
-
-  entries-back : ((i : ℕ) → Fits w16 (getD (s .«entry_pages») i 0)) → entryPagesIn (wordsOf s) ≡ s .«entry_pages»
+  entries-back : entryPagesIn (wordsOf s) ≡ s .«entry_pages»
   unfolding entryPagesIn
-  entries-back fits =
-      sym (is-table (s .«entry_pages») entryWords (λ i. field (wordsOf s) (entryPagesAt + i)) long
-      (λ i h. sym (field-back (entryPagesAt + i) (getD (s .«entry_pages») i 0) (entry-word i h) (fits i .fits))))
+  entries-back =
+      sym (is-table (s .«entry_pages») entryWords (λ i. getD (wordsOf s) (entryPagesAt + i) 0) long (λ i h. sym (entry-word i h)))
 
-  pub words-decoded : s .pages < 65536 → s .frames < 65536 → s .«entry_count» < 65536 → ((i : ℕ) → Fits w16 (getD (s .«entry_pages») i 0))
-      → running (s .mode) < 65536 → s .devices < 65536 → pendingInRange 65536 65536 (s .pending) ≡ true → stateIn (wordsOf s) ≡ s
+  pub words-decoded : stateIn (wordsOf s) ≡ s
   unfolding stateIn wordsOf
-  words-decoded p f n fits r d w =
-      state-made s _ _ _ _ _ _ _
-      (field-back pagesAt (s .pages) refl p)
-      (field-back framesAt (s .frames) refl f)
-      (field-back entryCountAt (s .«entry_count») refl n)
-      (entries-back fits)
-      (rw (last-word (modeAt - modeAt), field-back runningAt (running (s .mode)) (last-word (runningAt - modeAt)) r) (mode-back (s .mode)))
-      (field-back devicesAt (s .devices) (last-word (devicesAt - modeAt)) d)
-      (pending-back (wordsOf s) (s .pending) w (last-word (pendingAt - modeAt)) (last-word (pendingPageAt - modeAt)) (last-word (pendingFrameAt - modeAt)))
+  words-decoded =
+      state-made s _ _ _ _ _ _ _ refl refl refl
+      entries-back
+      (rw (last-word (modeAt - modeAt), last-word (runningAt - modeAt)) (mode-back (s .mode)))
+      (last-word (devicesAt - modeAt))
+      (pending-back (wordsOf s) (s .pending) (last-word (pendingAt - modeAt)) (last-word (pendingPageAt - modeAt)) (last-word (pendingFrameAt - modeAt)))
 
 -- The words of what is pending, put into a run.
 abbrev pendingPut : List ℕ → Pending → List ℕ
@@ -184,25 +157,24 @@ words-written s t w p e = rw (p, e) refl
 -- A run that differs at the words of the mode and of what is pending alone.
 same-fields : (run run′ : List ℕ) (mode : Mode) (pending : Pending)
     → ((at : ℕ) → at ≤ devicesAt → (at ≡ modeAt → ⊥) → (at ≡ runningAt → ⊥) → getD run′ at 0 ≡ getD run at 0)
-    → modeOf (eqb (getD run′ modeAt 0) 1) (field run′ runningAt) ≡ mode → pendingIn run′ ≡ pending
+    → modeOf (eqb (getD run′ modeAt 0) 1) (getD run′ runningAt 0) ≡ mode → pendingIn run′ ≡ pending
     → stateIn run′ ≡ withPending (inMode (stateIn run) mode) pending
-unfolding stateIn inMode withPending entryPagesIn field
+unfolding stateIn inMode withPending entryPagesIn
 same-fields run run′ mode pending same is holds =
     state-made (withPending (inMode (stateIn run) mode) pending) _ _ _ _ _ _ _
-    (ap narrow (same pagesAt (omega arith) (λ q. omega arith) (λ q. omega arith)))
-    (ap narrow (same framesAt (omega arith) (λ q. omega arith) (λ q. omega arith)))
-    (ap narrow (same entryCountAt (omega arith) (λ q. omega arith) (λ q. omega arith)))
-    (table-same entryWords _ _ (λ i h. ap narrow (same (entryPagesAt + i) (omega arith) (λ q. omega arith) (λ q. omega arith))))
+    (same pagesAt (omega arith) (λ q. omega arith) (λ q. omega arith))
+    (same framesAt (omega arith) (λ q. omega arith) (λ q. omega arith))
+    (same entryCountAt (omega arith) (λ q. omega arith) (λ q. omega arith))
+    (table-same entryWords _ _ (λ i h. same (entryPagesAt + i) (omega arith) (λ q. omega arith) (λ q. omega arith)))
     is
-    (ap narrow (same devicesAt (omega arith) (λ q. omega arith) (λ q. omega arith)))
+    (same devicesAt (omega arith) (λ q. omega arith) (λ q. omega arith))
     holds
 
 -- A run with other words of the mode decodes to the state in that mode, and one with another page to the state on that page: the other
 -- words are as they were.
-module _ (run : List ℕ) (s : State) (size : length run ≡ stateWords) (long : length (s .«entry_pages») ≡ entryWords) (small : running (s .mode) < 65536) where
-  running-put : (t : List ℕ) → length t ≡ stateWords → field (set t runningAt (running (s .mode))) runningAt ≡ running (s .mode)
-  unfolding field
-  running-put t e = ap narrow (getD-set-same t runningAt (running (s .mode)) 0 (omega arith)) ∙ narrowed (running (s .mode)) small
+module _ (run : List ℕ) (s : State) (size : length run ≡ stateWords) (long : length (s .«entry_pages») ≡ entryWords) where
+  running-put : (t : List ℕ) → length t ≡ stateWords → getD (set t runningAt (running (s .mode))) runningAt 0 ≡ running (s .mode)
+  running-put t e = getD-set-same t runningAt (running (s .mode)) 0 (omega arith)
 
   page-field : (at : ℕ) → (at ≡ runningAt → ⊥) → getD (set run runningAt (running (s .mode))) at 0 ≡ getD run at 0
   page-field at r = getD-set-other run runningAt at (running (s .mode)) 0 r
@@ -219,7 +191,7 @@ module _ (run : List ℕ) (s : State) (size : length run ≡ stateWords) (long :
 
   -- What is pending stays.
   mode-same : (run′ : List ℕ) (mode : Mode) → ((at : ℕ) → (at ≡ modeAt → ⊥) → (at ≡ runningAt → ⊥) → getD run′ at 0 ≡ getD run at 0)
-      → modeOf (eqb (getD run′ modeAt 0) 1) (field run′ runningAt) ≡ mode → stateIn run′ ≡ inMode (stateIn run) mode
+      → modeOf (eqb (getD run′ modeAt 0) 1) (getD run′ runningAt 0) ≡ mode → stateIn run′ ≡ inMode (stateIn run) mode
   unfolding stateIn inMode withPending
   mode-same run′ mode same is =
       same-fields run run′ mode (pendingIn run) (λ at h. same at) is
@@ -271,26 +243,13 @@ module _ (run : List ℕ) (pending : Pending) where
 
 -- So it decodes to the state with another pair or none.
 pub pending-decoded : (run : List ℕ) (s : State) → length run ≡ stateWords → length (s .«entry_pages») ≡ entryWords
-    → pendingInRange 65536 65536 (s .pending) ≡ true → stateIn (withWords run s pendingPlaces) ≡ withPending (stateIn run) (s .pending)
-unfolding stateIn inMode withPending field
-pending-decoded run s size long small =
+    → stateIn (withWords run s pendingPlaces) ≡ withPending (stateIn run) (s .pending)
+unfolding stateIn inMode withPending
+pending-decoded run s size long =
     rw (pending-words run s long)
     (same-fields run (pendingPut run (s .pending)) (stateIn run .mode) (s .pending) (λ at h m r. before-pending run (s .pending) at h)
     (rw (before-pending run (s .pending) modeAt (omega arith), before-pending run (s .pending) runningAt (omega arith)) refl)
-    (pending-back (pendingPut run (s .pending)) (s .pending) small
+    (pending-back (pendingPut run (s .pending)) (s .pending)
     (word-there run (s .pending) size)
     (page-there run (s .pending) size)
     (frame-there run (s .pending) size)))
-
--- The page of a mode, as a function that reads it gave it.
-pub running-fits : (mode : Mode) (r : ℕ) → r ≡ running mode → Fits w16 r → running mode < 65536
-running-fits mode r e h = rw e at (h .fits)
-
--- The numbers of a pair, as the code reads them.
-pub nothing-fits : (pending : Pending) → pending ≡ Nothing → pendingInRange 65536 65536 pending ≡ true
-unfolding pendingInRange
-nothing-fits pending e = rw e refl
-
-pub pair-fits : (pending : Pending) (page frame : ℕ) → pending ≡ Pair page frame → Fits w16 page → Fits w16 frame → pendingInRange 65536 65536 pending ≡ true
-unfolding pendingInRange
-pair-fits pending page frame e p f = rw e (both-yes (lt-ltb page 65536 (p .fits)) (lt-ltb frame 65536 (f .fits)))

@@ -3,12 +3,8 @@
 
 ghost use mathlib.Core.Path.{_≡_};
 ghost use mathlib.Core.List.{[], _∷_, _++_};
-ghost use mathlib.Core.Bool.{true};
-ghost use Prim.Native.Nat.{_<_};
 ghost use lib.ListN.{length, take};
 ghost use lib.Seq.{paste};
-ghost use Rattle.model.specs.Guard.{running};
-ghost use Rattle.model.specs.Questions.{pendingInRange};
 ghost use Rattle.model.specs.Calls.{replyOf};
 ghost use Rattle.decode.specs.Words.{stateWords, entryPagesAt, modeAt, entryWords, answerNumbers, stateIn, modeWord, lastWords, wordsOf, withWords, pagePlaces, modePlaces, pendingPlaces, overwritten, withNumbers, runAfter, runStarted};
 use decode::MODE_KERNEL;
@@ -52,25 +48,23 @@ fn put_page(run: &mut [u64], s: State)
     ensures { λ _. ⌜ now (run .exit) ≡ withWords (now (run .entry)) s pagePlaces ⌝ }
 {
     let mode = s.mode;
-    run[STATE_RUNNING] = state::running(mode) as u64;
+    run[STATE_RUNNING] = state::running(mode);
 }
 
-// Writes both words of a state's mode into a run, and no other. A mode's page is a 16-bit number, on which decoding rests.
+// Writes both words of a state's mode into a run, and no other.
 fn put_mode(run: &mut [u64], s: State)
     requires { ⌜ length (now run) ≡ stateWords ⌝ }
-    ensures words { λ _. ⌜ now (run .exit) ≡ withWords (now (run .entry)) s modePlaces ⌝ }
-    ensures fits { λ _. ⌜ running (s .mode) < 65536 ⌝ }
+    ensures { λ _. ⌜ now (run .exit) ≡ withWords (now (run .entry)) s modePlaces ⌝ }
 {
     let mode = s.mode;
     run[STATE_MODE] = mode_word(mode);
-    run[STATE_RUNNING] = state::running(mode) as u64;
+    run[STATE_RUNNING] = state::running(mode);
 }
 
-// Writes the three words of what is pending into a run, and no other. The numbers of a pair have 16 bits, on which decoding rests.
+// Writes the three words of what is pending into a run, and no other.
 fn put_pending(run: &mut [u64], s: State)
     requires { ⌜ length (now run) ≡ stateWords ⌝ }
-    ensures words { λ _. ⌜ now (run .exit) ≡ withWords (now (run .entry)) s pendingPlaces ⌝ }
-    ensures fits { λ _. ⌜ pendingInRange 65536 65536 (s .pending) ≡ true ⌝ }
+    ensures { λ _. ⌜ now (run .exit) ≡ withWords (now (run .entry)) s pendingPlaces ⌝ }
 {
     let pending = s.pending;
     match pending {
@@ -81,19 +75,19 @@ fn put_pending(run: &mut [u64], s: State)
         }
         Pending::Pair(page, frame) => {
             run[STATE_PENDING] = PENDING;
-            run[STATE_PENDING_PAGE] = page as u64;
-            run[STATE_PENDING_FRAME] = frame as u64;
+            run[STATE_PENDING_PAGE] = page;
+            run[STATE_PENDING_FRAME] = frame;
         }
     }
 }
 
-fn put_entry_pages(run: &mut [u64], entry: [u16; ENTRY_PAGES])
+fn put_entry_pages(run: &mut [u64], entry: [u64; ENTRY_PAGES])
     requires { ⌜ length (now run) ≡ stateWords ⌝ }
     ensures { λ _. ⌜ now (run .exit) ≡ paste (now (run .entry)) entryPagesAt entry entryWords ⌝ }
 {
     let mut i: usize = 0;
     while i < ENTRY_PAGES {
-        run[STATE_ENTRY + i] = entry[i] as u64;
+        run[STATE_ENTRY + i] = entry[i];
         i += 1;
     }
 }
@@ -104,20 +98,19 @@ fn put_front(run: &mut [u64], s: State)
     ensures { λ _. ⌜ take modeAt (now (run .exit)) ≡ s .pages ∷ s .frames ∷ s .«entry_count» ∷ s .«entry_pages» ⌝ }
 {
     let entry = s.entry_pages;
-    run[STATE_PAGES] = s.pages as u64;
-    run[STATE_FRAMES] = s.frames as u64;
-    run[STATE_ENTRIES] = s.entry_count as u64;
+    run[STATE_PAGES] = s.pages;
+    run[STATE_FRAMES] = s.frames;
+    run[STATE_ENTRIES] = s.entry_count;
     put_entry_pages(run, entry);
 }
 
-// Writes the words behind the entry pages, and no other. The numbers of the mode and of a pair have 16 bits, on which decoding rests.
+// Writes the words behind the entry pages, and no other.
 fn put_last(run: &mut [u64], s: State)
     requires { ⌜ length (now run) ≡ stateWords ⌝ }
-    ensures words { λ _. ⌜ now (run .exit) ≡ take modeAt (now (run .entry)) ++ lastWords s ⌝ }
-    ensures fits { λ _. ⌜ (running (s .mode) < 65536) × (pendingInRange 65536 65536 (s .pending) ≡ true) ⌝ }
+    ensures { λ _. ⌜ now (run .exit) ≡ take modeAt (now (run .entry)) ++ lastWords s ⌝ }
 {
     put_mode(run, s);
-    run[STATE_DEVICES] = s.devices as u64;
+    run[STATE_DEVICES] = s.devices;
     put_pending(run, s);
 }
 

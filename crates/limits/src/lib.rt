@@ -32,17 +32,17 @@ pub fn device_length(length: u64) -> bool
 
 // Question 9.
 
-pub fn page_exists(page: u64, pages: u16) -> bool
+pub fn page_exists(page: u64, pages: u64) -> bool
     ensures { λ r. ⌜ r ≡ ltb page pages ⌝ }
 {
-    page < pages as u64
+    page < pages
 }
 
 // The page that an ask names is below V, and its frame below F (K6).
-pub fn pair_exists(page: u64, frame: u64, pages: u16, frames: u16) -> bool
+pub fn pair_exists(page: u64, frame: u64, pages: u64, frames: u64) -> bool
     ensures { λ r. ⌜ r ≡ Basics.both (ltb page pages) (ltb frame frames) ⌝ }
 {
-    both(page < pages as u64, frame < frames as u64)
+    both(page < pages, frame < frames)
 }
 
 // The last byte of a run of bytes is below a limit. A run of no bytes ends one below its address, or at 0.
@@ -58,18 +58,20 @@ pub fn ends_below(address: u64, length: u64, limit: u64) -> bool
     length <= limit - address
 }
 
-// The page of a write's last byte is below V.
-pub fn write_exists(address: u64, length: u64, pages: u16) -> bool
+// The page of a write's last byte is below V. Question 7 has settled that V is in its range, so that its bytes can be counted.
+pub fn write_exists(address: u64, length: u64, pages: u64) -> bool
+    requires { ⌜ pages ≤ 2048 ⌝ }
     ensures { λ r. ⌜ r ≡ ltb (lastPage address length) pages ⌝ }
 {
-    ends_below(address, length, pages as u64 * PAGE_BYTES)
+    ends_below(address, length, pages * PAGE_BYTES)
 }
 
-// A transfer's last byte is below F frames.
-pub fn transfer_exists(address: u64, length: u64, frames: u16) -> bool
+// A transfer's last byte is below F frames. Question 7 has settled F in the same way.
+pub fn transfer_exists(address: u64, length: u64, frames: u64) -> bool
+    requires { ⌜ frames ≤ 4096 ⌝ }
     ensures { λ r. ⌜ r ≡ ltb (lastByte address length) (frames * pageBytes) ⌝ }
 {
-    ends_below(address, length, frames as u64 * PAGE_BYTES)
+    ends_below(address, length, frames * PAGE_BYTES)
 }
 
 // The page of a write's last byte, or the frame of a transfer's. It asks for what questions 8 and 9 have settled, so that the sum does not wrap.
@@ -81,7 +83,7 @@ pub fn last_page(address: u64, length: u64) -> u64
 }
 
 // The page of an entry index, and 0 where there is no such index.
-pub fn entry_page(s: State, index: u64) -> u16
+pub fn entry_page(s: State, index: u64) -> u64
     ensures { λ r. ⌜ r ≡ getD (s .«entry_pages») index 0 ⌝ }
 {
     let entry_pages = s.entry_pages;
@@ -96,5 +98,5 @@ pub fn entry_page(s: State, index: u64) -> u16
 pub fn entry_exists(s: State, index: u64) -> bool
     ensures { λ r. ⌜ r ≡ Basics.both (ltb index (s .«entry_count»)) (ltb (getD (s .«entry_pages») index 0) (s .pages)) ⌝ }
 {
-    both(index < s.entry_count as u64, entry_page(s, index) < s.pages)
+    both(index < s.entry_count, entry_page(s, index) < s.pages)
 }

@@ -88,12 +88,12 @@ fn numbers(kind: u8, number: u64, first: u64, second: u64) -> Line
 }
 
 // Its letter for the mode and the page running.
-fn with_page(l: Line, letter: u8, page: u16) -> Line
+fn with_page(l: Line, letter: u8, page: u64) -> Line
     requires { ⌜ l .len ≤ 64 ⌝ }
     ensures { λ r. ⌜ text r ≡ text l ++ (32 ∷ letter ∷ 32 ∷ decimal page) ++ (10 ∷ []) ⌝ }
 {
     let m = with_byte(with_byte(l, b' '), letter);
-    with_byte(with_number(m, page as u64), b'\n')
+    with_byte(with_number(m, page), b'\n')
 }
 
 fn with_mode(l: Line, mode: Mode) -> Line

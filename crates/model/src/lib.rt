@@ -35,29 +35,29 @@ pub const MOST_DEVICES: usize = 64;
 
 // Document 01, "What the guard keeps": the mode, kernel or user, together with the page now running.
 pub enum Mode {
-    Kernel(u16),
-    User(u16),
+    Kernel(u64),
+    User(u64),
 }
 
 // Document 02, K6: "the state holds at most one pending pair": the page and the frame of an ask, until it is committed or dropped.
 pub enum Pending {
     Nothing,
-    Pair(u16, u16),
+    Pair(u64, u64),
 }
 
-// Document 01, "What the guard keeps": the state.
+// Document 01, "What the guard keeps": the state. Its numbers have the 64 bits with which they come across the boundary, so that none is cut before question 7.
 pub struct State {
     // V, the number of virtual pages.
-    pub pages: u16,
+    pub pages: u64,
     // F, the number of physical frames.
-    pub frames: u16,
+    pub frames: u64,
     // e, the number of entry pages.
-    pub entry_count: u16,
+    pub entry_count: u64,
     // The sixteen entry pages; unused ones are 0.
-    pub entry_pages: [u16; ENTRY_PAGES],
+    pub entry_pages: [u64; ENTRY_PAGES],
     pub mode: Mode,
     // K5: the number of devices, which the start is given.
-    pub devices: u16,
+    pub devices: u64,
     pub pending: Pending,
 }
 

@@ -98,7 +98,7 @@ pub fn enter(s: State, shadow: &mut [u64], index: u64) -> Called
     let user = state::in_user(mode);
     let exists = limits::entry_exists(s, index);
     let page = limits::entry_page(s, index);
-    let number = refusal(exists, user, true, shadow, page as u64);
+    let number = refusal(exists, user, true, shadow, page);
     if number != 0 {
         return state::refused_call(s, number);
     }
@@ -119,5 +119,5 @@ pub fn leave(s: State, shadow: &mut [u64], page: u64) -> Called
     if number != 0 {
         return state::refused_call(s, number);
     }
-    switch_to(s, shadow, Mode::User((page % 65536) as u16))
+    switch_to(s, shadow, Mode::User(page))
 }

@@ -56,7 +56,7 @@ pub fn devices_in_range(count: u64) -> bool
 }
 
 // The page of a pending pair is below V, and its frame below F (K6).
-pub fn pending_in_range(pages: u16, frames: u16, pending: Pending) -> bool
+pub fn pending_in_range(pages: u64, frames: u64, pending: Pending) -> bool
     ensures { λ r. ⌜ r ≡ pendingInRange pages frames pending ⌝ }
 {
     match pending {
@@ -70,15 +70,20 @@ pub fn state_in_order(s: State) -> bool
 {
     let mode = s.mode;
     let pending = s.pending;
-    let entries = entry_count_in_range(s.entry_count as u64);
-    let exists = running(mode) < s.pages;
-    let devices = devices_in_range(s.devices as u64);
-    let pair = pending_in_range(s.pages, s.frames, pending);
-    both(
-        pages_in_range(s.pages as u64),
-        both(
-            frames_in_range(s.frames as u64),
-            both(entries, both(exists, both(devices, pair))),
-        ),
-    )
+    if !pages_in_range(s.pages) {
+        return false;
+    }
+    if !frames_in_range(s.frames) {
+        return false;
+    }
+    if !entry_count_in_range(s.entry_count) {
+        return false;
+    }
+    if s.pages <= running(mode) {
+        return false;
+    }
+    if !devices_in_range(s.devices) {
+        return false;
+    }
+    pending_in_range(s.pages, s.frames, pending)
 }

@@ -120,14 +120,14 @@ fn set_vector(bytes: &[u8], exclusion: &mut [u8])
 }
 
 // Question 3 has bounded the entries by sixteen, the array's length, and question 4 has put the pages inside the record.
-fn entry_pages(bytes: &[u8], entry_count: u16) -> [u16; ENTRY_PAGES]
+fn entry_pages(bytes: &[u8], entry_count: u16) -> [u64; ENTRY_PAGES]
     requires { ⌜ («entry_count» ≤ 16) × (8 + 2 * «entry_count» ≤ length (now bytes)) ⌝ }
     ensures { λ r. ⌜ r ≡ entryTable (now (bytes .entry)) «entry_count» ⌝ }
 {
-    let mut pages = [0u16; ENTRY_PAGES];
+    let mut pages = [0u64; ENTRY_PAGES];
     let mut i = 0;
     while i < entry_count {
-        pages[i as usize] = policy::number_from(bytes, PAGES + 2 * i as usize);
+        pages[i as usize] = policy::number_from(bytes, PAGES + 2 * i as usize) as u64;
         i += 1;
     }
     pages
@@ -143,7 +143,7 @@ fn refused_start(number: u64) -> Called
             pages: 0,
             frames: 0,
             entry_count: 0,
-            entry_pages: [0u16; ENTRY_PAGES],
+            entry_pages: [0u64; ENTRY_PAGES],
             mode: Mode::User(0),
             devices: 0,
             pending: Pending::Nothing,
@@ -154,7 +154,7 @@ fn refused_start(number: u64) -> Called
 // An accepted start stands in kernel mode on the first entry page. Questions 3 and 4 have shown what is required.
 fn accepted_start(bytes: &[u8], devices: u64) -> Called
     requires { ⌜ (length (now bytes) ≡ 8 + 4 * policyOf (now bytes) .count) × (policyOf (now bytes) .entryCount ≤ 16)
-        × (policyOf (now bytes) .entryCount ≤ policyOf (now bytes) .count) × (1 ≤ policyOf (now bytes) .count) × (devices ≤ 64) ⌝ }
+        × (policyOf (now bytes) .entryCount ≤ policyOf (now bytes) .count) × (1 ≤ policyOf (now bytes) .count) ⌝ }
     ensures { λ r. ⌜ r ≡ acceptedStart (givenOf devices) (now (bytes .entry)) ⌝ }
 {
     let count = policy::number_from(bytes, 4);
@@ -163,12 +163,12 @@ fn accepted_start(bytes: &[u8], devices: u64) -> Called
     Called {
         answer: Answer::Done(count as u64, entry_count as u64),
         state: State {
-            pages: policy::number_from(bytes, 0),
-            frames: policy::number_from(bytes, 2),
-            entry_count,
+            pages: policy::number_from(bytes, 0) as u64,
+            frames: policy::number_from(bytes, 2) as u64,
+            entry_count: entry_count as u64,
             entry_pages: pages,
-            mode: Mode::Kernel(policy::number_from(bytes, PAGES)),
-            devices: devices as u16,
+            mode: Mode::Kernel(policy::number_from(bytes, PAGES) as u64),
+            devices,
             pending: Pending::Nothing,
         },
     }

@@ -23,7 +23,7 @@ pub fn in_user(m: Mode) -> bool
 }
 
 // The page now running.
-pub fn running(m: Mode) -> u16
+pub fn running(m: Mode) -> u64
     ensures { λ r. ⌜ r ≡ Guard.running m ⌝ }
 {
     match m {
@@ -33,7 +33,7 @@ pub fn running(m: Mode) -> u16
 }
 
 // The same mode, with another page running.
-pub fn on_page(m: Mode, page: u16) -> Mode
+pub fn on_page(m: Mode, page: u64) -> Mode
     ensures { λ r. ⌜ r ≡ modeOf (inUser m) page ⌝ }
 {
     match m {
@@ -53,11 +53,11 @@ pub fn is_pending(pending: Pending) -> bool
     }
 }
 
-pub fn pending_frame(pending: Pending) -> u16
+pub fn pending_frame(pending: Pending) -> u64
     ensures { λ r. ⌜ r ≡ pendingFrame pending ⌝ }
 {
     match pending {
-        Pending::Nothing => NONE,
+        Pending::Nothing => NONE as u64,
         Pending::Pair(_, frame) => frame,
     }
 }

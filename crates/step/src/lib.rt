@@ -22,9 +22,9 @@ struct Slot {
 }
 
 // Steps 1 to 5 on a kernel entry and the page's number in the map, with the pending frame, or 65535, which no frame below F is (K6). The vector has a bit for
-// each frame below F, as question 7 has settled.
-fn step(user: bool, frames: u16, pending: u16, exclusion: &[u8], entry: u64, approval: u16) -> Slot
-    requires { ⌜ length (now exclusion) ≡ vectorBytes frames ⌝ }
+// each frame below F, and F is in its range, as question 7 has settled.
+fn step(user: bool, frames: u64, pending: u64, exclusion: &[u8], entry: u64, approval: u16) -> Slot
+    requires { ⌜ (length (now exclusion) ≡ vectorBytes frames) × (frames ≤ 4096) ⌝ }
     ensures { λ r. ⌜ slot (r .entry) (r .approval) ≡ Sync.step (rulesBy user frames pending (now (exclusion .entry))) entry approval ⌝ }
 {
     let empty = Slot { entry: 0, approval };
@@ -37,10 +37,10 @@ fn step(user: bool, frames: u16, pending: u16, exclusion: &[u8], entry: u64, app
             approval,
         };
     }
-    if frames as u64 <= x.frame {
+    if frames <= x.frame {
         return empty;
     }
-    if x.frame == pending as u64 {
+    if x.frame == pending {
         return Slot {
             entry: shadow_entry::inspected_of(entry),
             approval,
@@ -91,13 +91,13 @@ fn put_approval(map: &mut [u16], i: usize, approval: u16, joined: u64) -> u64
     joined + 1
 }
 
-// The step of page i on its kernel entry, stored in both tables and counted. It asks that both tables have the page and that the vector has its length,
-// which question 7 and the limit at V have settled in every caller, and that no more pages were counted than lie before it. The map's number is settled
+// The step of page i on its kernel entry, stored in both tables and counted. It asks that both tables have the page, that the vector has its length and that F is in its
+// range, which question 7 and the limit at V have settled in every caller, and that no more pages were counted than lie before it. The map's number is settled
 // before an entry is written, so that it is read once.
 pub fn sync_at(
     user: bool,
-    frames: u16,
-    pending: u16,
+    frames: u64,
+    pending: u64,
     exclusion: &[u8],
     entry: u64,
     shadow: &mut [u64],
@@ -106,7 +106,7 @@ pub fn sync_at(
     counts: Counts,
 ) -> Counts
     requires { ⌜ (i < length (now shadow)) × (i < length (now map)) × (counts .changed ≤ i) × (counts .joined ≤ i)
-        × (length (now exclusion) ≡ vectorBytes frames) ⌝ }
+        × (length (now exclusion) ≡ vectorBytes frames) × (frames ≤ 4096) ⌝ }
     ensures { λ r. ⌜ (sweep (now (shadow .exit)) (now (map .exit)) (r .changed) (r .joined)
         ≡ stored i (sweep (now (shadow .entry)) (now (map .entry)) (counts .changed) (counts .joined))
         (Sync.step (rulesBy user frames pending (now (exclusion .entry))) entry (getD (now (map .entry)) i 0)))

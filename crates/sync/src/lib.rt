@@ -4,6 +4,7 @@ use model::Answer;
 use model::State;
 use step::Counts;
 ghost use mathlib.Core.Path.{_≡_};
+ghost use Prim.Native.Nat.{_≤_};
 ghost use lib.ListN.{length};
 ghost use Rattle.model.specs.Guard.{Tables, withThree, guardOf, vectorBytes};
 ghost use Rattle.model.specs.Sync.{sweep, sweepFrom, entryIn, stepFrom};
@@ -13,15 +14,15 @@ ghost use Rattle.step.specs.Steps.{rulesBy};
 // Every page of parts of one length, in rising order. The lengths are asked for since question 7 has settled them in every caller.
 fn sync_pages(
     user: bool,
-    frames: u16,
-    pending: u16,
+    frames: u64,
+    pending: u64,
     exclusion: &[u8],
     kernel: &[u64],
     shadow: &mut [u64],
     map: &mut [u16],
 ) -> Counts
     requires { ⌜ (length (now shadow) ≡ length (now kernel)) × (length (now map) ≡ length (now kernel))
-        × (length (now exclusion) ≡ vectorBytes frames) ⌝ }
+        × (length (now exclusion) ≡ vectorBytes frames) × (frames ≤ 4096) ⌝ }
     ensures { λ r. ⌜ sweep (now (shadow .exit)) (now (map .exit)) (r .changed) (r .joined)
         ≡ sweepFrom (stepFrom (rulesBy user frames pending (now (exclusion .entry))) (entryIn (now (kernel .entry)))) 0
         (now (shadow .entry)) (now (map .entry)) ⌝ }

@@ -32,8 +32,8 @@ struct Pages {
 // What the step of every page reads beside the vector: whether user mode runs, F, and the pending frame, or 65535.
 struct Rules {
     user: bool,
-    frames: u16,
-    pending: u16,
+    frames: u64,
+    pending: u64,
 }
 
 // The kernel entries of a run of pages: that of a large page with the frames after its own, or those in the words from a place on; and the rights above
@@ -78,7 +78,7 @@ fn sync_run(
     counts: Counts,
 ) -> Counts
     requires { ⌜ (pages .first ≤ pages .end) × (pages .end ≤ length (now shadow)) × (length (now map) ≡ length (now shadow)) × (counts .changed ≤ pages .first)
-        × (counts .joined ≤ pages .first) × (length (now exclusion) ≡ vectorBytes (rules .frames))
+        × (counts .joined ≤ pages .first) × (length (now exclusion) ≡ vectorBytes (rules .frames)) × (rules .frames ≤ 4096)
         × Holds (source .large) (now words) source (pages .end - pages .first) ⌝ }
     ensures { λ r. ⌜ (sweep (now (shadow .exit)) (now (map .exit)) (r .changed) (r .joined)
         ≡ sweptFrom (stepFrom (rulesIn rules (now (exclusion .entry))) (entryBy (now (words .entry)) source (pages .first))) (pages .first)
@@ -119,7 +119,7 @@ fn sync_part(
     counts: Counts,
 ) -> Counts
     requires { ⌜ (pages .first ≤ pages .end) × (pages .end ≤ length (now shadow)) × (length (now map) ≡ length (now shadow)) × (counts .changed ≤ pages .first)
-        × (counts .joined ≤ pages .first) × (length (now exclusion) ≡ vectorBytes (rules .frames)) × (pages .first % 512 ≡ 0)
+        × (counts .joined ≤ pages .first) × (length (now exclusion) ≡ vectorBytes (rules .frames)) × (rules .frames ≤ 4096) × (pages .first % 512 ≡ 0)
         × (pages .end - pages .first ≤ 512) × Sound (now words) part ⌝ }
     ensures { λ r. ⌜ (sweep (now (shadow .exit)) (now (map .exit)) (r .changed) (r .joined)
         ≡ sweptFrom (stepFrom (rulesIn rules (now (exclusion .entry))) (flatIn (now (words .entry)) part)) (pages .first) (pages .end - pages .first)
@@ -184,7 +184,7 @@ fn sync_parts(
     map: &mut [u16],
 ) -> Counts
     requires { ⌜ (treeInOrder (treeOf (now words) root depth) ≡ true) × (length (now map) ≡ length (now shadow))
-        × (length (now exclusion) ≡ vectorBytes (rules .frames)) ⌝ }
+        × (length (now exclusion) ≡ vectorBytes (rules .frames)) × (rules .frames ≤ 4096) ⌝ }
     ensures { λ r. ⌜ sweep (now (shadow .exit)) (now (map .exit)) (r .changed) (r .joined)
         ≡ sweepFrom (stepFrom (rulesIn rules (now (exclusion .entry))) (flatAt (treeOf (now (words .entry)) root depth))) 0
         (now (shadow .entry)) (now (map .entry)) ⌝ }

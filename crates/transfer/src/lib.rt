@@ -29,7 +29,7 @@ fn in_window(window: Device, first: u64, last: u64) -> bool
 // The number of the question that refuses a device write, or 0, by how long the list is and the device's record in it.
 // Question 7 is answered yes, so that the vector has a bit for each frame. Question 9 has settled that every frame touched is below F.
 fn device_write_refusal(
-    frames: u16,
+    frames: u64,
     exclusion: &[u8],
     listed: usize,
     window: Device,
@@ -37,7 +37,7 @@ fn device_write_refusal(
     address: u64,
     length: u64,
 ) -> u64
-    requires { ⌜ lib.ListN.length (now exclusion) ≡ vectorBytes frames ⌝ }
+    requires { ⌜ (lib.ListN.length (now exclusion) ≡ vectorBytes frames) × (frames ≤ 4096) ⌝ }
     ensures { λ r. ⌜ r ≡ firstNo (deviceWriteQuestions (transferView listed frames (now (exclusion .entry))) listed window device address length) ⌝ }
 {
     if !limits::device_length(length) {

@@ -1,18 +1,18 @@
--- `decode::entry_pages` meets its contract: below i, each place has its field.
+-- `decode::entry_pages` meets its contract: below i, each place has its word.
 use Prim.Native.Nat.{ℕ, _+_, _-_, _<_, _≤_}
 use mathlib.Core.Path.{_≡_, refl}
 use lib.ListN.{length, getD, length-set}
-use borrow.Author.Needs.{needs}
 use borrow.Author.Count.{below-none}
 use native.Mathlib.Omega.{arith}
-use Rattle.decode.specs.Words.{entryPagesAt, entryWords, field}
+use Rattle.decode.specs.Words.{entryPagesAt, entryWords}
 use Rattle.decode.proofs.WordLaws.{entries-more, entries-over}
+use borrow.Author.Needs.{needs}
 use Rattle.decode.proofs.entry_pages.Statement.{statement}
 use Rattle.decode.proofs.entry_pages.Tie as tie
 
 abbrev Inv-loop : tie.InvT-loop
 Inv-loop run entry₀ i₀ entry i =
-    (i ≤ entryWords) × (length entry ≡ entryWords) × ((k : ℕ) → k < i → getD entry k 0 ≡ field run (entryPagesAt + k))
+    (i ≤ entryWords) × (length entry ≡ entryWords) × ((k : ℕ) → k < i → getD entry k 0 ≡ getD run (entryPagesAt + k) 0)
 
 abbrev μ-loop : tie.MeasureT-loop
 μ-loop run entry₀ i₀ entry i = entryWords - i
@@ -20,14 +20,17 @@ abbrev μ-loop : tie.MeasureT-loop
 loop-holds : tie.Need-loop-holds Inv-loop μ-loop
 loop-holds c = (search needs, refl, below-none _)
 
-add-field : tie.Need-add-field Inv-loop μ-loop
-add-field c = omega arith
-
-field-requires : tie.Need-field-requires Inv-loop μ-loop
-field-requires c κs = omega arith
+add-entry : tie.Need-add-entry Inv-loop μ-loop
+add-entry c = omega arith
 
 mul-entry : tie.Need-mul-entry Inv-loop μ-loop
 mul-entry c = omega arith
+
+shared-slice-read-entry : tie.Need-shared-slice-read-entry Inv-loop μ-loop
+shared-slice-read-entry c = omega arith
+
+mul-entry-2 : tie.Need-mul-entry-2 Inv-loop μ-loop
+mul-entry-2 c = omega arith
 
 array-write-entry : tie.Need-array-write-entry Inv-loop μ-loop
 array-write-entry c = search needs
@@ -47,5 +50,5 @@ returns c = search (needs, entries-over)
 pub entry-pages-spec : {M : Type 1} → statement M
 entry-pages-spec =
     tie.close
-    (tie.spec Inv-loop μ-loop loop-holds add-field field-requires mul-entry array-write-entry add-i loop-less loop-again
-    returns)
+    (tie.spec Inv-loop μ-loop loop-holds add-entry mul-entry shared-slice-read-entry mul-entry-2 array-write-entry add-i
+    loop-less loop-again returns)

@@ -1,6 +1,6 @@
 -- `decode::pending_in` meets its contract.
-use borrow.Author.Needs.{needs}
 use Rattle.decode.proofs.WordLaws.{pair-read, nothing-read}
+use borrow.Author.Needs.{needs}
 use Rattle.decode.proofs.pending_in.Statement.{statement}
 use Rattle.decode.proofs.pending_in.Tie as tie
 
@@ -13,4 +13,4 @@ returns-2 c = search (needs, nothing-read)
 pub pending-in-spec : {M : Type 1} → statement M
 pending-in-spec =
     tie.close
-    (tie.spec (λ c κs. search needs) (λ c κs. search needs) (λ c. search needs) returns returns-2)
+    (tie.spec (λ c. search needs) (λ c. search needs) (λ c. search needs) returns returns-2)

@@ -3,10 +3,10 @@ use Prim.Native.Nat.{_-_, _≤_}
 use mathlib.Core.Path.{_≡_, refl}
 use lib.ListN.{length, length-set}
 use lib.Seq.{paste, paste-zero}
-use borrow.Author.Needs.{needs}
 use native.Mathlib.Omega.{arith}
 use Rattle.decode.specs.Words.{entryPagesAt, entryWords}
 use Rattle.encode.proofs.RunLaws.{paste-more, paste-over}
+use borrow.Author.Needs.{needs}
 use Rattle.encode.proofs.put_entry_pages.Statement.{statement}
 use Rattle.encode.proofs.put_entry_pages.Tie as tie
 
@@ -24,9 +24,6 @@ mul-run c = omega arith
 
 array-read-run : tie.Need-array-read-run Inv-loop μ-loop
 array-read-run c = search needs
-
-cast-run : tie.Need-cast-run Inv-loop μ-loop
-cast-run c = search needs
 
 add-run : tie.Need-add-run Inv-loop μ-loop
 add-run c = omega arith
@@ -55,5 +52,5 @@ returns c = search (needs, paste-over)
 pub put-entry-pages-spec : {M : Type 1} → statement M
 put-entry-pages-spec =
     tie.close
-    (tie.spec Inv-loop μ-loop loop-holds mul-run array-read-run cast-run add-run mul-run-2 slice-write-run add-i
-    loop-less loop-again same-length returns)
+    (tie.spec Inv-loop μ-loop loop-holds mul-run array-read-run add-run mul-run-2 slice-write-run add-i loop-less
+    loop-again same-length returns)

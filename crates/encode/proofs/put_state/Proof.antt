@@ -10,7 +10,7 @@ returns : tie.Need-returns
 returns c = (
   search (needs, words-written),
   ap stateIn (search (needs, words-written))
-      ∙ words-decoded _ (search needs) (search needs) (search needs) (search needs) (λ i. search needs) (search needs) (search needs) (search needs),
+      ∙ words-decoded _ (search needs),
 )
 
 pub put-state-spec : {M : Type 1} → statement M

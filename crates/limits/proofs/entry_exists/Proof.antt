@@ -9,4 +9,4 @@ returns c = cc
 pub entry-exists-spec : {M : Type 1} → statement M
 entry-exists-spec =
     tie.close
-    (tie.spec (λ c. search needs) (λ c κs. search needs) (λ c κs. search needs) returns)
+    (tie.spec (λ c κs. search needs) (λ c κs. search needs) returns)

@@ -15,4 +15,4 @@ returns-2 c = cc
 pub pending-frame-spec : {M : Type 1} → statement M
 pending-frame-spec =
     tie.close
-    (tie.spec (λ c. search needs) (λ c. search needs) returns returns-2)
+    (tie.spec (λ c. search needs) (λ c. search needs) (λ c. search needs) returns returns-2)
