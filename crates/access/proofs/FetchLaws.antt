@@ -1,5 +1,5 @@
 -- Laws of a fetch: what it answers by the first no of its questions, and the bounds that its code needs on the way.
-use Prim.Native.Nat.{ℕ, _<_, _≤_, _%_}
+use Prim.Native.Nat.{ℕ, _<_}
 use mathlib.Core.Bool.{Bool, true, false, not}
 use mathlib.Core.List.{List, [], _∷_}
 use mathlib.Core.Path.{_≡_, refl, sym, _∙_}
@@ -18,7 +18,7 @@ use Rattle.model.specs.Questions.{firstNo, seen, stateInOrder, inOrder, fetchPe
 use Rattle.model.specs.Calls.{replyOf, outcomeBy, fetch, questionsOf, effectOf, answer}
 use Rattle.laws.proofs.QuestionLaws.{firstNo-yes}
 use Rattle.laws.proofs.AcceptedLaws.{fetch-page}
-use Rattle.laws.proofs.StateLaws.{pages-few, in-order, shadow-long}
+use Rattle.laws.proofs.StateLaws.{shadow-long}
 use Rattle.laws.proofs.CallLaws.{passed, passed-always, stopped, none-left, refused-by, accepted-by}
 use Rattle.access.specs.AccessView.{accessView}
 
@@ -90,10 +90,6 @@ module _ (s : State) (shadow : List ℕ) (page : ℕ) (r7 : Bool) (e7 : r7 ≡ i
           omega arith
 
       pub fetch-accepted : (after : State) (m : Mode) (frame : ℕ) → frame ≡ frameOf (getD shadow page 0)
-          → m ≡ modeOf (inUser (s .mode)) (page % 65536) → after ≡ inMode s m → Fetched (record { answer = Done frame frame; state = after })
+          → m ≡ modeOf (inUser (s .mode)) page → after ≡ inMode s m → Fetched (record { answer = Done frame frame; state = after })
       unfolding outcomeBy replyOf effectOf
-      fetch-accepted after m frame f d a t =
-          let b : page < s .pages = below in
-          let few : s .pages ≤ 2048 = pages-few s (in-order _ _ (sym e7 ∙ not-false r7 y7) .0) in
-          let low : page % 65536 ≡ page = omega arith in
-          accepted-by _ (fetch page) _ (fetch-number t ∙ z) (rw (a, d, f, low) refl)
+      fetch-accepted after m frame f d a t = accepted-by _ (fetch page) _ (fetch-number t ∙ z) (rw (a, d, f) refl)

@@ -1,12 +1,10 @@
 -- Laws of a write: what it answers by the first no of its questions, and the bounds that its code needs on the way.
-use Prim.Native.Nat.{ℕ, _/_, _<_, _≤_, _^_}
+use Prim.Native.Nat.{ℕ, _/_, _<_, _≤_}
 use mathlib.Core.Bool.{Bool, true, false, not}
 use mathlib.Core.List.{List, [], _∷_}
 use mathlib.Core.Path.{_≡_, refl, sym, _∙_}
 use lib.ListN.{length, getD}
 use lib.Dec.{ltb, eqb}
-use mir.Syntax.{w16}
-use mir.Val.{Fits}
 use borrow.Author.Tests.{not-true, not-false, ltb-true, lt-ltb, le-ltb, eqb-true}
 use lib.Bits.{bitAnd}
 use native.Mathlib.Omega.{arith}
@@ -92,13 +90,12 @@ module _ (user : Bool) (frames first last : ℕ) (exclusion : List ℕ) (r : Boo
           unfolding both
           entries-fit yb = entries-none b (rw (← eg) eb) (rw (not-false a ya, not-false b yb) refl)
 
--- Where a write lies that passed questions 8 and 9, of V that fits its 16 bits.
+-- Where a write lies that passed questions 8 and 9, of V in its range.
 module _ (address length pages : ℕ) (r8 r9 : Bool) (e8 : r8 ≡ within 1 16 length) (y8 : not r8 ≡ false)
     (e9 : r9 ≡ ltb (lastPage address length) pages) (y9 : not r9 ≡ false) where
-  pub write-last : Fits w16 pages → (1 ≤ length) × (lastPage address length < 65536)
-  write-last f =
+  pub write-last : pages ≤ 2048 → (1 ≤ length) × (lastPage address length < 65536)
+  write-last few =
       let b : lastPage address length < pages = ltb-true _ _ (sym e9 ∙ not-false r9 y9) in
-      let p : pages < 2 ^ 16 = f .fits in
       (within-low 1 16 length (sym e8 ∙ not-false r8 y8), omega arith)
 
   pub first-in : (long : ℕ) → long ≡ pages → address / 4096 < long
@@ -143,10 +140,10 @@ module _ (user : Bool) (pages frames address length : ℕ) (shadow exclusion : L
 -- A write as a whole.
 module _ (s : State) (shadow exclusion : List ℕ) (r7 : Bool)
     (e7 : r7 ≡ inOrder (stateInOrder s) (eqb (length shadow) (s .pages) ∷ eqb (length exclusion) (vectorBytes (s .frames)) ∷ [])) where
-  pub write-tables : not r7 ≡ false → (length shadow ≡ s .pages) × (length exclusion ≡ vectorBytes (s .frames))
+  pub write-tables : not r7 ≡ false → (length shadow ≡ s .pages) × (length exclusion ≡ vectorBytes (s .frames)) × (s .pages ≤ 2048)
   write-tables y7 =
       let fit = in-order _ _ (sym e7 ∙ not-false r7 y7) in
-      (eqb-true _ _ (fit .1 .0), eqb-true _ _ (fit .1 .1 .0))
+      (eqb-true _ _ (fit .1 .0), eqb-true _ _ (fit .1 .1 .0), pages-few s (fit .0))
 
   module _ (address bytes : ℕ) where
     abbrev Written : Answer → Type 0
@@ -182,7 +179,7 @@ module _ (s : State) (shadow exclusion : List ℕ) (r7 : Bool)
         written-last =
             let b : lastPage address bytes < length shadow = written-last-in _ refl in
             let l : length shadow ≡ s .pages = write-tables y7 .0 in
-            let f : s .pages ≤ 2048 = pages-few s (in-order _ _ (sym e7 ∙ not-false r7 y7) .0) in
+            let f : s .pages ≤ 2048 = write-tables y7 .2 in
             (write-some (accessView user (s .pages) (s .frames) shadow exclusion) address bytes (sym e ∙ z), omega arith)
 
         pub written-first-in : address / 4096 < length shadow

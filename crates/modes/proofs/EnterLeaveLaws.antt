@@ -1,11 +1,11 @@
 -- Laws of enter and leave: what each answers by the first no of its questions, and where the page that it goes to lies.
-use Prim.Native.Nat.{ℕ, _<_, _≤_, _%_}
+use Prim.Native.Nat.{ℕ, _<_}
 use mathlib.Core.Bool.{Bool, true, false, not}
 use mathlib.Core.List.{List, [], _∷_}
 use mathlib.Core.Path.{_≡_, sym, _∙_}
 use lib.ListN.{length, getD}
 use lib.Dec.{ltb, eqb}
-use borrow.Author.Tests.{not-false, ltb-true}
+use borrow.Author.Tests.{ltb-true}
 use native.Mathlib.Omega.{arith}
 use Rattle.model.specs.declared.State.{State}
 use Rattle.model.specs.declared.Mode.the-variants.{Kernel, User}
@@ -16,8 +16,7 @@ use Rattle.model.specs.Guard.{Tables, withShadow, Guard, guardOf, inUser}
 use Rattle.model.specs.Questions.{firstNo, seen, stateInOrder, inOrder, enterQuestions, leaveQuestions}
 use Rattle.model.specs.Calls.{Outcome, outcomeBy, enter, leave, questionsOf, switchTo, effectOf, answer}
 use Rattle.laws.proofs.QuestionLaws.{both-second}
-use Rattle.laws.proofs.AcceptedLaws.{leave-page}
-use Rattle.laws.proofs.StateLaws.{pages-few, in-order, shadow-long}
+use Rattle.laws.proofs.StateLaws.{shadow-long}
 use Rattle.laws.proofs.CallLaws.{passed, stopped, refused-by, accepted-by}
 use Rattle.modes.specs.Switches.{switchPermitted, switchQuestions}
 
@@ -75,12 +74,7 @@ module _ (s : State) (shadow : List ℕ) (r7 : Bool) (e7 : r7 ≡ inOrder (state
             → Gives r shadow (λ g. answer g (leave page))
         leave-refused r z a i t = refused-by _ (leave page) r number (leave-number t) z a i
 
-        -- The page of an accepted leave is below V, and so fits its 16 bits.
-        pub leave-accepted : (r : Called) (after : List ℕ) → number ≡ 0 → Gives r after (λ g. switchTo g (User (page % 65536)))
+        pub leave-accepted : (r : Called) (after : List ℕ) → number ≡ 0 → Gives r after (λ g. switchTo g (User page))
             → Gives r after (λ g. answer g (leave page))
-        unfolding questionsOf effectOf
-        leave-accepted r after z g t =
-            let b : page < s .pages = leave-page _ page (leave-number t ∙ z) in
-            let f : s .pages ≤ 2048 = pages-few s (in-order _ _ (sym e7 ∙ not-false r7 y7) .0) in
-            let low : page % 65536 ≡ page = omega arith in
-            accepted-by _ (leave page) _ (leave-number t ∙ z) (rw low at g t)
+        unfolding effectOf
+        leave-accepted r after z g t = accepted-by _ (leave page) _ (leave-number t ∙ z) (g t)

@@ -1,12 +1,10 @@
 -- Laws of a device write: what it answers by the first no of its questions, and the bounds on the way.
-use Prim.Native.Nat.{ℕ, suc, _-_, _*_, _/_, _<_, _≤_, _^_}
+use Prim.Native.Nat.{ℕ, suc, _-_, _*_, _/_, _<_, _≤_}
 use mathlib.Core.Bool.{Bool, true, false, not}
 use mathlib.Core.List.{List, [], _∷_}
 use mathlib.Core.Path.{_≡_, refl, sym, _∙_}
 use lib.ListN.{length}
 use lib.Dec.{leb, ltb, eqb}
-use mir.Syntax.{w16}
-use mir.Val.{Fits}
 use borrow.Author.Tests.{not-false, lt-ltb, le-ltb, ltb-true, le-leb, leb-true, eqb-true, eq-eqb}
 use native.Mathlib.Omega.{arith}
 use Rattle.model.specs.declared.State.{State}
@@ -105,10 +103,9 @@ module _ (listed frames : ℕ) (exclusion : List ℕ) (d : Device) (device addre
         below : lastPage address length < frames
         below = ltb-true _ _ (sym (last-page-below address length frames) ∙ sym e9 ∙ not-false r9 y9)
 
-        pub transfer-last : Fits w16 frames → (1 ≤ length) × (lastPage address length < 65536)
-        transfer-last f =
+        pub transfer-last : frames ≤ 4096 → (1 ≤ length) × (lastPage address length < 65536)
+        transfer-last few =
             let b : lastPage address length < frames = below in
-            let p : frames < 2 ^ 16 = f .fits in
             (least, omega arith)
 
         pub transfer-rises : (last : ℕ) → last ≡ lastPage address length → address / 4096 ≤ last
@@ -155,8 +152,10 @@ module _ (s : State) (exclusion : List ℕ) (listed : ℕ) (d : Device) (device 
       refused-by _ (deviceWrite devices device address length) _ 7 (rw long (sym (stopped 7 r7 _ _ e7 n))) (λ z. omega arith) refl refl
 
   module _ (y7 : not r7 ≡ false) where
-    pub transfer-vector : lib.ListN.length exclusion ≡ vectorBytes (s .frames)
-    transfer-vector = eqb-true _ _ (in-order _ _ (sym e7 ∙ not-false r7 y7) .1 .0)
+    pub transfer-vector : (lib.ListN.length exclusion ≡ vectorBytes (s .frames)) × (s .frames ≤ 4096)
+    transfer-vector =
+        let fit = in-order _ _ (sym e7 ∙ not-false r7 y7) in
+        (eqb-true _ _ (fit .1 .0), frames-few s (fit .0))
 
     module _ (number : ℕ) (e : number ≡ firstNo (deviceWriteQuestions (transferView listed (s .frames) exclusion) listed d device address length)) where
       -- The questions after 7 do not look at the lengths, nor at the mode.
@@ -179,7 +178,7 @@ module _ (s : State) (exclusion : List ℕ) (listed : ℕ) (d : Device) (device 
         transferred-last =
             let v = transferView listed (s .frames) exclusion in
             let b : lastByte address length < s .frames * 4096 = deviceWrite-byte v listed d device address length (sym e ∙ z) in
-            let f : s .frames ≤ 4096 = frames-few s (in-order _ _ (sym e7 ∙ not-false r7 y7) .0) in
+            let f : s .frames ≤ 4096 = transfer-vector .1 in
             (deviceWrite-some v listed d device address length (sym e ∙ z), omega arith)
 
         pub transfer-accepted : (last : ℕ) → last ≡ lastPage address length → Transferred (Done (address / 4096) last)

@@ -27,5 +27,5 @@ pub fetch-spec : {M : Type 1} → statement M
 fetch-spec =
     tie.close
     (tie.spec (λ c κs. search needs) (λ c κs. search needs) returns (λ c κs. search needs) fetch-refusal-requires
-    (λ c κs. search needs) returns-2 mul-frame-of shared-slice-read-frame-of (λ c κs. search needs) (λ c. search needs)
+    (λ c κs. search needs) returns-2 mul-frame-of shared-slice-read-frame-of (λ c κs. search needs)
     (λ c κs. search needs) (λ c κs. search needs) returns-3)

@@ -18,7 +18,7 @@ shared-slice-read-first c =
 last-page-requires : tie.Need-last-page-requires
 last-page-requires c κs =
     write-last _ _ _ _ _ (c .before .before .before .before .write-length .ensures) (c .before .before .before .if1 .left)
-    (c .before .before .write-exists .ensures) (c .before .if2 .left) (c .before .before .before .before .before .before .before .fits .pages)
+    (c .before .before .write-exists .ensures) (c .before .if2 .left) (c .before .before .before .before .before .before .before .pre .2)
 
 mul-last : tie.Need-mul-last
 mul-last c = search (needs, last-in)

@@ -20,5 +20,5 @@ pub enter-spec : {M : Type 1} → statement M
 enter-spec =
     tie.close
     (tie.spec (λ c κs. search needs) (λ c κs. search needs) returns (λ c κs. search needs) (λ c κs. search needs)
-    (λ c κs. search needs) (λ c. search needs) refusal-requires (λ c κs. search needs) (λ c. search needs) returns-2
-    (λ c κs. search needs) (λ c. search needs) returns-3)
+    (λ c κs. search needs) refusal-requires (λ c κs. search needs) (λ c. search needs) returns-2 (λ c κs. search needs)
+    (λ c. search needs) returns-3)

@@ -10,7 +10,9 @@ returns c =
     transfer-unfit _ (a .exclusion .now) _ (a .window) _ _ _ _ (c .before .device-write-in-order .ensures) (c .if1 .taken)
 
 device-write-refusal-requires : tie.Need-device-write-refusal-requires
-device-write-refusal-requires c κs = search (needs, transfer-vector)
+device-write-refusal-requires c κs =
+    let a = c .before .before .before .args in
+    transfer-vector _ (a .exclusion .now) _ (a .window) _ _ _ _ (c .before .device-write-in-order .ensures) (c .if1 .left)
 
 returns-2 : tie.Need-returns-2
 returns-2 c = search (needs, transfer-refused)

@@ -20,7 +20,7 @@ last-page-requires c κs =
     let a = b .before .before .before .before .args in
     transfer-last _ _ (a .exclusion .now) (a .window) _ _ _ _ (b .before .before .device-length .ensures) (b .before .if1 .left) (b .if2 .left) _
     (c .before .transfer-exists .ensures) (c .if3 .left)
-    (b .before .before .before .before .fits .frames)
+    (b .before .before .before .before .pre .1)
 
 in-window-requires : tie.Need-in-window-requires
 in-window-requires c κs =
