@@ -100,6 +100,11 @@ pub approved-stored : (user : Bool) (i frame e changed joined x y : ℕ) (shadow
 approved-stored user i frame e changed joined x y shadow map shadow′ map′ r ps pm px py =
     stored-step (slot (approved user frame) frame) i e frame changed joined x y shadow map shadow′ map′ (rw r refl) ps pm px py
 
+both-no : (a b : Bool) → b ≡ false → both a b ≡ false
+unfolding both
+both-no true b p = p
+both-no false b p = refl
+
 module _ (user : Bool) (i frame changed joined : ℕ) (shadow map : List ℕ) where
   abbrev committed : Sweep
   committed = stored i (sweep shadow map changed joined) (committedSlot user frame false (getD shadow i 0) (getD map i 0))
@@ -115,11 +120,11 @@ module _ (user : Bool) (i frame changed joined : ℕ) (shadow map : List ℕ) wh
   unfolding both
   commit-numbered p = left (rw (ne-eqb (getD map i 0) none p) refl)
 
-  module _ (b : Bool) (free : getD map i 0 ≡ 65535) (e : b ≡ maps frame (getD shadow i 0)) where
+  module _ (b : Bool) (e : b ≡ maps frame (getD shadow i 0)) where
     pub commit-left : not b ≡ true → sweep shadow map changed joined ≡ committed
-    unfolding both
-    commit-left p = left (rw (eq-eqb (getD map i 0) none free) (sym e ∙ not-true b p))
+    commit-left p = left (both-no (eqb (getD map i 0) none) (maps frame (getD shadow i 0)) (sym e ∙ not-true b p))
 
-    pub commit-joins : (s : Sweep) → not b ≡ false → s ≡ stored i (sweep shadow map changed joined) (slot (approved user frame) frame) → s ≡ committed
+    pub commit-joins : (s : Sweep) → not b ≡ false → getD map i 0 ≡ 65535
+        → s ≡ stored i (sweep shadow map changed joined) (slot (approved user frame) frame) → s ≡ committed
     unfolding committedSlot either both
-    commit-joins s p q = rw (eq-eqb (getD map i 0) none free, sym e ∙ not-false b p) q
+    commit-joins s p free q = rw (eq-eqb (getD map i 0) none free, sym e ∙ not-false b p) q

@@ -5,7 +5,7 @@ use model::Entry;
 use model::NONE;
 ghost use mathlib.Core.Path.{_≡_};
 ghost use mathlib.Core.Bool.{false};
-ghost use Prim.Native.Nat.{_+_, _<_, _≤_};
+ghost use Prim.Native.Nat.{_+_, _^_, _<_, _≤_};
 ghost use lib.ListN.{length, getD, set};
 ghost use Rattle.model.specs.Basics.{differs};
 ghost use Rattle.model.specs.Guard.{vectorBytes};
@@ -65,17 +65,23 @@ pub struct Counts {
     pub joined: u64,
 }
 
-// Stores a page's shadow entry where its value changed, and counts that. No more entries are counted than pages lie before this one.
+// Counts a value that changed. It compiles without a branch.
+fn counted(old: u64, new: u64, changed: u64) -> u64
+    requires { ⌜ changed < 2 ^ 63 ⌝ }
+    ensures { λ r. ⌜ (r ≡ changed + differs old new) × (r ≤ changed + 1) ⌝ }
+{
+    if old == new { changed } else { changed + 1 }
+}
+
+// Stores a page's shadow entry, and counts it where its value changed. No more entries are counted than pages lie before this one.
 fn put_entry(shadow: &mut [u64], i: usize, entry: u64, changed: u64) -> u64
     requires { ⌜ (i < length (now shadow)) × (changed ≤ i) ⌝ }
     ensures { λ r. ⌜ (now (shadow .exit) ≡ set (now (shadow .entry)) i entry)
         × (r ≡ changed + differs (getD (now (shadow .entry)) i 0) entry) × (r ≤ changed + 1) ⌝ }
 {
-    if shadow[i] == entry {
-        return changed;
-    }
+    let count = counted(shadow[i], entry, changed);
     shadow[i] = entry;
-    changed + 1
+    count
 }
 
 // The same of a page's number in the map: a number that changed is that of a page that joined.
@@ -159,10 +165,10 @@ pub fn commit_at(
         (committedSlot user frame false (getD (now (shadow .entry)) i 0) (getD (now (map .entry)) i 0)))
         × (r .changed ≤ counts .changed + 1) × (r .joined ≤ counts .joined + 1) ⌝ }
 {
-    if map[i] != NONE {
+    if !entry::maps(shadow[i], frame) {
         return counts;
     }
-    if !entry::maps(shadow[i], frame) {
+    if map[i] != NONE {
         return counts;
     }
     approve_at(user, frame, shadow, map, i, counts)
