@@ -1,11 +1,13 @@
 -- Laws of ask, commit and drop: a law for each answer, over what the code has in hand.
-use Prim.Native.Nat.{ℕ, _+_, _-_, _%_, _≤_, _<_}
+use Prim.Native.Nat.{ℕ, _+_, _-_, _≤_, _<_}
 use mathlib.Core.Bool.{Bool, true, false, not}
 use mathlib.Core.List.{List, [], _∷_}
 use mathlib.Core.Path.{_≡_, refl, sym, ap, _∙_}
 use lib.ListN.{length, getD, List·getD-eq-default}
 use lib.Dec.{ltb, eqb}
 use borrow.Author.Tests.{not-false, eqb-true, eq-eqb, ne-eqb, ltb-true}
+use mir.Syntax.{w16}
+use mir.Val.{Fits}
 use native.Mathlib.Omega.{arith}
 use Rattle.model.specs.declared.Pending.{Pending}
 use Rattle.model.specs.declared.Pending.the-variants.{Nothing, Pair}
@@ -62,6 +64,14 @@ writable-over frame shadow i all inv past =
     let none-left : length shadow - i ≡ 0 = omega arith in
     rw none-left at inv
 
+-- A frame that questions 7 and 9 have let pass fits 16 bits.
+pub ask-narrow : (s : State) (others : List Bool) (page frame : ℕ) (r7 r9 : Bool) → r7 ≡ inOrder (stateInOrder s) others → not r7 ≡ false
+    → r9 ≡ both (ltb page (s .pages)) (ltb frame (s .frames)) → not r9 ≡ false → Fits w16 frame
+ask-narrow s others page frame r7 r9 e7 y7 e9 y9 =
+    let below : frame < s .frames = ltb-true frame (s .frames) (both-second (ltb page (s .pages)) (ltb frame (s .frames)) (sym e9 ∙ not-false r9 y9)) in
+    let few : s .frames ≤ 4096 = frames-few s (in-order _ others (sym e7 ∙ not-false r7 y7) .0) in
+    record { fits = omega arith }
+
 -- An ask.
 module _ (s : State) (shadow map exclusion : List ℕ) (page frame : ℕ) (r7 : Bool)
     (e7 : r7 ≡ inOrder (stateInOrder s)
@@ -93,30 +103,13 @@ module _ (s : State) (shadow map exclusion : List ℕ) (page frame : ℕ) (r7 : 
           refused-by (before t) (ask page frame) r 20 (sym (passed 7 20 r7 _ _ e7 y7 (passed 9 20 r9 _ _ e9 y9 (stopped 20 r20 _ _ e20-is n))))
           (λ z. omega arith) a i
 
-      -- Page and frame fit 16 bits, and the shadow table has V entries.
-      in-range : both (ltb page (s .pages)) (ltb frame (s .frames)) ≡ true
-      in-range = sym e9 ∙ not-false r9 y9
+      -- The shadow table has V entries.
+      shadow-full : length shadow ≡ s .pages
+      shadow-full = eqb-true _ _ (in-order _ _ (sym e7 ∙ not-false r7 y7) .1 .0)
 
-      parts : (stateInOrder s ≡ true) × (length shadow ≡ s .pages)
-      parts =
-          let all = in-order _ _ (sym e7 ∙ not-false r7 y7) in
-          (all .0, eqb-true _ _ (all .1 .0))
-
-      page-low : page % 65536 ≡ page
-      page-low =
-          let below : page < s .pages = ltb-true page (s .pages) (both-first _ _ in-range) in
-          let few : s .pages ≤ 2048 = pages-few s (parts .0) in
-          omega arith
-
-      frame-low : frame % 65536 ≡ frame
-      frame-low =
-          let below : frame < s .frames = ltb-true frame (s .frames) (both-second (ltb page (s .pages)) (ltb frame (s .frames)) in-range) in
-          let few : s .frames ≤ 4096 = frames-few s (parts .0) in
-          omega arith
-
-      module _ (y20 : not r20 ≡ false) (r21 : Bool) (e21 : r21 ≡ everyFrom (λ p. not (mapsWritable (frame % 65536) (getD shadow p 0))) 0 (length shadow)) where
+      module _ (y20 : not r20 ≡ false) (r21 : Bool) (e21 : r21 ≡ everyFrom (λ p. not (mapsWritable frame (getD shadow p 0))) 0 (length shadow)) where
         e21-is : r21 ≡ everyFrom (λ p. not (mapsWritable frame (getD shadow p 0))) 0 (s .pages)
-        e21-is = rw (frame-low, parts .1) at e21
+        e21-is = rw shadow-full at e21
 
         pub ask-21 : (r : Called) → not r21 ≡ true → r .answer ≡ Refused 21 → r .state ≡ s → Refuses r
         unfolding questionsOf askQuestions
@@ -124,14 +117,14 @@ module _ (s : State) (shadow map exclusion : List ℕ) (page frame : ℕ) (r7 : 
             refused-by (before t) (ask page frame) r 21
             (sym (passed 7 21 r7 _ _ e7 y7 (passed 9 21 r9 _ _ e9 y9 (passed 20 21 r20 _ _ e20-is y20 (stopped 21 r21 _ _ e21-is n))))) (λ z. omega arith) a i
 
-        pub ask-accepted : (after : State) (exclusion′ : List ℕ) → not r21 ≡ false → after ≡ withPending s (Pair (page % 65536) (frame % 65536))
+        pub ask-accepted : (after : State) (exclusion′ : List ℕ) → not r21 ≡ false → after ≡ withPending s (Pair page frame)
             → exclusion′ ≡ withBit true exclusion frame
             → (t : Tables) → outcomeBy (record { answer = Done 0 0; state = after }) (withThree shadow map exclusion′ t) ≡ answer (before t) (ask page frame)
         unfolding questionsOf askQuestions effectOf bitPut outcomeBy replyOf
         ask-accepted after exclusion′ y21 p q t =
             accepted-by (before t) (ask page frame) _
             (sym (passed 7 0 r7 _ _ e7 y7 (passed 9 0 r9 _ _ e9 y9 (passed 20 0 r20 _ _ e20-is y20 (passed 21 0 r21 _ _ e21-is y21 none-left)))))
-            (rw (p, q, page-low, frame-low) refl)
+            (rw (p, q) refl)
 
 -- The commit as a call.
 module _ (s : State) (shadow map : List ℕ) (r7 : Bool)
@@ -167,6 +160,9 @@ module _ (s : State) (shadow map : List ℕ) (r7 : Bool)
           rw (eqb-true (length shadow) (s .pages) (all .1 .0)) (ltb-true page (s .pages) (both-first _ _ pair)),
           omega (arith, below, frames-few s (all .0)),
         )
+
+    pub commit-narrow : (page frame : ℕ) → s .pending ≡ Pair page frame → Fits w16 frame
+    commit-narrow page frame is = record { fits = omega (arith, commit-below page frame is .1) }
 
     pub commit-22 : (r : Called) → s .pending ≡ Nothing → r .answer ≡ Refused 22 → r .state ≡ s → CommitRefuses r
     unfolding questionsOf commitQuestions pageUnapproved isPending

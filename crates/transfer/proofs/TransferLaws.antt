@@ -152,10 +152,11 @@ module _ (s : State) (exclusion : List ℕ) (listed : ℕ) (d : Device) (device 
       refused-by _ (deviceWrite devices device address length) _ 7 (rw long (sym (stopped 7 r7 _ _ e7 n))) (λ z. omega arith) refl refl
 
   module _ (y7 : not r7 ≡ false) where
-    pub transfer-vector : (lib.ListN.length exclusion ≡ vectorBytes (s .frames)) × (s .frames ≤ 4096)
-    transfer-vector =
-        let fit = in-order _ _ (sym e7 ∙ not-false r7 y7) in
-        (eqb-true _ _ (fit .1 .0), frames-few s (fit .0))
+    pub transfer-vector : lib.ListN.length exclusion ≡ vectorBytes (s .frames)
+    transfer-vector = eqb-true _ _ (in-order _ _ (sym e7 ∙ not-false r7 y7) .1 .0)
+
+    pub transfer-few : s .frames ≤ 4096
+    transfer-few = frames-few s (in-order _ _ (sym e7 ∙ not-false r7 y7) .0)
 
     module _ (number : ℕ) (e : number ≡ firstNo (deviceWriteQuestions (transferView listed (s .frames) exclusion) listed d device address length)) where
       -- The questions after 7 do not look at the lengths, nor at the mode.
@@ -178,7 +179,7 @@ module _ (s : State) (exclusion : List ℕ) (listed : ℕ) (d : Device) (device 
         transferred-last =
             let v = transferView listed (s .frames) exclusion in
             let b : lastByte address length < s .frames * 4096 = deviceWrite-byte v listed d device address length (sym e ∙ z) in
-            let f : s .frames ≤ 4096 = transfer-vector .1 in
+            let f : s .frames ≤ 4096 = transfer-few in
             (deviceWrite-some v listed d device address length (sym e ∙ z), omega arith)
 
         pub transfer-accepted : (last : ℕ) → last ≡ lastPage address length → Transferred (Done (address / 4096) last)

@@ -1,6 +1,6 @@
 -- A law for each answer: questions 7, 22 and 20 refuse, or the commit is accepted.
 use denote.Ref.{now}
-use Rattle.approvals.proofs.ApprovalLaws.{commit-7, commit-22, commit-20, commit-same, commit-few, commit-below, commit-accepted}
+use Rattle.approvals.proofs.ApprovalLaws.{commit-7, commit-22, commit-20, commit-same, commit-few, commit-below, commit-narrow, commit-accepted}
 use borrow.Author.Needs.{needs}
 use Rattle.approvals.proofs.commit.Statement.{statement}
 use Rattle.approvals.proofs.commit.Tie as tie
@@ -13,6 +13,9 @@ returns-2 c = search (needs, commit-22)
 
 returns-3 : tie.Need-returns-3
 returns-3 c = search (needs, commit-20)
+
+cast-commit-pages : tie.Need-cast-commit-pages
+cast-commit-pages c = search (needs, commit-narrow)
 
 commit-pages-requires : tie.Need-commit-pages-requires
 commit-pages-requires c κs =
@@ -31,6 +34,6 @@ pub commit-spec : {M : Type 1} → statement M
 commit-spec =
     tie.close
     (tie.spec (λ c κs. search needs) (λ c κs. search needs) returns (λ c. search needs) (λ c. search needs)
-    (λ c κs. search needs) returns-2 (λ c. search needs) (λ c κs. search needs) (λ c κs. search needs)
-    (λ c. search needs) returns-3 (λ c κs. search needs) commit-pages-requires (λ c κs. search needs) (λ c. search needs)
+    (λ c κs. search needs) returns-2 (λ c κs. search needs) (λ c κs. search needs) (λ c. search needs) returns-3
+    (λ c κs. search needs) cast-commit-pages commit-pages-requires (λ c κs. search needs) (λ c. search needs)
     (λ c. search needs) returns-4)

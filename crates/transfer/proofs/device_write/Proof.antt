@@ -1,5 +1,5 @@
 -- `transfer::device_write` meets its contract.
-use Rattle.transfer.proofs.TransferLaws.{transfer-unfit, transfer-vector, transfer-refused, transferred-last, transfer-accepted}
+use Rattle.transfer.proofs.TransferLaws.{transfer-unfit, transfer-vector, transfer-few, transfer-refused, transferred-last, transfer-accepted}
 use borrow.Author.Needs.{needs}
 use Rattle.transfer.proofs.device_write.Statement.{statement}
 use Rattle.transfer.proofs.device_write.Tie as tie
@@ -10,9 +10,7 @@ returns c =
     transfer-unfit _ (a .exclusion .now) _ (a .window) _ _ _ _ (c .before .device-write-in-order .ensures) (c .if1 .taken)
 
 device-write-refusal-requires : tie.Need-device-write-refusal-requires
-device-write-refusal-requires c κs =
-    let a = c .before .before .before .args in
-    transfer-vector _ (a .exclusion .now) _ (a .window) _ _ _ _ (c .before .device-write-in-order .ensures) (c .if1 .left)
+device-write-refusal-requires c κs = (search (needs, transfer-vector), search (needs, transfer-few))
 
 returns-2 : tie.Need-returns-2
 returns-2 c = search (needs, transfer-refused)
