@@ -5,7 +5,7 @@ use mathlib.Core.List.{List, [], _∷_, _++_}
 use lib.ListN.{replicate, set, take}
 use Rattle.model.specs.Guard.{tables, withShadow, withMap, withExclusion}
 use Rattle.model.specs.Policy.{Policy, givenOf}
-use Rattle.model.specs.Calls.{fetch, deviceWrite, ask, commit, drop}
+use Rattle.model.specs.Calls.{fetch, enter, deviceWrite, ask, commit, drop}
 use Rattle.record_model.specs.Record.{policyBy}
 use Rattle.model.specs.Cases.{Row, row}
 use Rattle.model.specs.Further.{twoEntries, threeDevices, shadow6, started6}
@@ -111,4 +111,17 @@ callExportCases =
     (returned 7 (runWith 3 1 65539 6) (0 ∷ 0 ∷ []) (started6 .tables))
     ∷ row (callAt (runWith 3 1 3 65542) (9 ∷ 9 ∷ []) (started6 .tables) (fetch 2))
     (returned 7 (runWith 3 1 3 65542) (0 ∷ 0 ∷ []) (started6 .tables))
+    -- No word is cut, at 16 bits or at 32: V, F, e or the running page gives 7, and an entry page 9 where it is entered
+    ∷ row (callAt (set (runWith 3 0 0 0) 0 65542) (9 ∷ 9 ∷ []) (started6 .tables) (fetch 2))
+    (returned 7 (set (runWith 3 0 0 0) 0 65542) (0 ∷ 0 ∷ []) (started6 .tables))
+    ∷ row (callAt (set (runWith 3 0 0 0) 1 65544) (9 ∷ 9 ∷ []) (started6 .tables) (deviceWrite threeDevices 2 4095 2))
+    (returned 7 (set (runWith 3 0 0 0) 1 65544) (0 ∷ 0 ∷ []) (started6 .tables))
+    ∷ row (callAt (set (runWith 3 0 0 0) 2 65538) (9 ∷ 9 ∷ []) (started6 .tables) (fetch 2))
+    (returned 7 (set (runWith 3 0 0 0) 2 65538) (0 ∷ 0 ∷ []) (started6 .tables))
+    ∷ row (callAt (set (runWith 3 0 0 0) 20 65537) (9 ∷ 9 ∷ []) (started6 .tables) (fetch 2))
+    (returned 7 (set (runWith 3 0 0 0) 20 65537) (0 ∷ 0 ∷ []) (started6 .tables))
+    ∷ row (callAt (set (runWith 3 0 0 0) 0 4294967302) (9 ∷ 9 ∷ []) (started6 .tables) (fetch 2))
+    (returned 7 (set (runWith 3 0 0 0) 0 4294967302) (0 ∷ 0 ∷ []) (started6 .tables))
+    ∷ row (callAt (set (set (runWith 3 0 0 0) 19 1) 3 65537) (9 ∷ 9 ∷ []) (started6 .tables) (enter 0))
+    (returned 9 (set (set (runWith 3 0 0 0) 19 1) 3 65537) (0 ∷ 0 ∷ []) (started6 .tables))
     ∷ []

@@ -54,12 +54,13 @@ fn take_turn(
 // As many calls as there are, and no more than the limit.
 fn take_turns(
     first: State,
+    frames: u16,
     kernel: &mut [u64],
     shadow: &mut [u64],
     map: &mut [u16],
     exclusion: &[u8],
 ) {
-    let devices = drill_calls::windows(first.frames);
+    let devices = drill_calls::windows(frames);
     let mut s = first;
     let mut left = drill_loop::call_limit();
     while drill_loop::goes_on(left) {
@@ -95,8 +96,9 @@ fn drill_on(
         return;
     }
     let state = opened.state;
-    take_turns(state, kernel, shadow, map, exclusion);
-    write_closing(state.frames, shadow, exclusion);
+    let frames = state.frames as u16;
+    take_turns(state, frames, kernel, shadow, map, exclusion);
+    write_closing(frames, shadow, exclusion);
 }
 
 fn main() {

@@ -57,7 +57,7 @@ pub fn bytes_lent(bytes: &[u8]) -> usize
 {
     let frames = policy::padded_number(bytes, 2);
     if ranges::frames_in_range(frames as u64) {
-        return lengths::vector_bytes(frames);
+        return lengths::vector_bytes(frames as u64);
     }
     0
 }
@@ -79,10 +79,11 @@ fn was_accepted(answer: Answer) -> bool
     }
 }
 
-// The start, with its line. Calls follow where it is accepted.
+// The start, with its line. Calls follow where it is accepted. F is in its range, or 0 where the start is refused.
 pub fn open(bytes: &[u8], shadow: &mut [u64], map: &mut [u16], exclusion: &mut [u8]) -> TurnResult
-    ensures { λ r. ⌜ openedBy r (tables (now (shadow .exit)) (now (map .exit)) (now (exclusion .exit)))
+    ensures opened { λ r. ⌜ openedBy r (tables (now (shadow .exit)) (now (map .exit)) (now (exclusion .exit)))
         ≡ openingOf (startOf drillGiven (now (bytes .entry)) (tables (now (shadow .entry)) (now (map .entry)) (now (exclusion .entry)))) ⌝ }
+    ensures few { λ r. ⌜ r .state .frames ≤ 4096 ⌝ }
 {
     let started = start::start(bytes, MOST_DEVICES as u64, shadow, map, exclusion);
     let answer = started.answer;
@@ -147,7 +148,7 @@ fn value_of(call: &[u8]) -> u64
 }
 
 // Kind 0. The guard's part of the drill stays as it is, whatever it is; question 9 looks at its V alone.
-fn edit(pages: u16, kernel: &mut [u64], page: u64, value: u64) -> Answer
+fn edit(pages: u64, kernel: &mut [u64], page: u64, value: u64) -> Answer
     ensures { λ r. ⌜ ((g : Guard) (devices : List Device) → g .state .pages ≡ pages
         → editedBy r (drillOf g (now (kernel .exit)) devices) ≡ edited (drillOf g (now (kernel .entry)) devices) page value) ⌝ }
 {

@@ -93,17 +93,6 @@ effects g (ask page frame) = record { number = refl; allowed = refl; state = ref
 effects g commit = record { number = refl; allowed = refl; state = refl; runs = λ passed. inl refl }
 effects g drop = record { number = refl; allowed = refl; state = refl; runs = λ passed. inl refl }
 
-pub effect-runs : (g : Guard) (call : Call) (limit : ℕ) → g .state .pages ≤ limit → running (g .state .mode) < limit
-    → firstNo (questionsOf (seen g) call) ≡ 0 → running (effectOf g call .guard .state .mode) < limit
-effect-runs g call limit few now passed = by (effects g call .runs passed)
-  where
-    page : ℕ
-    page = running (effectOf g call .guard .state .mode)
-
-    by : (page ≡ running (g .state .mode)) ⊎ (page < g .state .pages) → page < limit
-    by (inl e) = rw e now
-    by (inr below) = omega arith
-
 pub answer-unfit : (g : Guard) (call : Call) → stateInOrder (g .state) ≡ false → answer g call ≡ refusedOf g (broughtBy call) 7
 unfolding answer
 answer-unfit g call p = settle-refused-by 7 _ _ (λ z. omega arith) (state-refused (seen g) call p)

@@ -4,7 +4,7 @@ use Rattle.model.specs.Cases.{row, Hold}
 use Rattle.model.specs.Further.{twoEntries, threeDevices, sixPages, with6, shadow6, started6}
 use Rattle.record_model.proofs.Computed.{computed}
 use Rattle.model.proofs.CaseLaws.{hold}
-use Rattle.decode.specs.Words.{narrow, field, entryPagesIn, pendingIn, pendingWords, stateIn, modeWord, wordsOf, withWords, overwritten, withNumbers, runsFit}
+use Rattle.decode.specs.Words.{entryPagesIn, pendingIn, pendingWords, stateIn, modeWord, wordsOf, withWords, overwritten, withNumbers, runsFit}
 use Rattle.decode.specs.Words.{lendable, runAfter, runStarted}
 use Rattle.boundary.specs.Boundary.{replied, startAt, callAt, recordAt, walkAt}
 use Rattle.boundary.specs.ExportCases.{listed3, exportCases, lastTable, shortTable, walkExportCases, runWith, callExportCases}
@@ -16,7 +16,7 @@ unfolding computed row twoEntries overwritten withNumbers recordAt listed3 expor
 without-state = (hold exportCases refl, hold walkExportCases refl)
 
 with-state : Hold callExportCases
-unfolding computed row twoEntries threeDevices sixPages with6 shadow6 started6 narrow field entryPagesIn pendingIn pendingWords stateIn modeWord wordsOf
+unfolding computed row twoEntries threeDevices sixPages with6 shadow6 started6 entryPagesIn pendingIn pendingWords stateIn modeWord wordsOf
     withWords overwritten withNumbers runsFit lendable runAfter runStarted replied startAt callAt runWith callExportCases
 with-state = hold callExportCases refl
 
