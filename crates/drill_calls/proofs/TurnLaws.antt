@@ -1,8 +1,8 @@
 -- Laws of the drill's definitions over plain numbers and lists: the policy's extent, the tables lent, a call's fields, an edit, a turn.
-use Prim.Native.Nat.{ℕ, _+_, _-_, _*_, _^_, _≤_, _<_}
+use Prim.Native.Nat.{ℕ, zero, suc, _+_, _-_, _*_, _^_, _≤_, _<_}
 use mathlib.Core.Bool.{Bool, true, false, not}
 use mathlib.Core.List.{List, [], _∷_}
-use mathlib.Core.Path.{_≡_, refl, sym, _∙_}
+use mathlib.Core.Path.{_≡_, refl, sym, ap, _∙_}
 use lib.Dec.{ltb, eqb}
 use lib.ListN.{length, getD, set, replicate}
 use lib.Seq.{set-out}
@@ -19,12 +19,13 @@ use Rattle.model.specs.Basics.{within}
 use Rattle.model.specs.Sizes.{pagesInRange, framesInRange}
 use Rattle.model.specs.Guard.{Tables, Guard, guardOf, vectorBytes}
 use Rattle.model.specs.Devices.{deviceOf}
-use Rattle.model.specs.Policy.{policyOf, numberAt}
-use Rattle.model.specs.Questions.{firstNo}
-use Rattle.model.specs.Calls.{Outcome, refused, replyOf, outcomeBy, settle, answer}
+use Rattle.model.specs.Policy.{Givens, policyOf, numberAt, startState, zeroState}
+use Rattle.model.specs.Questions.{firstNo, lengthsOf, startQuestions}
+use Rattle.model.specs.Calls.{Outcome, refused, replyOf, outcomeBy, settle, startOf, answer}
 use Rattle.drill_model.specs.Drill.{policyExtent, windowsOf, kindOf, indexOf, lengthOf, valueOf, edited, callOf, withGuard, performed, line, startLine, turnOf}
 use Rattle.drill_model.specs.Drill.{turn}
 use Rattle.laws.proofs.QuestionLaws.{within-high}
+use Rattle.laws.proofs.PolicyLaws.{start-passed}
 use Rattle.drill_calls.specs.declared.TurnResult.{TurnResult}
 use Rattle.drill_calls.specs.Turns.{drillOf, editedBy, performedBy, turnBy, openingOf, openedBy, pagesLent, bytesLent}
 
@@ -82,6 +83,18 @@ pub opening-is : (r : Called) (l : Line) (b : Bool) (o : Outcome) (t : Tables) �
     → openedBy (record { state = r .state; line = l; goes = b }) t ≡ openingOf o
 unfolding openedBy openingOf outcomeBy startLine
 opening-is r l b o t e f g = rw (← e, f, g)
+
+-- F of the state that a start leaves: in its range, or 0.
+pub opened-few : (r : Called) (given : Givens) (bytes : List ℕ) (t t′ : Tables) → outcomeBy r t′ ≡ startOf given bytes t → r .state .frames ≤ 4096
+unfolding outcomeBy
+opened-few r given bytes t t′ e =
+    let is : r .state ≡ startOf given bytes t .guard .state = ap (λ (o : Outcome). o .guard .state) e in
+    rw is (by (firstNo (startQuestions given bytes (policyOf bytes) (lengthsOf t))) refl)
+  where
+    by : (n : ℕ) → firstNo (startQuestions given bytes (policyOf bytes) (lengthsOf t)) ≡ n → startOf given bytes t .guard .state .frames ≤ 4096
+    unfolding startOf settle startState zeroState
+    by zero p = rw p (start-passed given bytes (policyOf bytes) (lengthsOf t) p .frames-high)
+    by (suc n) p = rw p (omega arith)
 
 -- A call's fields by their 16-bit numbers.
 pub length-is : {low high r : ℕ} (call : List ℕ) → low ≡ numberAt call 4 → high ≡ numberAt call 6 → r ≡ low + 2 ^ 16 * high → r ≡ lengthOf call
