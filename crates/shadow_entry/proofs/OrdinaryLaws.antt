@@ -40,15 +40,18 @@ parts-63 (suc zero) f r a b c = (omega arith, omega arith)
 parts-63 (suc (suc t)) f r a b c = absurd (omega arith)
 
 -- A number shifted by 12, with what stands below it, fits 64 bits.
-pub copied-fits : (y r t w : ℕ) → y < 2 ^ 52 → r < 2 ^ 11 → t < 2 → w < 2 ^ 11 → y * 2 ^ 12 + r + t * w < 2 ^ 64
-copied-fits y r zero w a b c d = omega arith
-copied-fits y r (suc zero) w a b c d = omega arith
-copied-fits y r (suc (suc t)) w a b c d = absurd (omega arith)
+pub copied-fits : (y r w : ℕ) → y < 2 ^ 52 → r < 2 ^ 5 → w < 2 ^ 10 → y * 2 ^ 12 + r + w < 2 ^ 64
+copied-fits y r w a b c = omega arith
+
+-- A valid entry has nothing between its frame and bit 63, so that a shift brings bit 63 to bit 9 and nothing else with it.
+top-to-9 : (entry : ℕ) → entry < 2 ^ 64 → valid entry ≡ true → entry / 2 ^ 54 ≡ entry / 2 ^ 63 * 2 ^ 9
+unfolding frameOf
+top-to-9 entry h p = let parts : entry / 2 ^ 12 ≡ entry / 2 ^ 63 * 2 ^ 51 + frameOf entry = above-12 entry p in omega (arith, parts)
 
 -- An ordinary entry: what a valid entry has at bits 0 to 4 and from bit 12 on, and bit 63 copied to bit 9.
 pub ordinary-is : (user : Bool) (entry : ℕ) (u : Bool) (w : ℕ) → entry < 2 ^ 64 → valid entry ≡ true → u ≡ userBit entry
     → w ≡ cond (not user || not u) (2 ^ 63) 0
-    → bitOr (entry / 2 ^ 12 * 2 ^ 12 + entry % 2 ^ 5 + entry / 2 ^ 63 * 2 ^ 9) w ≡ ordinary user (fieldsOf entry)
+    → bitOr (entry / 2 ^ 12 * 2 ^ 12 + entry % 2 ^ 5 + entry / 2 ^ 54) w ≡ ordinary user (fieldsOf entry)
 unfolding ordinary fieldsOf writable userBit writeThrough cacheDisable noExecute frameOf
 ordinary-is user entry u w h p q r =
     let t : ℕ = entry / 2 ^ 63 in
@@ -59,7 +62,7 @@ ordinary-is user entry u w h p q r =
     let flags : entry % 2 ^ 5 + t * 2 ^ 9 + f * 2 ^ 12 ≡ lowest (fieldsOf entry) + flag (bit 63 entry) 9 + f * 2 ^ 12 =
     rw (flag-weight (bit 63 entry) 9, top, lowest-of entry odd) in
     let set : Bool = not user || not (bit 2 entry) in
-    rw (r, q)
+    rw (r, q, top-to-9 entry h p)
     (ap (λ (y : ℕ). bitOr (y * 2 ^ 12 + entry % 2 ^ 5 + t * 2 ^ 9) (cond set (2 ^ 63) 0)) (above-12 entry p)
     ∙ top-set ((t * 2 ^ 51 + f) * 2 ^ 12 + entry % 2 ^ 5 + t * 2 ^ 9) set (bit 63 entry) (high ∙ top)
     ∙ ap₂ (λ (a : ℕ) (b : Bool). a + flag b 63) (low ∙ flags) (ordinary-bit user (bit 63 entry) (bit 2 entry)))

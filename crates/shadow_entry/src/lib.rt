@@ -38,7 +38,7 @@ pub fn ordinary_of(user: bool, entry: u64) -> u64
     requires { ⌜ valid entry ≡ true ⌝ }
     ensures { λ r. ⌜ r ≡ ordinary user (fieldsOf entry) ⌝ }
 {
-    entry / FRAME * FRAME + entry % COPIED + entry / NO_EXECUTE * KERNEL_NO_EXECUTE
+    entry / FRAME * FRAME + entry % COPIED + entry / (NO_EXECUTE / KERNEL_NO_EXECUTE)
         | weight_if(!user | !user_bit(entry), NO_EXECUTE)
 }
 

@@ -6,7 +6,7 @@ use Rattle.shadow_entry.proofs.ordinary_of.Statement.{statement}
 use Rattle.shadow_entry.proofs.ordinary_of.Tie as tie
 
 add-result-2 : tie.Need-add-result-2
-add-result-2 c = record { fits = copied-fits _ _ _ _ (omega arith) (omega arith) (omega arith) (omega arith) }
+add-result-2 c = record { fits = copied-fits _ _ _ (omega arith) (omega arith) (omega arith) }
 
 returns : tie.Need-returns
 returns c = search (needs, ordinary-is)
