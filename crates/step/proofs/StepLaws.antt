@@ -1,29 +1,89 @@
 -- A law for each answer of this crate's functions: the five steps, the counts, and a page stored.
 use Prim.Native.Nat.{ℕ, _+_, _/_, _≤_, _<_}
-use mathlib.Core.Bool.{Bool, true, false, not}
+use mathlib.Core.Bool.{Bool, true, false, not, _&&_, false≢true}
 use mathlib.Core.List.{List}
 use mathlib.Core.Path.{_≡_, refl, sym, _∙_}
 use native.Mathlib.Omega.{arith}
 use lib.ListN.{getD, set}
 use lib.Seq.{set-getD}
 use lib.Dec.{eqb}
-use borrow.Author.Tests.{eq-eqb, ne-eqb, le-leb, lt-leb, not-true, not-false}
+use borrow.Author.Tests.{eq-eqb, ne-eqb, eqb-true, eqb-false, le-leb, lt-leb, not-true, not-false}
 use Rattle.model.specs.declared.Entry.{Entry}
 use Rattle.model.specs.declared.Entry.the-variants.{Absent, Present}
 use Rattle.model.specs.declared.Fields.{Fields}
 use Rattle.model.specs.Basics.{both, either, differs}
-use Rattle.model.specs.Guard.{none, vectorBytes}
+use Rattle.model.specs.Guard.{none, vectorBytes, hasBit}
 use Rattle.model.specs.Bits.{fieldsOf, valid, takenApart, approved, ordinaryNoExecute, ordinary, inspected}
 use Rattle.model.specs.Approvals.{maps, committedSlot}
 use Rattle.model.specs.Sync.{Rules, Slot, slot, stepOf, step, Sweep, sweep}
 use Rattle.laws.proofs.BitLaws.{fields-apart, present-valid}
-use Rattle.step.specs.Steps.{stored}
+use Rattle.step.specs.Steps.{rulesBy, isMarked, stored}
 
 -- An entry whose frame is pending is the same in both modes: with bit 9 set the ordinary rule sets bit 63.
 inspected-mode : (user : Bool) (x : Fields) → ordinary user (inspected x) ≡ ordinary true (inspected x)
 unfolding ordinary inspected ordinaryNoExecute either
 inspected-mode true x = refl
 inspected-mode false x = refl
+
+second : (a b : Bool) → a && b ≡ true → b ≡ true
+second true b p = p
+second false b p = absurd (false≢true p)
+
+-- Steps 3 to 5 on a valid entry with the frame f, of a page that has no number in the map.
+module _ (r : Rules) (k f : ℕ) (ok : valid k ≡ true) (same : f ≡ fieldsOf k .frame) where
+  parted : takenApart k ≡ Present (fieldsOf k)
+  unfolding takenApart
+  parted = rw ok
+
+  abbrev at : ℕ
+  at = fieldsOf k .frame
+
+  pub free-above : r .frames ≤ f → slot 0 65535 ≡ step r k none
+  unfolding step stepOf
+  free-above l = rw (parted, le-leb (r .frames) at (rw same at l))
+
+  module _ (l : f < r .frames) where
+    pub free-pending : (n : ℕ) → f ≡ r .pending → n ≡ ordinary true (inspected (fieldsOf k)) → slot n 65535 ≡ step r k none
+    unfolding step stepOf
+    free-pending n o u = rw (parted, lt-leb (r .frames) at (rw same at l), eq-eqb at (r .pending) (sym same ∙ o), u, inspected-mode (r .user) (fieldsOf k))
+
+    pub free-pending-unmarked : (n : ℕ) (m : Bool) → not m && eqb f (r .pending) ≡ true → n ≡ ordinary true (inspected (fieldsOf k))
+        → slot n 65535 ≡ step r k none
+    free-pending-unmarked n m b u = free-pending n (eqb-true f (r .pending) (second (not m) _ b)) u
+
+    pub free-excluded : (n a : ℕ) (b : Bool) → a ≡ f → b ≡ r .excluded f → not b ≡ false → (f ≡ r .pending → ⊥) → n ≡ approved (r .user) f
+        → slot n a ≡ step r k none
+    unfolding step stepOf
+    free-excluded n a b e s t o u =
+        rw (parted, lt-leb (r .frames) at (rw same at l), ne-eqb at (r .pending) (rw same at o), ← same, ← s, not-false b t, u, e)
+
+-- A frame without its bit is not the pending one, which is marked or was compared with it.
+marked-differs : (frames pending : ℕ) (exclusion : List ℕ) (f : ℕ) → isMarked frames pending exclusion ≡ true → f < frames → hasBit exclusion f ≡ false
+    → f ≡ pending → ⊥
+unfolding isMarked either
+marked-differs frames pending exclusion f p l without at =
+    false≢true (rw (← at, lt-leb frames f l, without) at p)
+
+differs-by : (m : Bool) (frames pending : ℕ) (exclusion : List ℕ) (f : ℕ) → (m ≡ true → isMarked frames pending exclusion ≡ true) → f < frames
+    → not m && eqb f pending ≡ false → hasBit exclusion f ≡ false → f ≡ pending → ⊥
+differs-by true frames pending exclusion f marked l unmarked without = marked-differs frames pending exclusion f (marked refl) l without
+differs-by false frames pending exclusion f marked l unmarked without = eqb-false f pending unmarked
+
+pub free-ordinary : (m user : Bool) (frames pending : ℕ) (exclusion : List ℕ) (k f n : ℕ) (b : Bool)
+    → (m ≡ true → isMarked frames pending exclusion ≡ true) → valid k ≡ true → f ≡ fieldsOf k .frame → f < frames → not m && eqb f pending ≡ false
+    → b ≡ hasBit exclusion f → not b ≡ true → n ≡ ordinary user (fieldsOf k)
+    → slot n 65535 ≡ step (rulesBy user frames pending exclusion) k none
+unfolding step stepOf
+free-ordinary m user frames pending exclusion k f n b marked ok same l unmarked s t u =
+    let without : hasBit exclusion f ≡ false = sym s ∙ not-true b t in
+    let other : f ≡ pending → ⊥ = differs-by m frames pending exclusion f marked l unmarked without in
+    rw (
+      parted (rulesBy user frames pending exclusion) k f ok same,
+      lt-leb frames (fieldsOf k .frame) (rw same at l),
+      ne-eqb (fieldsOf k .frame) pending (rw same at other),
+      rw same at without,
+      u,
+    )
 
 -- Steps 1 to 5.
 module _ (r : Rules) (k a : ℕ) (e : Entry) (apart : e ≡ takenApart k) where
@@ -34,40 +94,24 @@ module _ (r : Rules) (k a : ℕ) (e : Entry) (apart : e ≡ takenApart k) where
   pub step-valid : (x : Fields) → e ≡ Present x → valid k ≡ true
   step-valid x p = present-valid k x (sym apart ∙ p)
 
+  pub step-frame : (x : Fields) → e ≡ Present x → x .frame ≡ fieldsOf k .frame
+  step-frame x p = rw (fields-apart k x (sym apart ∙ p))
+
   pub step-approved : (x : Fields) (n : ℕ) → e ≡ Present x → (a ≡ 65535 → ⊥) → n ≡ approved (r .user) a → slot n a ≡ step r k a
   unfolding step stepOf
   step-approved x n p q s = rw (← apart, p, ne-eqb a none q, s)
 
-  pub step-above : (x : Fields) → e ≡ Present x → a ≡ 65535 → r .frames ≤ x .frame → slot 0 a ≡ step r k a
-  unfolding step stepOf
-  step-above x p q l = rw (← apart, p, eq-eqb a none q, le-leb (r .frames) (x .frame) l)
+pub step-free : (r : Rules) (k a : ℕ) (s : Slot) → a ≡ 65535 → s ≡ step r k none → s ≡ step r k a
+step-free r k a s p q = rw p q
 
-  pub step-pending : (x : Fields) (n : ℕ) → e ≡ Present x → a ≡ 65535 → x .frame < r .frames → x .frame ≡ r .pending
-      → n ≡ ordinary true (inspected (fieldsOf k)) → slot n a ≡ step r k a
-  unfolding step stepOf
-  step-pending x n p q l o u =
-      rw (
-        ← apart,
-        p,
-        eq-eqb a none q,
-        lt-leb (r .frames) (x .frame) l,
-        eq-eqb (x .frame) (r .pending) o,
-        u,
-        fields-apart k x (sym apart ∙ p),
-        inspected-mode (r .user) x,
-      )
+-- Whether the pending frame is marked.
+pub marked-above : (frames pending : ℕ) (exclusion : List ℕ) → frames ≤ pending → true ≡ isMarked frames pending exclusion
+unfolding isMarked either
+marked-above frames pending exclusion l = rw (le-leb frames pending l)
 
-  pub step-excluded : (x : Fields) (n : ℕ) (b : Bool) → e ≡ Present x → a ≡ 65535 → x .frame < r .frames → (x .frame ≡ r .pending → ⊥)
-      → b ≡ r .excluded (x .frame) → b ≡ true → n ≡ approved (r .user) (x .frame) → slot n (x .frame) ≡ step r k a
-  unfolding step stepOf
-  step-excluded x n b p q l o s t u =
-      rw (← apart, p, eq-eqb a none q, lt-leb (r .frames) (x .frame) l, ne-eqb (x .frame) (r .pending) o, ← s, t, u)
-
-  pub step-ordinary : (x : Fields) (n : ℕ) (b : Bool) → e ≡ Present x → a ≡ 65535 → x .frame < r .frames → (x .frame ≡ r .pending → ⊥)
-      → b ≡ r .excluded (x .frame) → b ≡ false → n ≡ ordinary (r .user) (fieldsOf k) → slot n a ≡ step r k a
-  unfolding step stepOf
-  step-ordinary x n b p q l o s t u =
-      rw (← apart, p, eq-eqb a none q, lt-leb (r .frames) (x .frame) l, ne-eqb (x .frame) (r .pending) o, ← s, t, u, fields-apart k x (sym apart ∙ p))
+pub marked-by : (frames pending : ℕ) (exclusion : List ℕ) (b : Bool) → pending < frames → b ≡ hasBit exclusion pending → b ≡ isMarked frames pending exclusion
+unfolding isMarked either
+marked-by frames pending exclusion b l s = rw (lt-leb frames pending l) s
 
 -- The frame of a present entry below F has a bit in the vector.
 pub frame-in : (frames frame long : ℕ) → long ≡ vectorBytes frames → frame < frames → frame / 8 < long

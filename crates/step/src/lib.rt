@@ -4,16 +4,16 @@
 use model::Entry;
 use model::NONE;
 ghost use mathlib.Core.Path.{_≡_};
-ghost use mathlib.Core.Bool.{false};
+ghost use mathlib.Core.Bool.{true, false};
 ghost use Prim.Native.Nat.{_+_, _^_, _<_, _≤_};
 ghost use lib.ListN.{length, getD, set};
 ghost use Rattle.model.specs.Basics.{differs};
-ghost use Rattle.model.specs.Guard.{vectorBytes};
-ghost use Rattle.model.specs.Bits.{approved};
+ghost use Rattle.model.specs.Guard.{none, vectorBytes};
+ghost use Rattle.model.specs.Bits.{fieldsOf, valid, approved};
 ghost use Rattle.model.specs.Approvals.{committedSlot};
 ghost use Rattle.model.specs.Sync;
 ghost use Rattle.model.specs.Sync.{slot, sweep};
-ghost use Rattle.step.specs.Steps.{rulesBy, stored};
+ghost use Rattle.step.specs.Steps.{rulesBy, isMarked, stored};
 
 // A page's shadow entry and its number in the map.
 struct Slot {
@@ -21,40 +21,85 @@ struct Slot {
     approval: u16,
 }
 
-// Steps 1 to 5 on a kernel entry and the page's number in the map, with the pending frame, or 65535, which no frame below F is (K6). The vector has a bit for
-// each frame below F, and F is in its range, as question 7 has settled.
-fn step(user: bool, frames: u64, pending: u64, exclusion: &[u8], entry: u64, approval: u16) -> Slot
-    requires { ⌜ (length (now exclusion) ≡ vectorBytes frames) × (frames ≤ 4096) ⌝ }
-    ensures { λ r. ⌜ slot (r .entry) (r .approval) ≡ Sync.step (rulesBy user frames pending (now (exclusion .entry))) entry approval ⌝ }
+// Whether the pending frame has its bit in the vector, as one that was asked for has (K6), or is none below F, as 65535 is.
+pub fn is_marked(frames: u64, pending: u64, exclusion: &[u8]) -> bool
+    requires { ⌜ length (now exclusion) ≡ vectorBytes frames ⌝ }
+    ensures { λ r. ⌜ r ≡ isMarked frames pending (now (exclusion .entry)) ⌝ }
 {
-    let empty = Slot { entry: 0, approval };
-    let Entry::Present(x) = entry::take_apart(entry) else {
-        return empty;
-    };
-    if approval != NONE {
+    if frames <= pending {
+        return true;
+    }
+    bitmap::test_bit_within(exclusion, pending)
+}
+
+// Steps 3 to 5 on a valid kernel entry with this frame, of a page that has no number in the map, with the pending frame, or 65535, which no frame below F
+// is (K6). The vector has a bit for each frame below F, and F is in its range, as question 7 has settled. Where the pending frame is known to be marked, a frame without its bit is
+// not compared with it.
+fn unapproved(
+    marked: bool,
+    user: bool,
+    frames: u64,
+    pending: u64,
+    exclusion: &[u8],
+    entry: u64,
+    frame: u64,
+) -> Slot
+    requires { ⌜ (length (now exclusion) ≡ vectorBytes frames) × (frames ≤ 4096) × (marked ≡ true → isMarked frames pending (now exclusion) ≡ true)
+        × (valid entry ≡ true) × (frame ≡ fieldsOf entry .frame) ⌝ }
+    ensures { λ r. ⌜ slot (r .entry) (r .approval) ≡ Sync.step (rulesBy user frames pending (now (exclusion .entry))) entry none ⌝ }
+{
+    if frames <= frame {
         return Slot {
-            entry: shadow_entry::approved(user, approval),
-            approval,
+            entry: 0,
+            approval: NONE,
         };
     }
-    if frames <= x.frame {
-        return empty;
-    }
-    if x.frame == pending {
+    if !marked & (frame == pending) {
         return Slot {
             entry: shadow_entry::inspected_of(entry),
-            approval,
+            approval: NONE,
         };
     }
-    if bitmap::test_bit_within(exclusion, x.frame) {
-        let frame = x.frame as u16;
+    if !bitmap::test_bit_within(exclusion, frame) {
         return Slot {
-            entry: shadow_entry::approved(user, frame),
-            approval: frame,
+            entry: shadow_entry::ordinary_of(user, entry),
+            approval: NONE,
         };
+    }
+    if frame == pending {
+        return Slot {
+            entry: shadow_entry::inspected_of(entry),
+            approval: NONE,
+        };
+    }
+    let number = frame as u16;
+    Slot {
+        entry: shadow_entry::approved(user, number),
+        approval: number,
+    }
+}
+
+// Steps 1 to 5 on a kernel entry and the page's number in the map. It asks for the same of the vector and the pending frame.
+fn step(
+    marked: bool,
+    user: bool,
+    frames: u64,
+    pending: u64,
+    exclusion: &[u8],
+    entry: u64,
+    approval: u16,
+) -> Slot
+    requires { ⌜ (length (now exclusion) ≡ vectorBytes frames) × (frames ≤ 4096) × (marked ≡ true → isMarked frames pending (now exclusion) ≡ true) ⌝ }
+    ensures { λ r. ⌜ slot (r .entry) (r .approval) ≡ Sync.step (rulesBy user frames pending (now (exclusion .entry))) entry approval ⌝ }
+{
+    let Entry::Present(x) = entry::take_apart(entry) else {
+        return Slot { entry: 0, approval };
+    };
+    if approval == NONE {
+        return unapproved(marked, user, frames, pending, exclusion, entry, x.frame);
     }
     Slot {
-        entry: shadow_entry::ordinary_of(user, entry),
+        entry: shadow_entry::approved(user, approval),
         approval,
     }
 }
@@ -97,9 +142,35 @@ fn put_approval(map: &mut [u16], i: usize, approval: u16, joined: u64) -> u64
     joined + 1
 }
 
-// The step of page i on its kernel entry, stored in both tables and counted. It asks that both tables have the page, that the vector has its length and that F is in its
-// range, which question 7 and the limit at V have settled in every caller, and that no more pages were counted than lie before it. The map's number is settled
-// before an entry is written, so that it is read once.
+// The step of page i on its kernel entry, stored in both tables and counted. It asks that both tables have the page and that the vector has its length,
+// which question 7 and the limit at V have settled in every caller, that no more pages were counted than lie before it, and that the pending frame is marked
+// where `marked` says so. The map's number is settled before an entry is written, so that it is read once.
+pub fn sync_by(
+    marked: bool,
+    user: bool,
+    frames: u64,
+    pending: u64,
+    exclusion: &[u8],
+    entry: u64,
+    shadow: &mut [u64],
+    map: &mut [u16],
+    i: usize,
+    counts: Counts,
+) -> Counts
+    requires { ⌜ (i < length (now shadow)) × (i < length (now map)) × (counts .changed ≤ i) × (counts .joined ≤ i)
+        × (length (now exclusion) ≡ vectorBytes frames) × (frames ≤ 4096) × (marked ≡ true → isMarked frames pending (now exclusion) ≡ true) ⌝ }
+    ensures { λ r. ⌜ (sweep (now (shadow .exit)) (now (map .exit)) (r .changed) (r .joined)
+        ≡ stored i (sweep (now (shadow .entry)) (now (map .entry)) (counts .changed) (counts .joined))
+        (Sync.step (rulesBy user frames pending (now (exclusion .entry))) entry (getD (now (map .entry)) i 0)))
+        × (r .changed ≤ counts .changed + 1) × (r .joined ≤ counts .joined + 1) ⌝ }
+{
+    let slot = step(marked, user, frames, pending, exclusion, entry, map[i]);
+    let joined = put_approval(map, i, slot.approval, counts.joined);
+    let changed = put_entry(shadow, i, slot.entry, counts.changed);
+    Counts { changed, joined }
+}
+
+// The same of one page, where nothing is known of the pending frame.
 pub fn sync_at(
     user: bool,
     frames: u64,
@@ -118,10 +189,18 @@ pub fn sync_at(
         (Sync.step (rulesBy user frames pending (now (exclusion .entry))) entry (getD (now (map .entry)) i 0)))
         × (r .changed ≤ counts .changed + 1) × (r .joined ≤ counts .joined + 1) ⌝ }
 {
-    let slot = step(user, frames, pending, exclusion, entry, map[i]);
-    let joined = put_approval(map, i, slot.approval, counts.joined);
-    let changed = put_entry(shadow, i, slot.entry, counts.changed);
-    Counts { changed, joined }
+    sync_by(
+        false,
+        user,
+        frames,
+        pending,
+        exclusion,
+        entry,
+        shadow,
+        map,
+        i,
+        counts,
+    )
 }
 
 // Approves page i with a frame, as a commit does (K6), stored in both tables and counted. It asks that both tables have the page, which question 7 and the

@@ -16,7 +16,7 @@ use Rattle.model.specs.Calls.{keptBy, syncPage, syncAll, questionsOf, effectOf,
 use Rattle.laws.proofs.StateLaws.{Fit, in-order}
 use Rattle.laws.proofs.CallLaws.{passed, stopped, none-left, refused-by, accepted-by}
 use Rattle.laws.proofs.SweepLaws.{whole, whole-more, whole-over}
-use Rattle.step.specs.Steps.{rulesBy, stored}
+use Rattle.step.specs.Steps.{rulesBy, isMarked, stored}
 use Rattle.sync.proofs.SyncLaws.{guardFit, vector-fits, map-matches, below-in-shadow, below-in-map, page-below, all-given, one-given}
 
 -- A sweep page by page: after page i, and after the last.
@@ -33,6 +33,16 @@ pub sweep-over : (r : Rules) (kernel : List ℕ) (i : ℕ) (shadow map : List �
     → whole (stepFrom r (entryIn kernel)) i (sweep shadow map changed joined) ≡ all → length shadow ≡ length kernel → length kernel ≤ i
     → sweep shadow map changed joined ≡ all
 sweep-over r kernel i shadow map changed joined all inv ls past = whole-over (stepFrom r (entryIn kernel)) i shadow map changed joined all inv (omega arith)
+
+-- The loop of a mode, where the mode is that one, and of a pending frame that is marked.
+pub flat-by : (u v : Bool) (frames pending : ℕ) (exclusion kernel shadow map : List ℕ) (all : Sweep) → u ≡ v
+    → all ≡ sweepFrom (stepFrom (rulesBy v frames pending exclusion) (entryIn kernel)) 0 shadow map
+    → all ≡ sweepFrom (stepFrom (rulesBy u frames pending exclusion) (entryIn kernel)) 0 shadow map
+flat-by u v frames pending exclusion kernel shadow map all q p = rw q p
+
+pub flat-marked : (frames pending : ℕ) (exclusion : List ℕ) (b m : Bool) → b ≡ isMarked frames pending exclusion → not b ≡ false → m ≡ true
+    → isMarked frames pending exclusion ≡ true
+flat-marked frames pending exclusion b m e p q = sym e ∙ not-false b p
 
 -- Of a kernel table besides.
 abbrev lentFit : State → ℕ → ℕ → ℕ → ℕ → List Bool
@@ -82,13 +92,13 @@ module _ (s : State) (kernel shadow map exclusion : List ℕ) (r : Bool)
   page-refused page p t = refused-by (before t) (syncPage kernel page) _ 7 (sym (stopped 7 r _ _ asked p)) (λ z. omega arith) refl refl
 
   module _ (yes7 : not r ≡ false) where
-    pub all-accepted : (u v : Bool) (f : ℕ) (shadow′ map′ : List ℕ) (x y : ℕ) → u ≡ inUser (s .mode) → u ≡ v → f ≡ pendingFrame (s .pending)
-        → sweep shadow′ map′ x y ≡ sweepFrom (stepFrom (rulesBy v (s .frames) f exclusion) (entryIn kernel)) 0 shadow map → (t : Tables)
+    pub all-accepted : (u : Bool) (f : ℕ) (shadow′ map′ : List ℕ) (x y : ℕ) → u ≡ inUser (s .mode) → f ≡ pendingFrame (s .pending)
+        → sweep shadow′ map′ x y ≡ sweepFrom (stepFrom (rulesBy u (s .frames) f exclusion) (entryIn kernel)) 0 shadow map → (t : Tables)
         → keptBy (Done x y) s (withThree shadow′ map′ exclusion t) ≡ answer (before t) (syncAll kernel)
     unfolding questionsOf syncAllQuestions effectOf
-    all-accepted u v f shadow′ map′ x y q i w p t =
+    all-accepted u f shadow′ map′ x y q w p t =
         accepted-by (before t) (syncAll kernel) _ (sym (passed 7 0 r _ _ asked yes7 none-left))
-        (all-given s shadow map exclusion (entryIn kernel) v f shadow′ map′ x y (sym i ∙ q) w p t)
+        (all-given s shadow map exclusion (entryIn kernel) u f shadow′ map′ x y q w p t)
 
     module _ (page : ℕ) (b : Bool) (exists : b ≡ ltb page (s .pages)) where
       pub page-absent : not b ≡ true → (t : Tables)

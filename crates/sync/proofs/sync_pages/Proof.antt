@@ -12,13 +12,13 @@ use Rattle.sync.proofs.sync_pages.Statement.{statement}
 use Rattle.sync.proofs.sync_pages.Tie as tie
 
 abbrev Inv-loop : tie.InvT-loop
-Inv-loop user frames pending exclusion kernel shadow₀ map₀ counts₀ i₀ shadow map counts i =
+Inv-loop marked user frames pending exclusion kernel shadow₀ map₀ counts₀ i₀ shadow map counts i =
     (i ≤ length kernel) × (length shadow ≡ length kernel) × (length map ≡ length kernel) × (counts .changed ≤ i) × (counts .joined ≤ i)
     × (whole (stepFrom (rulesBy user frames pending exclusion) (entryIn kernel)) i (sweep shadow map (counts .changed) (counts .joined))
     ≡ sweepFrom (stepFrom (rulesBy user frames pending exclusion) (entryIn kernel)) 0 shadow₀ map₀)
 
 abbrev μ-loop : tie.MeasureT-loop
-μ-loop user frames pending exclusion kernel shadow₀ map₀ counts₀ i₀ shadow map counts i = length kernel - i
+μ-loop marked user frames pending exclusion kernel shadow₀ map₀ counts₀ i₀ shadow map counts i = length kernel - i
 
 loop-holds : tie.Need-loop-holds Inv-loop μ-loop
 loop-holds c = search (needs, whole-start)
