@@ -86,13 +86,12 @@ opening-is r l b o t e f g = rw (← e, f, g)
 
 -- F of the state that a start leaves: in its range, or 0.
 pub opened-few : (r : Called) (given : Givens) (bytes : List ℕ) (t t′ : Tables) → outcomeBy r t′ ≡ startOf given bytes t → r .state .frames ≤ 4096
-unfolding outcomeBy
+unfolding outcomeBy startOf settle startState zeroState
 opened-few r given bytes t t′ e =
     let is : r .state ≡ startOf given bytes t .guard .state = ap (λ (o : Outcome). o .guard .state) e in
     rw is (by (firstNo (startQuestions given bytes (policyOf bytes) (lengthsOf t))) refl)
   where
     by : (n : ℕ) → firstNo (startQuestions given bytes (policyOf bytes) (lengthsOf t)) ≡ n → startOf given bytes t .guard .state .frames ≤ 4096
-    unfolding startOf settle startState zeroState
     by zero p = rw p (start-passed given bytes (policyOf bytes) (lengthsOf t) p .frames-high)
     by (suc n) p = rw p (omega arith)
 

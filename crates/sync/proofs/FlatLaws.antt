@@ -13,7 +13,7 @@ use Rattle.model.specs.Guard.{Tables, withThree, Guard, guardOf, vectorBytes, i
 use Rattle.model.specs.Sync.{Rules, Slot, step, Sweep, sweep, sweepFrom, entryIn, stepFrom}
 use Rattle.model.specs.Questions.{stateInOrder, inOrder, syncAllQuestions, syncPageQuestions}
 use Rattle.model.specs.Calls.{keptBy, syncPage, syncAll, questionsOf, effectOf, answer}
-use Rattle.laws.proofs.StateLaws.{Fit, in-order}
+use Rattle.laws.proofs.StateLaws.{frames-few, Fit, in-order}
 use Rattle.laws.proofs.CallLaws.{passed, stopped, none-left, refused-by, accepted-by}
 use Rattle.laws.proofs.SweepLaws.{whole, whole-more, whole-over}
 use Rattle.step.specs.Steps.{rulesBy, isMarked, stored}
@@ -64,6 +64,9 @@ module _ (s : State) (kernel shadow map exclusion : ℕ) (r : Bool) (asked : r �
 
   pub flat-vector : exclusion ≡ vectorBytes (s .frames)
   flat-vector = vector-fits s shadow map exclusion (fit-flat .1)
+
+  pub flat-few : s .frames ≤ 4096
+  flat-few = frames-few s (in-order (stateInOrder s) (lentFit s kernel shadow map exclusion) (sym asked ∙ not-false r yes7) .0)
 
   module _ (page : ℕ) (b : Bool) (exists : b ≡ ltb page (s .pages)) (there : not b ≡ false) where
     pub flat-page-kernel : page < kernel

@@ -4,11 +4,8 @@ use model::Answer;
 use model::State;
 use step::Counts;
 ghost use mathlib.Core.Path.{_≡_};
-<<<<<<< HEAD
-ghost use Prim.Native.Nat.{_≤_};
-=======
 ghost use mathlib.Core.Bool.{true};
->>>>>>> fe14ed4 (One flat loop for all callers: each mode has its own where the pending frame is marked, or none is)
+ghost use Prim.Native.Nat.{_≤_};
 ghost use lib.ListN.{length};
 ghost use Rattle.model.specs.Guard.{Tables, withThree, guardOf, vectorBytes};
 ghost use Rattle.model.specs.Sync.{sweep, sweepFrom, entryIn, stepFrom};

@@ -6,7 +6,7 @@ use Rattle.sync.proofs.sync_flat.Statement.{statement}
 use Rattle.sync.proofs.sync_flat.Tie as tie
 
 sync-pages-requires : tie.Need-sync-pages-requires
-sync-pages-requires c κs = (search needs, search needs, search needs, λ p. absurd (false≢true p))
+sync-pages-requires c κs = (search needs, search needs, search needs, search needs, λ p. absurd (false≢true p))
 
 sync-pages-requires-2 : tie.Need-sync-pages-requires-2
 sync-pages-requires-2 c κs = search (needs, flat-marked)

@@ -1,5 +1,5 @@
 -- Questions 7 and 9 refuse, or the page is below V and in every table.
-use Rattle.sync.proofs.FlatLaws.{page-refused, page-absent, flat-page-kernel, flat-page-shadow, flat-page-map, flat-vector, page-accepted}
+use Rattle.sync.proofs.FlatLaws.{page-refused, page-absent, flat-page-kernel, flat-page-shadow, flat-page-map, flat-vector, flat-few, page-accepted}
 use borrow.Author.Needs.{needs}
 use native.Mathlib.Omega.{arith}
 use Rattle.sync.proofs.sync_page.Statement.{statement}
@@ -34,6 +34,8 @@ sync-at-requires c κs = (
   search needs,
   search needs,
   flat-vector _ _ _ _ _ _ (c .before .before .before .before .before .before .before .before .sync-in-order .ensures)
+      (c .before .before .before .before .before .before .before .if1 .left),
+  flat-few _ _ _ _ _ _ (c .before .before .before .before .before .before .before .before .sync-in-order .ensures)
       (c .before .before .before .before .before .before .before .if1 .left),
 )
 
