@@ -1,5 +1,5 @@
 -- A law for each answer of the calls from a tree.
-use Prim.Native.Nat.{ℕ, _<_}
+use Prim.Native.Nat.{ℕ, _<_, _≤_}
 use mathlib.Core.Bool.{Bool, true, false, not}
 use mathlib.Core.List.{List}
 use mathlib.Core.Path.{_≡_, refl, sym, ap, _∙_}
@@ -15,7 +15,7 @@ use Rattle.model.specs.Sync.{step, sweep, sweepFrom, stepFrom}
 use Rattle.model.specs.Tree.{Tree, treeOf, treeInOrder, flatAt}
 use Rattle.model.specs.Questions.{stateInOrder, inOrder, syncAllTreeQuestions, syncPageTreeQuestions}
 use Rattle.model.specs.Calls.{keptBy, syncPageTree, syncAllTree, questionsOf, effectOf, answer}
-use Rattle.laws.proofs.StateLaws.{Fit, in-order}
+use Rattle.laws.proofs.StateLaws.{frames-few, Fit, in-order}
 use Rattle.laws.proofs.CallLaws.{passed, stopped, none-left, refused-by, accepted-by}
 use Rattle.step.specs.Steps.{rulesBy, stored}
 use Rattle.sync.proofs.SyncLaws.{guardFit, vector-fits, map-matches, below-in-shadow, below-in-map, page-below, all-given, one-given}
@@ -32,6 +32,9 @@ module _ (s : State) (shadow map exclusion : ℕ) (r : Bool) (asked : r ≡ inOr
 
   pub tree-vector : exclusion ≡ vectorBytes (s .frames)
   tree-vector = vector-fits s shadow map exclusion fit-tree
+
+  pub tree-few : s .frames ≤ 4096
+  tree-few = frames-few s (in-order (stateInOrder s) (guardFit s shadow map exclusion) (sym asked ∙ not-false r yes7) .0)
 
   module _ (page : ℕ) (b : Bool) (exists : b ≡ ltb page (s .pages)) (there : not b ≡ false) where
     pub tree-page-shadow : page < shadow

@@ -78,8 +78,8 @@ fn sync_run(
     counts: Counts,
 ) -> Counts
     requires { ⌜ (pages .first ≤ pages .end) × (pages .end ≤ length (now shadow)) × (length (now map) ≡ length (now shadow)) × (counts .changed ≤ pages .first)
-        × (counts .joined ≤ pages .first) × (length (now exclusion) ≡ vectorBytes (rules .frames)) × (rules .frames ≤ 4096)
-        × Holds (source .large) (now words) source (pages .end - pages .first) ⌝ }
+        × (counts .joined ≤ pages .first) × (length (now exclusion) ≡ vectorBytes (rules .frames))
+        × Holds (source .large) (now words) source (pages .end - pages .first) × (rules .frames ≤ 4096) ⌝ }
     ensures { λ r. ⌜ (sweep (now (shadow .exit)) (now (map .exit)) (r .changed) (r .joined)
         ≡ sweptFrom (stepFrom (rulesIn rules (now (exclusion .entry))) (entryBy (now (words .entry)) source (pages .first))) (pages .first)
         (pages .end - pages .first) (sweep (now (shadow .entry)) (now (map .entry)) (counts .changed) (counts .joined)))
@@ -119,8 +119,8 @@ fn sync_part(
     counts: Counts,
 ) -> Counts
     requires { ⌜ (pages .first ≤ pages .end) × (pages .end ≤ length (now shadow)) × (length (now map) ≡ length (now shadow)) × (counts .changed ≤ pages .first)
-        × (counts .joined ≤ pages .first) × (length (now exclusion) ≡ vectorBytes (rules .frames)) × (rules .frames ≤ 4096) × (pages .first % 512 ≡ 0)
-        × (pages .end - pages .first ≤ 512) × Sound (now words) part ⌝ }
+        × (counts .joined ≤ pages .first) × (length (now exclusion) ≡ vectorBytes (rules .frames)) × (pages .first % 512 ≡ 0)
+        × (pages .end - pages .first ≤ 512) × Sound (now words) part × (rules .frames ≤ 4096) ⌝ }
     ensures { λ r. ⌜ (sweep (now (shadow .exit)) (now (map .exit)) (r .changed) (r .joined)
         ≡ sweptFrom (stepFrom (rulesIn rules (now (exclusion .entry))) (flatIn (now (words .entry)) part)) (pages .first) (pages .end - pages .first)
         (sweep (now (shadow .entry)) (now (map .entry)) (counts .changed) (counts .joined)))

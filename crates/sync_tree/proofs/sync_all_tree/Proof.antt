@@ -1,5 +1,5 @@
 -- Questions 7 and 17 refuse, or the tree can be walked, the tables have one length and the vector its own.
-use Rattle.sync_tree.proofs.TreeLaws.{all-tree-7, all-tree-17, tree-yes, tree-map, tree-vector, all-tree-accepted}
+use Rattle.sync_tree.proofs.TreeLaws.{all-tree-7, all-tree-17, tree-yes, tree-map, tree-vector, tree-few, all-tree-accepted}
 use borrow.Author.Needs.{needs}
 use Rattle.sync_tree.proofs.sync_all_tree.Statement.{statement}
 use Rattle.sync_tree.proofs.sync_all_tree.Tie as tie
@@ -16,6 +16,8 @@ sync-parts-requires c κs = (
   tree-map _ _ _ _ _ (c .before .before .before .before .before .before .before .three-tables-in-order .ensures)
       (c .before .before .before .before .before .before .if1 .left),
   tree-vector _ _ _ _ _ (c .before .before .before .before .before .before .before .three-tables-in-order .ensures)
+      (c .before .before .before .before .before .before .if1 .left),
+  tree-few _ _ _ _ _ (c .before .before .before .before .before .before .before .three-tables-in-order .ensures)
       (c .before .before .before .before .before .before .if1 .left),
 )
 

@@ -2,7 +2,7 @@
 use mathlib.Core.Path.{refl, sym, ap, _∙_}
 use native.Mathlib.Omega.{arith}
 use Rattle.model.specs.Bits.{takenApart}
-use Rattle.sync_tree.proofs.TreeLaws.{page-tree-7, page-tree-17, page-tree-9, tree-yes, tree-vector, tree-page-shadow, tree-page-map, page-tree-accepted}
+use Rattle.sync_tree.proofs.TreeLaws.{page-tree-7, page-tree-17, page-tree-9, tree-yes, tree-vector, tree-few, tree-page-shadow, tree-page-map, page-tree-accepted}
 use borrow.Author.Needs.{needs}
 use Rattle.sync_tree.proofs.sync_page_tree.Statement.{statement}
 use Rattle.sync_tree.proofs.sync_page_tree.Tie as tie
@@ -30,6 +30,7 @@ sync-at-requires c κs =
       omega arith,
       omega arith,
       tree-vector _ _ _ _ _ seven (c .before .before .before .before .before .before .before .before .before .before .before .if1 .left),
+      tree-few _ _ _ _ _ seven (c .before .before .before .before .before .before .before .before .before .before .before .if1 .left),
     )
 
 returns-4 : tie.Need-returns-4

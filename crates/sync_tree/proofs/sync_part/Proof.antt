@@ -20,7 +20,7 @@ sync-run-requires c κs =
     let start = c .before .before .before .before .before .before .before .before .before in
     let part = c .before .before .before .below .given .0 .0 in
     let holds = table-holds (start .args .words .now) (start .args .part) _ (start .pre .8) (start .pre .7) part (search needs) in
-    (search needs, search needs, search needs, search needs, search needs, search needs, holds)
+    (search needs, search needs, search needs, search needs, search needs, search needs, holds, search needs)
 
 enum-known-below-2 : tie.Need-enum-known-below-2
 enum-known-below-2 c = search needs
@@ -30,13 +30,13 @@ sync-run-requires-2 c κs =
     let start = c .before .before .before .before .before .before .before .before .before in
     let part = c .before .before .before .below2 .given .0 .0 in
     let holds = large-holds (start .args .words .now) (start .args .part) _ (start .pre .8) (start .pre .7) part (search needs) in
-    (search needs, search needs, search needs, search needs, search needs, search needs, holds)
+    (search needs, search needs, search needs, search needs, search needs, search needs, holds, search needs)
 
 enum-told : tie.Need-enum-told
 enum-told c = search needs
 
 sync-run-requires-3 : tie.Need-sync-run-requires-3
-sync-run-requires-3 c κs = (search needs, search needs, search needs, search needs, search needs, search needs, (omega arith, search needs))
+sync-run-requires-3 c κs = (search needs, search needs, search needs, search needs, search needs, search needs, (omega arith, search needs), search needs)
 
 same-length : tie.Need-same-length
 same-length c = search needs

@@ -37,7 +37,7 @@ sync-part-requires c κs =
     let end = c .before .before .before .part-end .ensures in
     let part = c .before .before .part-of .ensures in
     let begins = inv .5 (omega (arith, inv)) in
-    (omega (arith, end), omega (arith, end, inv), omega (arith, inv), omega (arith, inv), omega (arith, inv), search needs, begins, omega (arith, end), part .0)
+    (omega (arith, end), omega (arith, end, inv), omega (arith, inv), omega (arith, inv), omega (arith, inv), search needs, begins, omega (arith, end), part .0, search needs)
 
 loop-less : tie.Need-loop-less Inv-loop μ-loop
 loop-less c = let end = c .before .before .before .before .before .before .before .before .part-end .ensures in omega (arith, end)

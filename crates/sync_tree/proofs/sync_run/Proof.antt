@@ -32,7 +32,7 @@ kernel-entry-requires c κs =
     (c .before .before .before .before .before .before .pre .6) (omega arith)
 
 sync-at-requires : tie.Need-sync-at-requires Inv-loop μ-loop
-sync-at-requires c κs = (omega arith, omega arith, omega arith, omega arith, search needs)
+sync-at-requires c κs = (omega arith, omega arith, omega arith, omega arith, search needs, search needs)
 
 add-i : tie.Need-add-i Inv-loop μ-loop
 add-i c = omega arith
