@@ -7,7 +7,7 @@ use mathlib.Core.Path.{_≡_, refl, sym, _∙_}
 use lib.Dec.{leb, ltb, eqb}
 use lib.ListN.{length, getD, List·getD-eq-default}
 use native.Mathlib.Omega.{arith}
-use borrow.Author.Tests.{le-leb, lt-leb, eq-eqb, ne-eqb}
+use borrow.Author.Tests.{le-leb, lt-leb, eq-eqb, ne-eqb, not-false}
 use Rattle.model.specs.Basics.{both, within}
 use Rattle.model.specs.Sizes.{pagesInRange, framesInRange, devicesInRange}
 use Rattle.model.specs.Policy.{Policy, Givens, numberAt, numbersAt, policyOf}
@@ -35,15 +35,15 @@ pub number-both : (bytes : List ℕ) (at r : ℕ) → r ≡ getD bytes at 0 + 25
 unfolding numberAt
 number-both bytes at r e = e
 
--- The numbers that are left begin with the one that was read.
-pub numbers-front : (bytes : List ℕ) (at left number : ℕ) → number ≡ numberAt bytes at → 0 < left
-    → numbersAt bytes at left ≡ number ∷ numbersAt bytes (at + 2) (left - 1)
-numbers-front bytes at left number read more = rw read (numbersAt-more bytes at left more)
+-- The numbers that are left begin with the one that was read, and go on where the reader has come to.
+pub numbers-front : (bytes : List ℕ) (at left number after : ℕ) → number ≡ numberAt bytes at → after ≡ at + 2 → 0 < left
+    → numbersAt bytes at left ≡ number ∷ numbersAt bytes after (left - 1)
+numbers-front bytes at left number after read moved more = rw (read, moved) (numbersAt-more bytes at left more)
 
 pub page-refused : (bytes : List ℕ) (pages least at left page : ℕ) (whole r : Bool) → rising pages least (numbersAt bytes at left) ≡ whole
     → page ≡ numberAt bytes at → 0 < left → r ≡ both (leb least page) (ltb page pages) → not r ≡ true → false ≡ whole
 page-refused bytes pages least at left page whole r e read more asks h =
-    rising-refuses pages least _ whole e page r asks _ (numbers-front bytes at left page read more) h
+    rising-refuses pages least _ whole e page r asks _ (numbers-front bytes at left page (at + 2) read refl more) h
 
 pub numbers-none : (bytes : List ℕ) (at left : ℕ) → left ≤ 0 → numbersAt bytes at left ≡ []
 numbers-none bytes at left h = numbersAt-none bytes at (omega arith)
@@ -60,8 +60,8 @@ module _ (bytes : List ℕ) (limit at left : ℕ) (whole : Bool) (e : allBelow l
     pub below-refuses : not r ≡ true → false ≡ whole
     below-refuses h = sym (allBelow-no limit frame _ asks h) ∙ listed
 
-    pub below-goes-on : not r ≡ false → allBelow limit (numbersAt bytes (at + 2) (left - 1)) ≡ whole
-    below-goes-on h = sym (allBelow-more limit frame _ asks h) ∙ listed
+    pub below-goes-on : (after : ℕ) → after ≡ at + 2 → not r ≡ false → allBelow limit (numbersAt bytes after (left - 1)) ≡ whole
+    below-goes-on after moved h = rw moved (sym (allBelow-more limit frame _ asks h) ∙ listed)
 
 -- Questions 1 to 6 in order, of a policy wherever it comes from, by the tests that the code makes.
 module _ (long more exact : Bool) (policy : Policy) where
@@ -109,6 +109,14 @@ module _ (long more exact : Bool) (policy : Policy) where
             unfolding policyQuestions
             asked-none h = past4 0 _ (passed 5 0 rises _ _ e5 h5 (passed 6 0 below _ _ e6 h none-left))
 
+-- Where the pages rise, their reader has come to the frames, and these are there.
+frames-from : (count from after : ℕ) (rises : Bool) → from ≡ 8 → not rises ≡ false → (rises ≡ true → after ≡ from + 2 * count) → after ≡ 8 + 2 * count
+frames-from count from after rises eA h come = come (not-false rises h) ∙ rw eA refl
+
+pub frames-there : (n count from after : ℕ) (rises : Bool) → n ≡ 8 + 4 * count → from ≡ 8 → not rises ≡ false → (rises ≡ true → after ≡ from + 2 * count)
+    → after + 2 * count ≤ n
+frames-there n count from after rises l eA h come = omega (arith, frames-from count from after rises eA h come)
+
 -- The same of a record, by the numbers that the code read.
 module _ (given : Givens) (bytes : List ℕ) where
   pub record-1 : length bytes < 8 → 1 ≡ firstNo (recordQuestions given bytes (policyOf bytes))
@@ -144,23 +152,25 @@ module _ (given : Givens) (bytes : List ℕ) where
         unfolding recordQuestions policyOf
         record-4 h = asked-4 _ _ _ (policyOf bytes) long sizes is2 h2 counts is3 h3 (rw (← eN) (ne-eqb (length bytes) (8 + 4 * count) h))
 
-        module _ (h4 : length bytes ≡ 8 + 4 * count) (rises : Bool) (e5 : rises ≡ rising pages 0 (numbersAt bytes 8 count)) where
+        module _ (h4 : length bytes ≡ 8 + 4 * count) (from : ℕ) (eA : from ≡ 8) (rises : Bool) (e5 : rises ≡ rising pages 0 (numbersAt bytes from count)) where
           exact : eqb (length bytes) (8 + 4 * policyOf bytes .count) ≡ true
           unfolding policyOf
           exact = rw (← eN) (eq-eqb (length bytes) (8 + 4 * count) h4)
 
           is5 : rises ≡ rising (policyOf bytes .pages) 0 (policyOf bytes .listedPages)
           unfolding policyOf
-          is5 = rw (← eV, ← eN) e5
+          is5 = rw (← eV, ← eN) (rw eA at e5)
 
           pub record-5 : not rises ≡ true → 5 ≡ firstNo (recordQuestions given bytes (policyOf bytes))
           unfolding recordQuestions
           record-5 h = asked-5 _ _ _ (policyOf bytes) long sizes is2 h2 counts is3 h3 exact rises is5 h
 
-          module _ (h5 : not rises ≡ false) (below : Bool) (e6 : below ≡ allBelow frames (numbersAt bytes (8 + 2 * count) count)) where
+          -- The frames are asked from where the reader of the pages has come to.
+          module _ (h5 : not rises ≡ false) (after : ℕ) (come : rises ≡ true → after ≡ from + 2 * count) (below : Bool)
+              (e6 : below ≡ allBelow frames (numbersAt bytes after count)) where
             is6 : below ≡ allBelow (policyOf bytes .frames) (policyOf bytes .listedFrames)
             unfolding policyOf
-            is6 = rw (← eF, ← eN) e6
+            is6 = rw (← eF, ← eN) (rw (frames-from count from after rises eA h5 come) at e6)
 
             pub record-6 : not below ≡ true → 6 ≡ firstNo (recordQuestions given bytes (policyOf bytes))
             unfolding recordQuestions

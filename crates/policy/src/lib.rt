@@ -1,8 +1,9 @@
 // Document 01, "The policy record", and questions 1 to 6 of a record. The tests of the sizes, of one page and of one frame also serve arrays (K2).
-// Every number of the record is read by `number_from`, through a reader, with no test of the length: the questions before it have settled it.
-// `padded_number` is for bytes that may be short, and reads through the same.
+// Every number of the record is taken by a reader that moves on, with no test of the length: the questions before it have settled it. One reader
+// takes the four sizes; a loop goes on from where it stopped, and carries how far the reader has come from number to number.
 
 ghost use mathlib.Core.Path.{_≡_};
+ghost use mathlib.Core.Bool.{true};
 ghost use Prim.Native.Nat.{_+_, _*_, _<_, _≤_, _^_, min};
 ghost use lib.Dec.{leb, ltb};
 ghost use lib.ListN.{length};
@@ -28,47 +29,88 @@ fn number_at(bytes: &[u8], at: usize) -> u16
 }
 
 // "Reading a record goes through a reader that carries the lent bytes and how far it has come."
-// Its functions are thin: the number is read by `number_at`, and callers use `number_from`.
+// Its functions are thin: the number is read by `number_at`, and callers use `read_sizes` and `next_number`, whose parameters are plain.
 struct Reader<'a> {
     src: &'a [u8],
     at: usize,
 }
 
-fn new<'a>(src: &'a [u8]) -> Reader<'a>
-    ensures { λ r. ⌜ (r .src ≡ src .entry) × (r .at ≡ 0) ⌝ }
+// A reader of these bytes that has come so far.
+fn new<'a>(src: &'a [u8], at: usize) -> Reader<'a>
+    ensures { λ r. ⌜ (r .src ≡ src .entry) × (r .at ≡ at) ⌝ }
 {
-    Reader { src, at: 0 }
+    Reader { src, at }
 }
 
-// The place after the bytes skipped is a `usize`.
-fn skip<'a>(r: Reader<'a>, count: usize) -> Reader<'a>
-    requires { ⌜ r .at + count < 2 ^ 64 ⌝ }
-    ensures { λ q. ⌜ (q .src ≡ r .entry .src) × (q .at ≡ r .entry .at + count) ⌝ }
+// The number where a reader stood, and the reader moved on past it.
+struct Taken<'a> {
+    number: u16,
+    rest: Reader<'a>,
+}
+
+// Both bytes are there.
+fn take<'a>(r: Reader<'a>) -> Taken<'a>
+    requires { ⌜ r .at + 1 < length (now (r .src)) ⌝ }
+    ensures { λ t. ⌜ (t .number ≡ numberAt (now (r .entry .src)) (r .entry .at))
+        × ((t .rest .src ≡ r .entry .src) × (t .rest .at ≡ r .entry .at + 2)) ⌝ }
 {
-    Reader {
-        src: r.src,
-        at: r.at + count,
+    let number = number_at(r.src, r.at);
+    Taken {
+        number,
+        rest: Reader {
+            src: r.src,
+            at: r.at + 2,
+        },
     }
 }
 
-// The number where the reader stands. Both bytes are there.
-fn number<'a>(r: Reader<'a>) -> u16
-    requires { ⌜ r .at + 1 < length (now (r .src)) ⌝ }
-    ensures { λ n. ⌜ n ≡ numberAt (now (r .entry .src)) (r .entry .at) ⌝ }
-{
-    number_at(r.src, r.at)
+// V, F, n and e of a record, and how far their reader has come: the first listed page is there.
+pub struct Sizes {
+    pub pages: u16,
+    pub frames: u16,
+    pub count: u16,
+    pub entry_count: u16,
+    pub at: usize,
 }
 
-// The number at a place, read by a reader that has come so far. The parameters are plain, and both bytes are there: questions 1 and 4 have
-// settled that.
-pub fn number_from(bytes: &[u8], at: usize) -> u16
+// One reader takes all four. Question 1 has shown that they are there.
+pub fn read_sizes(bytes: &[u8]) -> Sizes
+    requires { ⌜ 8 ≤ length (now bytes) ⌝ }
+    ensures { λ r. ⌜ (r .pages ≡ numberAt (now (bytes .entry)) 0) × (r .frames ≡ numberAt (now (bytes .entry)) 2)
+        × (r .count ≡ numberAt (now (bytes .entry)) 4) × (r .«entry_count» ≡ numberAt (now (bytes .entry)) 6) × (r .at ≡ 8) ⌝ }
+{
+    let pages = take(new(bytes, 0));
+    let frames = take(pages.rest);
+    let count = take(frames.rest);
+    let entry_count = take(count.rest);
+    Sizes {
+        pages: pages.number,
+        frames: frames.number,
+        count: count.number,
+        entry_count: entry_count.number,
+        at: entry_count.rest.at,
+    }
+}
+
+// A number, and how far its reader has come now.
+pub struct Next {
+    pub number: u16,
+    pub at: usize,
+}
+
+// The next number of a reader that has come so far: what loops read by. Both bytes are there: questions 1 and 4 have settled that.
+pub fn next_number(bytes: &[u8], at: usize) -> Next
     requires { ⌜ at + 1 < length (now bytes) ⌝ }
-    ensures { λ n. ⌜ n ≡ numberAt (now (bytes .entry)) at ⌝ }
+    ensures { λ r. ⌜ (r .number ≡ numberAt (now (bytes .entry)) at) × (r .at ≡ at + 2) ⌝ }
 {
-    number(skip(new(bytes), at))
+    let taken = take(new(bytes, at));
+    Next {
+        number: taken.number,
+        at: taken.rest.at,
+    }
 }
 
-// The same for bytes that may be short, as the drill's. A byte past the end counts as 0.
+// One number of bytes that may be short, as the drill's. A byte past the end counts as 0.
 pub fn padded_number(bytes: &[u8], at: usize) -> u16
     ensures { λ n. ⌜ n ≡ numberAt (now (bytes .entry)) at ⌝ }
 {
@@ -78,7 +120,8 @@ pub fn padded_number(bytes: &[u8], at: usize) -> u16
     if bytes.len() <= at + 1 {
         return joined(bytes[at], 0);
     }
-    number_from(bytes, at)
+    let next = next_number(bytes, at);
+    next.number
 }
 
 // Questions 2 and 3, of sizes wherever they come from: 64-bit numbers, so that none is cut.
@@ -124,38 +167,45 @@ pub fn frame_below(frames: u16, frame: u16) -> bool
     frame < frames
 }
 
-// Question 5, of the count pages from byte 8 on. Question 4 has shown what is required.
-fn pages_rising(bytes: &[u8], pages: u16, count: u16) -> bool
-    requires { ⌜ 8 + 2 * count ≤ length (now bytes) ⌝ }
-    ensures { λ r. ⌜ r ≡ rising pages 0 (numbersAt (now (bytes .entry)) 8 count) ⌝ }
+// Whether question 5 is a yes, and how far the reader of the pages has come then.
+struct PagesAsked {
+    rising: bool,
+    at: usize,
+}
+
+// Question 5, of the count pages from a place on. Question 4 has shown what is required.
+fn pages_rising(bytes: &[u8], from: usize, pages: u16, count: u16) -> PagesAsked
+    requires { ⌜ from + 2 * count ≤ length (now bytes) ⌝ }
+    ensures { λ r. ⌜ (r .rising ≡ rising pages 0 (numbersAt (now (bytes .entry)) from count)) × (r .rising ≡ true → r .at ≡ from + 2 * count) ⌝ }
 {
-    let mut at: usize = 8;
+    let mut at = from;
     let mut least: u16 = 0;
     let mut left = count;
     while 0 < left {
-        let page = number_from(bytes, at);
-        if !page_rises(pages, least, page) {
-            return false;
+        let page = next_number(bytes, at);
+        if !page_rises(pages, least, page.number) {
+            return PagesAsked { rising: false, at };
         }
-        least = page + 1;
-        at += 2;
+        least = page.number + 1;
+        at = page.at;
         left -= 1;
     }
-    true
+    PagesAsked { rising: true, at }
 }
 
-// Question 6, of the count frames behind the pages. Question 4 has shown what is required.
-fn frames_below(bytes: &[u8], frames: u16, count: u16) -> bool
-    requires { ⌜ 8 + 4 * count ≤ length (now bytes) ⌝ }
-    ensures { λ r. ⌜ r ≡ allBelow frames (numbersAt (now (bytes .entry)) (8 + 2 * count) count) ⌝ }
+// Question 6, of the count frames from a place on, where the pages end. Question 4 has shown what is required.
+fn frames_below(bytes: &[u8], from: usize, frames: u16, count: u16) -> bool
+    requires { ⌜ from + 2 * count ≤ length (now bytes) ⌝ }
+    ensures { λ r. ⌜ r ≡ allBelow frames (numbersAt (now (bytes .entry)) from count) ⌝ }
 {
-    let mut at = 8 + 2 * count as usize;
+    let mut at = from;
     let mut left = count;
     while 0 < left {
-        if !frame_below(frames, number_from(bytes, at)) {
+        let frame = next_number(bytes, at);
+        if !frame_below(frames, frame.number) {
             return false;
         }
-        at += 2;
+        at = frame.at;
         left -= 1;
     }
     true
@@ -168,24 +218,24 @@ pub fn record_question(bytes: &[u8], devices: u64) -> u64
     if bytes.len() < 8 {
         return 1;
     }
-    let pages = number_from(bytes, 0);
-    let frames = number_from(bytes, 2);
-    if !sizes_in_range(pages as u64, frames as u64) {
+    let sizes = read_sizes(bytes);
+    let pages = sizes.pages;
+    let count = sizes.count;
+    if !sizes_in_range(pages as u64, sizes.frames as u64) {
         return 2;
     }
-    let count = number_from(bytes, 4);
-    let entry_count = number_from(bytes, 6);
-    let counts = counts_in_range(pages as u64, count as u64, entry_count as u64);
+    let counts = counts_in_range(pages as u64, count as u64, sizes.entry_count as u64);
     if !ranges::both(counts, ranges::devices_in_range(devices)) {
         return 3;
     }
     if bytes.len() != 8 + 4 * count as usize {
         return 4;
     }
-    if !pages_rising(bytes, pages, count) {
+    let asked = pages_rising(bytes, sizes.at, pages, count);
+    if !asked.rising {
         return 5;
     }
-    if !frames_below(bytes, frames, count) {
+    if !frames_below(bytes, asked.at, sizes.frames, count) {
         return 6;
     }
     0

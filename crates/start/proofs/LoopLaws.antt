@@ -15,7 +15,8 @@ use Rattle.model.specs.Policy.{numberAt, numbersAt}
 use Rattle.model.specs.Bits.{approved}
 use Rattle.model.specs.Questions.{allBelow}
 use Rattle.laws.proofs.TableLaws.{table-same, set-table, table-const}
-use Rattle.laws.proofs.PolicyLaws.{numbersAt-none, numbersAt-more, allBelow-head, allBelow-tail}
+use Rattle.laws.proofs.PolicyLaws.{numbersAt-none, allBelow-head, allBelow-tail}
+use Rattle.policy.proofs.RecordLaws.{numbers-front}
 use Rattle.start.specs.Start.{storedEach, approvedEach, withEach, entryTable}
 
 -- A table filled with v up to place i.
@@ -43,41 +44,42 @@ module _ (from t t₀ : List ℕ) (i : ℕ) (e : t ≡ take i from ++ drop i t�
       let same : i ≡ length t₀ = omega arith in
       e ∙ rw (same, drop-length t₀) (append-nil (take (length t₀) from))
 
--- A place set: the list's front is taken off.
+-- A place set: the list's front is taken off, and the readers have come to what is left.
 module _ (bytes : List ℕ) (pageAt left page : ℕ) (read : page ≡ numberAt bytes pageAt) (more : 0 < left) where
-  fronted : (at n : ℕ) → n ≡ numberAt bytes at → numbersAt bytes at left ≡ n ∷ numbersAt bytes (at + 2) (left - 1)
-  fronted at n e = rw e (numbersAt-more bytes at left more)
-
   -- The page is inside a table whose length is the limit, by way of the length that it had.
   pub page-inside : (limit m n : ℕ) → allBelow limit (numbersAt bytes pageAt left) ≡ true → m ≡ n → n ≡ limit → page < m
   page-inside limit m n h e d =
-      let below : page < limit = allBelow-head limit page _ (rw (fronted pageAt page read) at h) in
+      let below : page < limit = allBelow-head limit page _ (rw (numbers-front bytes pageAt left page (pageAt + 2) read refl more) at h) in
       omega arith
 
-  pub pages-inside : (limit : ℕ) → allBelow limit (numbersAt bytes pageAt left) ≡ true → allBelow limit (numbersAt bytes (pageAt + 2) (left - 1)) ≡ true
-  pages-inside limit h = allBelow-tail limit page _ (rw (fronted pageAt page read) at h)
+  module _ (pageAfter : ℕ) (moved : pageAfter ≡ pageAt + 2) where
+    pub pages-inside : (limit : ℕ) → allBelow limit (numbersAt bytes pageAt left) ≡ true → allBelow limit (numbersAt bytes pageAfter (left - 1)) ≡ true
+    pages-inside limit h = allBelow-tail limit page _ (rw (numbers-front bytes pageAt left page pageAfter read moved more) at h)
 
-  module _ (frameAt frame : ℕ) (frameRead : frame ≡ numberAt bytes frameAt) (t whole : List ℕ) where
-    pub listed-map : storedEach (numbersAt bytes pageAt left) (numbersAt bytes frameAt left) t ≡ whole
-        → storedEach (numbersAt bytes (pageAt + 2) (left - 1)) (numbersAt bytes (frameAt + 2) (left - 1)) (set t page frame) ≡ whole
-    unfolding storedEach
-    listed-map e = rw (fronted pageAt page read, fronted frameAt frame frameRead) at e
+    module _ (frameAt frame frameAfter : ℕ) (frameRead : frame ≡ numberAt bytes frameAt) (frameMoved : frameAfter ≡ frameAt + 2) (t whole : List ℕ) where
+      pub listed-map : storedEach (numbersAt bytes pageAt left) (numbersAt bytes frameAt left) t ≡ whole
+          → storedEach (numbersAt bytes pageAfter (left - 1)) (numbersAt bytes frameAfter (left - 1)) (set t page frame) ≡ whole
+      unfolding storedEach
+      listed-map e =
+          rw (numbers-front bytes pageAt left page pageAfter read moved more, numbers-front bytes frameAt left frame frameAfter frameRead frameMoved more) at e
 
-    pub listed-shadow : (entry : ℕ) → entry ≡ approved false frame
-        → storedEach (numbersAt bytes pageAt left) (approvedEach (numbersAt bytes frameAt left)) t ≡ whole
-        → storedEach (numbersAt bytes (pageAt + 2) (left - 1)) (approvedEach (numbersAt bytes (frameAt + 2) (left - 1))) (set t page entry) ≡ whole
-    unfolding storedEach approvedEach
-    listed-shadow entry made e = rw made (rw (fronted pageAt page read, fronted frameAt frame frameRead) at e)
+      pub listed-shadow : (entry : ℕ) → entry ≡ approved false frame
+          → storedEach (numbersAt bytes pageAt left) (approvedEach (numbersAt bytes frameAt left)) t ≡ whole
+          → storedEach (numbersAt bytes pageAfter (left - 1)) (approvedEach (numbersAt bytes frameAfter (left - 1))) (set t page entry) ≡ whole
+      unfolding storedEach approvedEach
+      listed-shadow entry made e =
+          rw made
+          (rw (numbers-front bytes pageAt left page pageAfter read moved more, numbers-front bytes frameAt left frame frameAfter frameRead frameMoved more) at e)
 
 pub listed-end : (bytes : List ℕ) (at left : ℕ) (values t whole : List ℕ) → left ≤ 0 → storedEach (numbersAt bytes at left) values t ≡ whole → t ≡ whole
 unfolding storedEach
 listed-end bytes at left values t whole h e = rw (numbersAt-none bytes at {left = left} (omega arith)) at e
 
 -- A frame excluded too.
-pub gather-step : (bytes : List ℕ) (at left frame : ℕ) (v v′ whole : List ℕ) → withEach (numbersAt bytes at left) v ≡ whole → frame ≡ numberAt bytes at
-    → 0 < left → v′ ≡ withBit true v frame → withEach (numbersAt bytes (at + 2) (left - 1)) v′ ≡ whole
+pub gather-step : (bytes : List ℕ) (at left frame after : ℕ) (v v′ whole : List ℕ) → withEach (numbersAt bytes at left) v ≡ whole → frame ≡ numberAt bytes at
+    → after ≡ at + 2 → 0 < left → v′ ≡ withBit true v frame → withEach (numbersAt bytes after (left - 1)) v′ ≡ whole
 unfolding withEach
-gather-step bytes at left frame v v′ whole e read more made = rw (made, read) (rw (numbersAt-more bytes at left more) at e)
+gather-step bytes at left frame after v v′ whole e read moved more made = rw made (rw (numbers-front bytes at left frame after read moved more) at e)
 
 pub gather-ends : (bytes : List ℕ) (at left : ℕ) (v whole : List ℕ) → left ≤ 0 → withEach (numbersAt bytes at left) v ≡ whole → v ≡ whole
 unfolding withEach
@@ -95,11 +97,11 @@ next k i other = at (ltb k i) refl
     at true h = let below : k < i = ltb-true k i h in h ∙ sym (lt-ltb k (i + 1) (omega arith))
     at false h = let above : i ≤ k = ltb-false k i h in h ∙ sym (le-ltb k (i + 1) (omega arith))
 
-pub entries-step : (bytes pages : List ℕ) (i page : ℕ) → page ≡ numberAt bytes (8 + 2 * i) → pages ≡ entryTable bytes i
+pub entries-step : (bytes pages : List ℕ) (i here page : ℕ) → here ≡ 8 + 2 * i → page ≡ numberAt bytes here → pages ≡ entryTable bytes i
     → set pages i page ≡ entryTable bytes (i + 1)
 unfolding entryTable
-entries-step bytes pages i page read e =
-    rw (e, read) (set-table 16 _ i (numberAt bytes (8 + 2 * i)) ∙ table-same 16 _ _ (λ k below. at k (eqb k i) refl))
+entries-step bytes pages i here page come read e =
+    rw (e, read, come) (set-table 16 _ i (numberAt bytes (8 + 2 * i)) ∙ table-same 16 _ _ (λ k below. at k (eqb k i) refl))
   where
     at : (k : ℕ) (b : Bool) → eqb k i ≡ b
         → cond (eqb k i) (numberAt bytes (8 + 2 * i)) (cond (ltb k i) (numberAt bytes (8 + 2 * k)) 0) ≡ cond (ltb k (i + 1)) (numberAt bytes (8 + 2 * k)) 0

@@ -6,13 +6,13 @@ use mathlib.Core.Path.{_≡_, refl, sym, ap, fun-ext, _∙_}
 use lib.Dec.{ltb, eqb}
 use lib.ListN.{length, getD, take, replicate}
 use native.Mathlib.Omega.{arith}
-use borrow.Author.Tests.{ltb-true, ne-eqb}
+use borrow.Author.Tests.{lt-ltb, ltb-true, ne-eqb}
 use Rattle.model.specs.Basics.{either, table, member, flag}
 use Rattle.model.specs.Guard.{none, vectorBytes, byteOf, vectorOf, withBit}
 use Rattle.model.specs.Policy.{numberAt, numbersAt, policyOf, frameFor, approvalFor, named, firstEntry, entryPages, startTables}
 use Rattle.model.specs.Bits.{approved}
 use Rattle.model.specs.Questions.{allBelow}
-use Rattle.laws.proofs.TableLaws.{table-same, set-table, take-table, table-const}
+use Rattle.laws.proofs.TableLaws.{table-same, getD-table, set-table, take-table, table-const}
 use Rattle.laws.proofs.PolicyLaws.{getD-numbersAt, allBelow-head, allBelow-tail, frameFor-map}
 use Rattle.laws.proofs.VectorLaws.{withBit-length, withBit-vectorOf}
 use Rattle.start.specs.Start.{storedEach, approvedEach, withEach, entryTable}
@@ -126,7 +126,7 @@ module _ (bytes : List ℕ) (count : ℕ) (read : count ≡ numberAt bytes 4) wh
       ∙ (ap (take (vectorBytes (policyOf bytes .frames))) (each-vector 4096 (policyOf bytes .listedFrames) (λ _. false) h)
       ∙ (vector-take (policyOf bytes .frames) 4096 _ f ∙ ap (vectorOf (policyOf bytes .frames)) (fun-ext (λ g. either-none (member g (policyOf bytes .listedFrames))))))))
 
--- Sixteen entry pages, of which as many as there are entries are listed pages; and the first listed page.
+-- Sixteen entry pages, of which as many as there are entries are listed pages.
 pub entries-are : (bytes : List ℕ) (entries : ℕ) → entries ≡ numberAt bytes 6 → policyOf bytes .entryCount ≤ policyOf bytes .count
     → entryTable bytes entries ≡ entryPages (policyOf bytes)
 unfolding policyOf entryTable entryPages
@@ -139,6 +139,9 @@ entries-are bytes entries e h = rw e (table-same 16 _ _ (λ i below. at i (ltb i
         rw t (sym (getD-numbersAt bytes 8 (numberAt bytes 4) i (omega arith)))
     at i false t = rw t refl
 
-pub first-is : (bytes : List ℕ) → 1 ≤ policyOf bytes .count → numberAt bytes 8 ≡ getD (policyOf bytes .listedPages) 0 0
-unfolding policyOf
-first-is bytes h = sym (getD-numbersAt bytes 8 (numberAt bytes 4) 0 h)
+-- The first of the entry pages read is the first listed page, where there is one.
+pub first-is : (bytes : List ℕ) (entries : ℕ) → entries ≡ numberAt bytes 6 → 1 ≤ policyOf bytes .entryCount → policyOf bytes .entryCount ≤ policyOf bytes .count
+    → getD (entryTable bytes entries) 0 0 ≡ getD (policyOf bytes .listedPages) 0 0
+unfolding policyOf entryTable
+first-is bytes entries e some listed =
+    getD-table 16 _ 0 0 (omega arith) ∙ (rw (lt-ltb 0 entries (omega arith)) (sym (getD-numbersAt bytes 8 (numberAt bytes 4) 0 (omega arith))))

@@ -6,7 +6,7 @@ ghost use mathlib.Core.Bool.{true};
 ghost use Prim.Native.Nat.{_+_, _*_, _≤_};
 ghost use lib.ListN.{length, take, replicate};
 ghost use Rattle.model.specs.Guard.{none, tables, vectorBytes};
-ghost use Rattle.model.specs.Policy.{givenOf, numbersAt, policyOf, startTables};
+ghost use Rattle.model.specs.Policy.{givenOf, numberAt, numbersAt, policyOf, startTables};
 ghost use Rattle.model.specs.Questions.{firstNo, allBelow, lengths, startQuestions};
 ghost use Rattle.model.specs.Calls.{outcomeBy, startOf};
 ghost use Rattle.start.specs.Start.{refusedStart, acceptedStart, storedEach, approvedEach, withEach, entryTable};
@@ -18,9 +18,7 @@ use model::NONE;
 use model::Pending;
 use model::State;
 use model::VECTOR_BYTES;
-
-// The place of the first listed page.
-const PAGES: usize = 8;
+use policy::Sizes;
 
 fn clear_shadow(shadow: &mut [u64])
     ensures { λ _. ⌜ now (shadow .exit) ≡ replicate (length (now (shadow .entry))) 0 ⌝ }
@@ -42,40 +40,43 @@ fn clear_map(map: &mut [u16])
     }
 }
 
-// The listed places of both tables. Question 4 has put every number inside the record and question 5 every listed page inside the tables,
-// so no index is tested again.
-fn set_listed(bytes: &[u8], count: u16, shadow: &mut [u64], map: &mut [u16])
-    requires { ⌜ (8 + 4 * count ≤ length (now bytes)) × (allBelow (length (now shadow)) (numbersAt (now bytes) 8 count) ≡ true)
+// The listed places of both tables, by a reader of the pages, from where that of the sizes stopped, and one of the frames behind them. Question 4
+// has put every number inside the record and question 5 every listed page inside the tables, so no index is tested again.
+fn set_listed(bytes: &[u8], from: usize, count: u16, shadow: &mut [u64], map: &mut [u16])
+    requires { ⌜ (from ≡ 8) × (8 + 4 * count ≤ length (now bytes)) × (allBelow (length (now shadow)) (numbersAt (now bytes) 8 count) ≡ true)
         × (length (now map) ≡ length (now shadow)) ⌝ }
     ensures { λ _. ⌜ (now (shadow .exit) ≡ storedEach (numbersAt (now (bytes .entry)) 8 count)
         (approvedEach (numbersAt (now (bytes .entry)) (8 + 2 * count) count)) (now (shadow .entry)))
         × (now (map .exit) ≡ storedEach (numbersAt (now (bytes .entry)) 8 count)
         (numbersAt (now (bytes .entry)) (8 + 2 * count) count) (now (map .entry))) ⌝ }
 {
-    let mut page_at = PAGES;
-    let mut frame_at = PAGES + 2 * count as usize;
+    let mut page_at = from;
+    let mut frame_at = from + 2 * count as usize;
     let mut left = count;
     while 0 < left {
-        let page = policy::number_from(bytes, page_at) as usize;
-        let frame = policy::number_from(bytes, frame_at);
+        let listed = policy::next_number(bytes, page_at);
+        let named = policy::next_number(bytes, frame_at);
+        let page = listed.number as usize;
+        let frame = named.number;
         shadow[page] = shadow_entry::approved(false, frame);
         map[page] = frame;
-        page_at += 2;
-        frame_at += 2;
+        page_at = listed.at;
+        frame_at = named.at;
         left -= 1;
     }
 }
 
 // The exclusion bits of the listed frames, into a vector. Question 4 has shown what is required.
-fn gather(bytes: &[u8], count: u16, vector: &mut [u8])
-    requires { ⌜ 8 + 4 * count ≤ length (now bytes) ⌝ }
+fn gather(bytes: &[u8], from: usize, count: u16, vector: &mut [u8])
+    requires { ⌜ (from ≡ 8) × (8 + 4 * count ≤ length (now bytes)) ⌝ }
     ensures { λ _. ⌜ now (vector .exit) ≡ withEach (numbersAt (now (bytes .entry)) (8 + 2 * count) count) (now (vector .entry)) ⌝ }
 {
-    let mut at = PAGES + 2 * count as usize;
+    let mut at = from + 2 * count as usize;
     let mut left = count;
     while 0 < left {
-        bitmap::set_bit(vector, policy::number_from(bytes, at) as u64);
-        at += 2;
+        let frame = policy::next_number(bytes, at);
+        bitmap::set_bit(vector, frame.number as u64);
+        at = frame.at;
         left -= 1;
     }
 }
@@ -92,9 +93,9 @@ fn copy_front(from: &[u8], to: &mut [u8])
     }
 }
 
-// Shadow table and map. Questions 4 to 7 have shown what is required.
-fn set_pages(bytes: &[u8], shadow: &mut [u64], map: &mut [u16])
-    requires { ⌜ (length (now bytes) ≡ 8 + 4 * policyOf (now bytes) .count)
+// Shadow table and map. Questions 4 to 7 have shown what is required, of the sizes that were read.
+fn set_pages(bytes: &[u8], sizes: Sizes, shadow: &mut [u64], map: &mut [u16])
+    requires { ⌜ (sizes .count ≡ numberAt (now bytes) 4) × (sizes .at ≡ 8) × (length (now bytes) ≡ 8 + 4 * policyOf (now bytes) .count)
         × (length (now shadow) ≡ policyOf (now bytes) .pages) × (length (now map) ≡ policyOf (now bytes) .pages)
         × (allBelow (policyOf (now bytes) .pages) (policyOf (now bytes) .listedPages) ≡ true)
         × (allBelow 4096 (policyOf (now bytes) .listedFrames) ≡ true) ⌝ }
@@ -103,31 +104,34 @@ fn set_pages(bytes: &[u8], shadow: &mut [u64], map: &mut [u16])
 {
     clear_shadow(shadow);
     clear_map(map);
-    set_listed(bytes, policy::number_from(bytes, 4), shadow, map);
+    set_listed(bytes, sizes.at, sizes.count, shadow, map);
 }
 
 // The exclusion vector. The bits are gathered in a buffer with room for 4,096 frames, and copied.
 // Questions 2, 4, 6 and 7 have shown what is required.
-fn set_vector(bytes: &[u8], exclusion: &mut [u8])
-    requires { ⌜ (length (now bytes) ≡ 8 + 4 * policyOf (now bytes) .count)
+fn set_vector(bytes: &[u8], sizes: Sizes, exclusion: &mut [u8])
+    requires { ⌜ (sizes .count ≡ numberAt (now bytes) 4) × (sizes .at ≡ 8) × (length (now bytes) ≡ 8 + 4 * policyOf (now bytes) .count)
         × (length (now exclusion) ≡ vectorBytes (policyOf (now bytes) .frames))
         × (policyOf (now bytes) .frames ≤ 4096) × (allBelow 4096 (policyOf (now bytes) .listedFrames) ≡ true) ⌝ }
     ensures { λ _. ⌜ now (exclusion .exit) ≡ startTables (policyOf (now (bytes .entry))) .exclusion ⌝ }
 {
     let mut buffer = [0u8; VECTOR_BYTES];
-    gather(bytes, policy::number_from(bytes, 4), &mut buffer);
+    gather(bytes, sizes.at, sizes.count, &mut buffer);
     copy_front(&buffer, exclusion);
 }
 
 // Question 3 has bounded the entries by sixteen, the array's length, and question 4 has put the pages inside the record.
-fn entry_pages(bytes: &[u8], entry_count: u16) -> [u64; ENTRY_PAGES]
-    requires { ⌜ («entry_count» ≤ 16) × (8 + 2 * «entry_count» ≤ length (now bytes)) ⌝ }
+fn entry_pages(bytes: &[u8], from: usize, entry_count: u16) -> [u64; ENTRY_PAGES]
+    requires { ⌜ (from ≡ 8) × («entry_count» ≤ 16) × (8 + 2 * «entry_count» ≤ length (now bytes)) ⌝ }
     ensures { λ r. ⌜ r ≡ entryTable (now (bytes .entry)) «entry_count» ⌝ }
 {
     let mut pages = [0u64; ENTRY_PAGES];
+    let mut at = from;
     let mut i = 0;
     while i < entry_count {
-        pages[i as usize] = policy::number_from(bytes, PAGES + 2 * i as usize) as u64;
+        let page = policy::next_number(bytes, at);
+        pages[i as usize] = page.number as u64;
+        at = page.at;
         i += 1;
     }
     pages
@@ -152,42 +156,27 @@ fn refused_start(number: u64) -> Called
 }
 
 // An accepted start stands in kernel mode on the first entry page. Questions 3 and 4 have shown what is required.
-fn accepted_start(bytes: &[u8], devices: u64) -> Called
-    requires { ⌜ (length (now bytes) ≡ 8 + 4 * policyOf (now bytes) .count) × (policyOf (now bytes) .entryCount ≤ 16)
-        × (policyOf (now bytes) .entryCount ≤ policyOf (now bytes) .count) × (1 ≤ policyOf (now bytes) .count) ⌝ }
+fn accepted_start(bytes: &[u8], sizes: Sizes, devices: u64) -> Called
+    requires { ⌜ (sizes .pages ≡ numberAt (now bytes) 0) × (sizes .frames ≡ numberAt (now bytes) 2) × (sizes .count ≡ numberAt (now bytes) 4)
+        × (sizes .«entry_count» ≡ numberAt (now bytes) 6) × (sizes .at ≡ 8)
+        × (length (now bytes) ≡ 8 + 4 * policyOf (now bytes) .count) × (policyOf (now bytes) .entryCount ≤ 16)
+        × (policyOf (now bytes) .entryCount ≤ policyOf (now bytes) .count) × (1 ≤ policyOf (now bytes) .entryCount) ⌝ }
     ensures { λ r. ⌜ r ≡ acceptedStart (givenOf devices) (now (bytes .entry)) ⌝ }
 {
-    let count = policy::number_from(bytes, 4);
-    let entry_count = policy::number_from(bytes, 6);
-    let pages = entry_pages(bytes, entry_count);
+    let entry_count = sizes.entry_count;
+    let pages = entry_pages(bytes, sizes.at, entry_count);
     Called {
-        answer: Answer::Done(count as u64, entry_count as u64),
+        answer: Answer::Done(sizes.count as u64, entry_count as u64),
         state: State {
-            pages: policy::number_from(bytes, 0) as u64,
-            frames: policy::number_from(bytes, 2) as u64,
+            pages: sizes.pages as u64,
+            frames: sizes.frames as u64,
             entry_count: entry_count as u64,
             entry_pages: pages,
-            mode: Mode::Kernel(policy::number_from(bytes, PAGES) as u64),
+            mode: Mode::Kernel(pages[0]),
             devices,
             pending: Pending::Nothing,
         },
     }
-}
-
-// The first no of the start's questions, or 0. Its arguments are the lengths of the tables. Past the record's questions V and F are there.
-fn start_question(bytes: &[u8], devices: u64, shadow: usize, map: usize, exclusion: usize) -> u64
-    ensures { λ r. ⌜ r ≡ firstNo (startQuestions (givenOf devices) (now (bytes .entry)) (policyOf (now (bytes .entry))) (lengths shadow map exclusion)) ⌝ }
-{
-    let question = policy::record_question(bytes, devices);
-    if question != 0 {
-        return question;
-    }
-    let pages = policy::number_from(bytes, 0);
-    let frames = policy::number_from(bytes, 2);
-    if !lengths::start_in_order(pages, frames, shadow, map, exclusion) {
-        return 7;
-    }
-    0
 }
 
 pub fn start(
@@ -200,11 +189,21 @@ pub fn start(
     ensures { λ r. ⌜ outcomeBy r (tables (now (shadow .exit)) (now (map .exit)) (now (exclusion .exit)))
         ≡ startOf (givenOf devices) (now (bytes .entry)) (tables (now (shadow .entry)) (now (map .entry)) (now (exclusion .entry))) ⌝ }
 {
-    let refusal = start_question(bytes, devices, shadow.len(), map.len(), exclusion.len());
+    let refusal = policy::record_question(bytes, devices);
     if refusal != 0 {
         return refused_start(refusal);
     }
-    set_pages(bytes, shadow, map);
-    set_vector(bytes, exclusion);
-    accepted_start(bytes, devices)
+    let sizes = policy::read_sizes(bytes);
+    if !lengths::start_in_order(
+        sizes.pages,
+        sizes.frames,
+        shadow.len(),
+        map.len(),
+        exclusion.len(),
+    ) {
+        return refused_start(7);
+    }
+    set_pages(bytes, sizes, shadow, map);
+    set_vector(bytes, sizes, exclusion);
+    accepted_start(bytes, sizes, devices)
 }

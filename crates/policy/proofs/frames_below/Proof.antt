@@ -9,11 +9,11 @@ use Rattle.policy.proofs.frames_below.Statement.{statement}
 use Rattle.policy.proofs.frames_below.Tie as tie
 
 abbrev Inv-loop : tie.InvT-loop
-Inv-loop bytes frames count at₀ left₀ at left =
-    (at + 2 * left ≡ 8 + 4 * count) × (allBelow frames (numbersAt bytes at left) ≡ allBelow frames (numbersAt bytes (8 + 2 * count) count))
+Inv-loop bytes from frames count at₀ left₀ at left =
+    (at + 2 * left ≡ from + 2 * count) × (allBelow frames (numbersAt bytes at left) ≡ allBelow frames (numbersAt bytes from count))
 
 abbrev μ-loop : tie.MeasureT-loop
-μ-loop bytes frames count at₀ left₀ at left = left
+μ-loop bytes from frames count at₀ left₀ at left = left
 
 returns : tie.Need-returns Inv-loop μ-loop
 returns c = search (needs, below-refuses)
@@ -27,5 +27,5 @@ returns-2 c = search (needs, below-ends)
 pub frames-below-spec : {M : Type 1} → statement M
 frames-below-spec =
     tie.close
-    (tie.spec Inv-loop μ-loop (λ c. search needs) (λ c. search needs) (λ c. search needs) (λ c κs. search needs)
-    (λ c κs. search needs) returns (λ c. search needs) (λ c. search needs) (λ c. search needs) loop-again returns-2)
+    (tie.spec Inv-loop μ-loop (λ c. search needs) (λ c κs. search needs) (λ c κs. search needs) returns (λ c. search needs)
+    (λ c. search needs) loop-again returns-2)

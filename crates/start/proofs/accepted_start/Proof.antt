@@ -14,5 +14,4 @@ returns c = search (needs, accepted-is)
 pub accepted-start-spec : {M : Type 1} → statement M
 accepted-start-spec =
     tie.close
-    (tie.spec (λ c κs. search needs) (λ c κs. search needs) entry-pages-requires (λ c. search needs) (λ c. search needs)
-    (λ c κs. search needs) (λ c κs. search needs) (λ c κs. search needs) (λ c. search needs) returns)
+    (tie.spec entry-pages-requires (λ c. search needs) (λ c. search needs) (λ c. search needs) (λ c. search needs) returns)

@@ -12,7 +12,7 @@ use Rattle.start.proofs.set_listed.Statement.{statement}
 use Rattle.start.proofs.set_listed.Tie as tie
 
 abbrev Inv-loop : tie.InvT-loop
-Inv-loop bytes count shadow₀ map₀ page-at₀ frame-at₀ left₀ shadow map page-at frame-at left =
+Inv-loop bytes from count shadow₀ map₀ page-at₀ frame-at₀ left₀ shadow map page-at frame-at left =
     (page-at + 2 * left ≡ 8 + 2 * count) × (frame-at + 2 * left ≡ 8 + 4 * count)
     × (length shadow ≡ length shadow₀) × (length map ≡ length map₀)
     × (allBelow (length shadow₀) (numbersAt bytes page-at left) ≡ true)
@@ -22,16 +22,13 @@ Inv-loop bytes count shadow₀ map₀ page-at₀ frame-at₀ left₀ shadow map 
     ≡ storedEach (numbersAt bytes 8 count) (numbersAt bytes (8 + 2 * count) count) map₀)
 
 abbrev μ-loop : tie.MeasureT-loop
-μ-loop bytes count shadow₀ map₀ page-at₀ frame-at₀ left₀ shadow map page-at frame-at left = left
+μ-loop bytes from count shadow₀ map₀ page-at₀ frame-at₀ left₀ shadow map page-at frame-at left = left
 
-mul-shadow : tie.Need-mul-shadow Inv-loop μ-loop
-mul-shadow c = search needs
+loop-holds : tie.Need-loop-holds Inv-loop μ-loop
+loop-holds c = (search needs, search needs, search needs, search needs, cc, cc, cc)
 
 slice-write-shadow : tie.Need-slice-write-shadow Inv-loop μ-loop
 slice-write-shadow c = search (needs, page-inside)
-
-mul-map : tie.Need-mul-map Inv-loop μ-loop
-mul-map c = search needs
 
 slice-write-map : tie.Need-slice-write-map Inv-loop μ-loop
 slice-write-map c = search (needs, page-inside)
@@ -39,18 +36,12 @@ slice-write-map c = search (needs, page-inside)
 loop-again : tie.Need-loop-again Inv-loop μ-loop
 loop-again c = (search needs, search needs, search needs, search needs, search (needs, pages-inside), search (needs, listed-shadow), search (needs, listed-map))
 
-same-length : tie.Need-same-length Inv-loop μ-loop
-same-length c = search needs
-
-same-length-2 : tie.Need-same-length-2 Inv-loop μ-loop
-same-length-2 c = search needs
-
 returns : tie.Need-returns Inv-loop μ-loop
 returns c = search (needs, listed-end)
 
 pub set-listed-spec : {M : Type 1} → statement M
 set-listed-spec =
     tie.close
-    (tie.spec Inv-loop μ-loop (λ c. search needs) (λ c. search needs) (λ c. search needs) (λ c κs. search needs) (λ c. search needs)
-    (λ c κs. search needs) (λ c κs. search needs) mul-shadow slice-write-shadow mul-map slice-write-map (λ c. search needs)
-    (λ c. search needs) (λ c. search needs) (λ c. search needs) loop-again same-length same-length-2 returns)
+    (tie.spec Inv-loop μ-loop (λ c. search needs) (λ c. search needs) loop-holds (λ c κs. search needs) (λ c κs. search needs)
+    (λ c. search needs) (λ c κs. search needs) (λ c. search needs) slice-write-shadow (λ c. search needs) slice-write-map
+    (λ c. search needs) (λ c. search needs) loop-again (λ c. search needs) (λ c. search needs) returns)

@@ -5,7 +5,7 @@ use Rattle.start.proofs.set_vector.Statement.{statement}
 use Rattle.start.proofs.set_vector.Tie as tie
 
 gather-requires : tie.Need-gather-requires
-gather-requires c κs = search (needs, numbers-inside)
+gather-requires c κs = (search needs, search (needs, numbers-inside))
 
 copy-front-requires : tie.Need-copy-front-requires
 copy-front-requires c κs = search (needs, buffer-room)
@@ -16,5 +16,4 @@ returns c = search (needs, vector-is)
 pub set-vector-spec : {M : Type 1} → statement M
 set-vector-spec =
     tie.close
-    (tie.spec (λ c κs. search needs) (λ c. search needs) gather-requires (λ c. search needs) copy-front-requires
-    (λ c. search needs) returns)
+    (tie.spec (λ c. search needs) gather-requires (λ c. search needs) copy-front-requires (λ c. search needs) returns)
