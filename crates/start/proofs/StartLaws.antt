@@ -93,8 +93,7 @@ module _ (given : Givens) (bytes : List ℕ) (l : Lengths) (question : ℕ) (ask
   pub answer-ready : (count entries place : ℕ) → count ≡ numberAt bytes 4 → entries ≡ numberAt bytes 6 → place ≡ 8
       → (pages ≡ numberAt bytes 0) × (frames ≡ numberAt bytes 2) × (count ≡ numberAt bytes 4) × (entries ≡ numberAt bytes 6) × (place ≡ 8)
       × (length bytes ≡ 8 + 4 * policyOf bytes .count) × (policyOf bytes .entryCount ≤ 16)
-      × (policyOf bytes .entryCount ≤ policyOf bytes .count) × (1 ≤ policyOf bytes .entryCount) × (given .devices ≤ 64)
-  unfolding givensInRange devicesInRange
+      × (policyOf bytes .entryCount ≤ policyOf bytes .count) × (1 ≤ policyOf bytes .entryCount)
   answer-ready count entries place eN eE eA = (
     eV,
     eF,
@@ -105,7 +104,6 @@ module _ (given : Givens) (bytes : List ℕ) (l : Lengths) (question : ℕ) (ask
     passed .entry-count-high,
     passed .entry-count-listed,
     passed .entry-count-low,
-    within-high 1 64 (given .devices) (start-given given bytes (policyOf bytes) l none),
   )
 
 -- The answers: refused by the record, refused by question 7, accepted. A refused start leaves the tables as they were.

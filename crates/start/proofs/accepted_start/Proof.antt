@@ -1,6 +1,6 @@
-use borrow.Author.Needs.{needs}
 use Rattle.model.specs.Policy.{policyOf}
 use Rattle.start.proofs.StartLaws.{accepted-is}
+use borrow.Author.Needs.{needs}
 use Rattle.start.proofs.accepted_start.Statement.{statement}
 use Rattle.start.proofs.accepted_start.Tie as tie
 
@@ -14,4 +14,5 @@ returns c = search (needs, accepted-is)
 pub accepted-start-spec : {M : Type 1} → statement M
 accepted-start-spec =
     tie.close
-    (tie.spec entry-pages-requires (λ c. search needs) (λ c. search needs) (λ c. search needs) (λ c. search needs) returns)
+    (tie.spec entry-pages-requires (λ c. search needs) (λ c. search needs) (λ c. search needs) (λ c. search needs)
+    (λ c. search needs) (λ c. search needs) returns)
