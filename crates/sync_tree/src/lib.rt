@@ -236,8 +236,7 @@ pub fn sync_page_tree(
     if !limits::page_exists(page, s.pages) {
         return Answer::Refused(9);
     }
-    let part = tree::part_of(words, root, depth, page);
-    let last = tree::last_in(words, part, page);
+    let entry = tree::word_of(words, root, depth, page);
     let i = page as usize;
     let mode = s.mode;
     let pending = s.pending;
@@ -250,7 +249,7 @@ pub fn sync_page_tree(
         s.frames,
         state::pending_frame(pending),
         exclusion,
-        tree::narrow(part.all, part.any, last),
+        entry,
         shadow,
         map,
         i,

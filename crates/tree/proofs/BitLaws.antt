@@ -4,7 +4,7 @@ use mathlib.Core.Bool.{Bool, true, false, cond}
 use mathlib.Core.Logic.{_⊎_, inl, inr}
 use mathlib.Core.Path.{_≡_, refl, sym, ap, ap₂, _∙_}
 use native.Mathlib.Omega.{arith}
-use lib.Bits.{bitAnd, bitOr, and-shr, or-shr, and-mod, or-mod, or-lt, or-comm, or-zero-r}
+use lib.Bits.{bitAnd, bitOr, and-shr, or-shr, and-mod, or-mod, or-lt, or-comm, or-zero-r, or-block}
 use lib.Dec.{eqb}
 use Rattle.model.specs.declared.Entry.{Entry}
 use Rattle.model.specs.declared.Entry.the-variants.{Absent, Present}
@@ -106,6 +106,37 @@ module _ (all any entry : ℕ) (e : Entry) (apart : e ≡ takenApart entry) wher
       let same : fieldsOf entry ≡ x = fields-apart entry x (sym apart ∙ p) in
       let top : bitOr any entry < 2 ^ 64 = or-lt 64 any entry l m in
       rw (← apart, p, ← same, gathered-by 1 all any entry refl) (sums (bitAnd all entry) (bitOr any entry) entry top)
+
+-- The flat entry of a valid last entry: bit 63 is set beside what it was, and below it stand the frame and the low bits.
+pub flat-made : (all any entry : ℕ) → any < 2 ^ 64 → entry < 2 ^ 64 → valid entry ≡ true
+    → bitOr (entry / 2 ^ 12 * 2 ^ 12 + entry / 2 ^ 3 % 4 * 2 ^ 3 + bitAnd all entry / 2 % 4 * 2 + entry % 2) (any / 2 ^ 63 * 2 ^ 63)
+    ≡ lastFlat (rightsBy all any) (takenApart entry)
+unfolding takenApart fieldsOf frameOf
+flat-made all any entry l m fits =
+    let parts : (entry % 2 ≡ 1) × (entry / 2 ^ 52 % 2 ^ 11 ≡ 0) = valid-parts entry fits in
+    let r : ℕ = bitAnd all entry / 2 % 4 in
+    let t : ℕ = entry / 2 ^ 3 % 4 in
+    let low : ℕ = entry / 2 ^ 12 % 2 ^ 40 * 2 ^ 12 + t * 2 ^ 3 + r * 2 + 1 in
+    let there : takenApart entry ≡ Present (fieldsOf entry) = rw fits in
+    let split : entry / 2 ^ 12 * 2 ^ 12 + t * 2 ^ 3 + r * 2 + entry % 2 ≡ entry / 2 ^ 63 * 2 ^ 63 + low = pieces entry t r (parts .0) (parts .1) in
+    let small : low < 2 ^ 63 = under (entry / 2 ^ 12 % 2 ^ 40) t r (omega arith) (omega arith) (omega arith) in
+    let zeros : any / 2 ^ 63 * 2 ^ 63 ≡ any / 2 ^ 63 * 2 ^ 63 + 0 = omega arith in
+    let top : bitOr (entry / 2 ^ 63) (any / 2 ^ 63) ≡ bitOr any entry / 2 ^ 63 = or-comm (entry / 2 ^ 63) (any / 2 ^ 63) ∙ sym (or-shr any entry 63) in
+    ap₂ bitOr split zeros ∙ or-block 63 (entry / 2 ^ 63) (any / 2 ^ 63) low 0 small (omega arith) ∙ ap₂ (λ (a b : ℕ). a * 2 ^ 63 + b) top (or-zero-r low)
+    ∙ swap (bitOr any entry / 2 ^ 63 * 2 ^ 63) low ∙ flat-present all any entry (takenApart entry) refl (fieldsOf entry) l m there
+  where
+    pieces : (e t r : ℕ) → e % 2 ≡ 1 → e / 2 ^ 52 % 2 ^ 11 ≡ 0
+        → e / 2 ^ 12 * 2 ^ 12 + t * 2 ^ 3 + r * 2 + e % 2 ≡ e / 2 ^ 63 * 2 ^ 63 + (e / 2 ^ 12 % 2 ^ 40 * 2 ^ 12 + t * 2 ^ 3 + r * 2 + 1)
+    pieces e t r odd none =
+        let a : e / 2 ^ 12 ≡ e / 2 ^ 52 * 2 ^ 40 + e / 2 ^ 12 % 2 ^ 40 = omega arith in
+        let b : e / 2 ^ 52 ≡ e / 2 ^ 63 * 2 ^ 11 + e / 2 ^ 52 % 2 ^ 11 = omega arith in
+        omega (arith, a, b, odd, none)
+
+    under : (f t r : ℕ) → f < 2 ^ 40 → t < 4 → r < 4 → f * 2 ^ 12 + t * 2 ^ 3 + r * 2 + 1 < 2 ^ 63
+    under f t r p q s = omega arith
+
+    swap : (a b : ℕ) → a + b ≡ b + a
+    swap a b = omega arith
 
 -- A large page's entry with a page's low nine bits added to its frame, whose own low nine bits are 0.
 module _ (entry q : ℕ) (aligned : entry % 2 ^ 21 < 2 ^ 12) (small : q < 512) where

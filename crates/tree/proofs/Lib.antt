@@ -1,6 +1,6 @@
 -- Laws of this crate's proofs.
 mod OrderLaws
 mod BitLaws
-mod PartLaws
 mod WordLaws
 mod WalkLaws
+mod DownLaws

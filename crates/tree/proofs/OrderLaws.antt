@@ -3,10 +3,12 @@ use Prim.Native.Nat.{ℕ, _/_, _%_, _≤_, _<_}
 use mathlib.Core.Bool.{Bool, true, false, not}
 use mathlib.Core.List.{List, [], _∷_}
 use mathlib.Core.Path.{_≡_, refl, sym, _∙_}
+use native.Mathlib.Omega.{arith}
 use lib.Dec.{ltb}
 use lib.ListN.{length}
 use borrow.Author.Tests.{eq-eqb, ne-eqb, lt-leb, ltb-true, not-false}
 use Rattle.model.specs.Basics.{both, within}
+use Rattle.model.specs.declared.Answer.{Answer}
 use Rattle.model.specs.declared.Answer.the-variants.{Done, Refused}
 use Rattle.model.specs.Tree.{Tree, treeOf, tablesIn, treeInOrder, flatAt, readsAt}
 use Rattle.model.specs.Questions.{question}
@@ -57,10 +59,23 @@ module _ (fit : Bool) (tree : Tree) (page : ℕ) where
     unfolding replyOf walkReply walkQuestions settle
     walk-17 p = rw (sym (passed 7 17 fit fit (question 17 (treeInOrder tree) ∷ []) refl fits (stopped 17 r (treeInOrder tree) [] asked p)))
 
-    pub tree-yes : not r ≡ false → treeInOrder tree ≡ true
-    tree-yes p = sym asked ∙ not-false r p
-
-    pub walk-done : (x y : ℕ) → not r ≡ false → x ≡ flatAt tree page → y ≡ readsAt tree page → replyOf (Done x y) ≡ walkReply fit tree page
+    walk-done : (x y : ℕ) → not r ≡ false → x ≡ flatAt tree page → y ≡ readsAt tree page → replyOf (Done x y) ≡ walkReply fit tree page
     unfolding replyOf walkReply walkQuestions settle
     walk-done x y p q s =
         rw (sym (passed 7 0 fit fit (question 17 (treeInOrder tree) ∷ []) refl fits (passed 17 0 r (treeInOrder tree) [] asked p none-left)), q, s)
+
+-- A tree in order, by the number that its depth is.
+module _ (words : List ℕ) (root depth : ℕ) (r : Bool) (asked : r ≡ treeInOrder (treeOf words root depth)) (passes : not r ≡ false) where
+  pub third-depth : (depth ≡ 1 → ⊥) → (depth ≡ 2 → ⊥) → depth ≡ 3
+  third-depth not-1 not-2 =
+      let least : 1 ≤ depth = depth-least words root depth (sym asked ∙ not-false r passes) in
+      let most : depth ≤ 3 = depth-most words root depth (sym asked ∙ not-false r passes) in
+      omega (arith, least, most, not-1, not-2)
+
+  pub order-by : (d : ℕ) → depth ≡ d → treeInOrder (treeOf words root d) ≡ true
+  order-by d same = rw (← same) (sym asked ∙ not-false r passes)
+
+  pub walk-by : (fit : Bool) (page d : ℕ) → not fit ≡ false → depth ≡ d → (a : Answer)
+      → a ≡ Done (flatAt (treeOf words root d) page) (readsAt (treeOf words root d) page) → replyOf a ≡ walkReply fit (treeOf words root depth) page
+  walk-by fit page d fits same a walked =
+      rw (walked, ← same) (walk-done fit (treeOf words root depth) page r fits asked _ _ passes refl refl)

@@ -3,12 +3,12 @@ use Prim.Native.Nat.{ℕ, _+_, _-_, _*_, _/_, _%_, _^_, _<_, _≤_}
 use mathlib.Core.Bool.{cond}
 use mathlib.Core.List.{List}
 use mathlib.Core.Path.{_≡_}
-use lib.ListN.{getD}
+use lib.ListN.{length, getD}
 use Rattle.model.specs.declared.Entry.{Entry}
 use Rattle.model.specs.declared.Entry.the-variants.{Absent, Present}
 use Rattle.model.specs.Basics.{bit}
 use Rattle.model.specs.Bits.{takenApart}
-use Rattle.model.specs.Tree.{tablesIn, Rights, gathered, flatEntry}
+use Rattle.model.specs.Tree.{tablesIn, Rights, gathered, flatEntry, Walk}
 use Rattle.tree.specs.declared.Below.{Below}
 use Rattle.tree.specs.declared.Below.the-variants.{Table, Large, Nowhere}
 use Rattle.tree.specs.declared.Part.{Part}
@@ -21,6 +21,11 @@ rightsBy all any = record { writable = bit 1 all; user = bit 2 all; noExecute = 
 unfoldable pub lastFlat : Rights → Entry → ℕ
 lastFlat rights Absent = 0
 lastFlat rights (Present x) = flatEntry (gathered 1 rights x) x (x .frame)
+
+-- A walk in one word, which the recursion can return in a register: the flat entry, which has nothing in bits 5 to 11, with the count of entries met in
+-- bits 5 and 6.
+unfoldable pub walkWord : Walk → ℕ
+walkWord walk = walk .flat + length (walk .met) * 2 ^ 5
 
 -- The flat entry of a page of the part, and how many entries its walk reads.
 unfoldable pub flatBelow : List ℕ → Rights → ℕ → Below → ℕ

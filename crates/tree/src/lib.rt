@@ -5,13 +5,15 @@ use model::Answer;
 use model::Entry;
 ghost use mathlib.Core.Path.{_≡_};
 ghost use mathlib.Core.Bool.{true};
-ghost use Prim.Native.Nat.{ℕ, _+_, _-_, _/_, _%_, _^_, _≤_, _<_};
+ghost use Prim.Native.Nat.{ℕ, _+_, _-_, _*_, _/_, _%_, _^_, _≤_, _<_};
+ghost use lib.Dec.{ltb};
 ghost use lib.ListN.{length};
-ghost use Rattle.model.specs.Bits.{takenApart};
+ghost use Rattle.model.specs.Bits.{valid, takenApart};
+ghost use Rattle.model.specs.declared.Answer.the-variants.{Done};
 ghost use Rattle.model.specs.Calls.{replyOf};
 ghost use Rattle.model.specs.Tree.{treeOf, treeInOrder, walkFrom, flatAt, readsAt};
 ghost use Rattle.model.specs.Walks.{walkReply};
-ghost use Rattle.tree.specs.Parts.{rightsBy, lastFlat, flatIn, readsIn, Sound, partBy, Alike};
+ghost use Rattle.tree.specs.Parts.{rightsBy, lastFlat, walkWord, flatIn, readsIn, Sound, partBy, Alike};
 ghost use Rattle.tree.specs.declared.Below.the-variants.{Table, Large, Nowhere};
 
 // "tables of 512 entries": nine page bits choose one of them.
@@ -73,19 +75,17 @@ pub fn in_order(words: &[u64], root: u64, depth: u64) -> bool
     root < length / ENTRIES
 }
 
-// The flat entry of a last entry: its present bit, cache bits and frame, writable and user where all have them, no-execute where any has it. `% 4` takes
-// two bits that stand side by side.
+// The flat entry of a valid last entry: its present bit, cache bits and frame, writable and user where all have them, no-execute where any has it. A valid
+// entry has nothing between its frame and bit 63. `% 4` takes two bits that stand side by side.
 fn flat(all: u64, any: u64, entry: u64) -> u64
+    requires { ⌜ valid entry ≡ true ⌝ }
     ensures { λ r. ⌜ r ≡ lastFlat (rightsBy all any) (takenApart entry) ⌝ }
 {
-    let Entry::Present(x) = entry::take_apart(entry) else {
-        return 0;
-    };
-    x.frame * FRAME
+    entry / FRAME * FRAME
         + entry / WRITE_THROUGH % 4 * WRITE_THROUGH
         + (all & entry) / WRITABLE % 4 * WRITABLE
-        + 1
-        + (any | entry) / entry::NO_EXECUTE * entry::NO_EXECUTE
+        + entry % 2
+        | any / entry::NO_EXECUTE * entry::NO_EXECUTE
 }
 
 // A last entry narrowed to the rights that the entries above leave: the same entry with other bits 1, 2 and 63. It is taken apart as the flat entry is,
@@ -222,34 +222,81 @@ pub fn part_of(words: &[u64], root: u64, depth: u64, page: u64) -> Part
     part_in(part_from(words, page, level, EVERY_BIT, 0, root, 0))
 }
 
-// The last entry of a page of the part, below the rights that the part has, and 0 where the page is absent above it. "the page number's low nine are
-// added" to the frame of a large page. It asks that the part's table is one of the run, or its large page aligned, as `part_of` gives it.
-pub fn last_in(words: &[u64], part: Part, page: u64) -> u64
-    requires { ⌜ Sound (now words) part ⌝ }
-    ensures { λ r. ⌜ lastFlat (rightsBy (part .all) (part .any)) (takenApart r) ≡ flatIn (now (words .entry)) part page ⌝ }
+// The walk from a level down, in the table with this number, by the rights gathered above it: the flat entry, with the count of entries read in bits 5
+// and 6, where a flat entry has nothing. `count`: what was read above, in its place. None are gathered above level 2. The run is behind a reference and
+// the levels stand as numbers so that the compiler makes straight code of the recursion: a slice would be copied at each call. Such a slice's length has no
+// bound of its own, and is asked for.
+fn walk_from(
+    run: &&[u64],
+    page: u64,
+    level: u32,
+    all: u64,
+    any: u64,
+    number: u64,
+    count: u64,
+) -> u64
+    requires { ⌜ (1 ≤ level) × (count + level * 2 ^ 5 ≤ 3 * 2 ^ 5) × (length (now (now run)) < 2 ^ 61) ⌝ }
+    ensures { λ r. ⌜ r ≡ walkWord (walkFrom (now (now (run .entry))) page level (rightsBy all any) number) + count ⌝ }
 {
-    let below = part.below;
-    match below {
-        Below::Table(number) => words[(number * ENTRIES + page % ENTRIES) as usize],
-        Below::Large(entry) => entry + page % ENTRIES * FRAME,
-        Below::Nowhere => 0,
+    let words = *run;
+    if words.len() as u64 / ENTRIES <= number {
+        return count;
     }
+    let place = (page >> PLACE_BITS * (level - 1)) % ENTRIES;
+    let entry = words[(number * ENTRIES + place) as usize];
+    let count = count + COUNT;
+    let Entry::Present(x) = entry::take_apart(entry) else {
+        return count;
+    };
+    if level == 1 {
+        return flat(all, any, entry) + count;
+    }
+    if level == 2 {
+        if entry / LARGE % 2 == 0 {
+            return walk_from(run, page, 1, all & entry, any | entry, x.frame, count);
+        }
+        if x.frame % ENTRIES != 0 {
+            return count;
+        }
+        return flat(all, any, entry) + page % ENTRIES * FRAME + count;
+    }
+    // "at level 3 these three bits do not count"
+    walk_from(run, page, 2, all, any, x.frame, count)
 }
 
-// How many entries the walk of a page of the part reads.
-fn reads_in(part: Part) -> u64
-    requires { ⌜ part .reads ≤ 3 ⌝ }
-    ensures { λ r. ⌜ r ≡ readsIn part ⌝ }
+// "A page whose number needs more bits than the depth has is absent".
+fn reaches(depth: u64, page: u64) -> bool
+    requires { ⌜ depth ≤ 3 ⌝ }
+    ensures { λ r. ⌜ r ≡ ltb page (2 ^ (9 * depth)) ⌝ }
 {
-    let below = part.below;
-    match below {
-        Below::Table(number) => part.reads + 1,
-        Below::Large(entry) => part.reads,
-        Below::Nowhere => part.reads,
-    }
+    page >> PLACE_BITS * depth as u32 == 0
 }
 
-// Walks a page. `numbers_fit`: the run for the call's numbers, where it is lent one, has its length.
+// An entry that is taken apart as the flat entry of a page is: a synchronisation asks no more. It asks for a tree that question 17 has let pass.
+pub fn word_of(words: &[u64], root: u64, depth: u64, page: u64) -> u64
+    requires { ⌜ treeInOrder (treeOf (now words) root depth) ≡ true ⌝ }
+    ensures { λ r. ⌜ takenApart r ≡ takenApart (flatAt (treeOf (now (words .entry)) root depth) page) ⌝ }
+{
+    if !reaches(depth, page) {
+        return 0;
+    }
+    walk_from(&words, page, depth as u32, EVERY_BIT, 0, root, 0)
+}
+
+// The walk of a page in a tree that question 17 has let pass.
+fn walk_down(words: &[u64], root: u64, depth: u64, page: u64) -> Answer
+    requires { ⌜ treeInOrder (treeOf (now words) root depth) ≡ true ⌝ }
+    ensures { λ r. ⌜ r ≡ Done (flatAt (treeOf (now (words .entry)) root depth) page) (readsAt (treeOf (now (words .entry)) root depth) page) ⌝ }
+{
+    if !reaches(depth, page) {
+        return Answer::Done(0, 0);
+    }
+    let word = walk_from(&words, page, depth as u32, EVERY_BIT, 0, root, 0);
+    Answer::Done(word / LARGE * LARGE + word % COUNT, word / COUNT % 4)
+}
+
+// Walks a page. `numbers_fit`: the run for the call's numbers, where it is lent one, has its length. The depths stand as numbers so that each has code of
+// its own.
 pub fn walk(words: &[u64], root: u64, depth: u64, page: u64, numbers_fit: bool) -> Answer
     ensures { λ r. ⌜ replyOf r ≡ walkReply «numbers_fit» (treeOf (now (words .entry)) root depth) page ⌝ }
 {
@@ -259,7 +306,11 @@ pub fn walk(words: &[u64], root: u64, depth: u64, page: u64, numbers_fit: bool) 
     if !in_order(words, root, depth) {
         return Answer::Refused(17);
     }
-    let part = part_of(words, root, depth, page);
-    let entry = last_in(words, part, page);
-    Answer::Done(flat(part.all, part.any, entry), reads_in(part))
+    if depth == 1 {
+        return walk_down(words, root, 1, page);
+    }
+    if depth == 2 {
+        return walk_down(words, root, 2, page);
+    }
+    walk_down(words, root, 3, page)
 }
