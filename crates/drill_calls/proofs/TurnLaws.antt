@@ -19,7 +19,7 @@ use Rattle.model.specs.Basics.{within}
 use Rattle.model.specs.Sizes.{pagesInRange, framesInRange}
 use Rattle.model.specs.Guard.{Tables, Guard, guardOf, vectorBytes}
 use Rattle.model.specs.Devices.{deviceOf}
-use Rattle.model.specs.Policy.{Givens, policyOf, numberAt, startState, zeroState}
+use Rattle.model.specs.Policy.{Givens, policyOf, numberAt, startState, startGuard, zeroState}
 use Rattle.model.specs.Questions.{firstNo, lengthsOf, startQuestions}
 use Rattle.model.specs.Calls.{Outcome, refused, replyOf, outcomeBy, settle, startOf, answer}
 use Rattle.drill_model.specs.Drill.{policyExtent, windowsOf, kindOf, indexOf, lengthOf, valueOf, edited, callOf, withGuard, performed, line, startLine, turnOf}
@@ -86,7 +86,7 @@ opening-is r l b o t e f g = rw (← e, f, g)
 
 -- F of the state that a start leaves: in its range, or 0.
 pub opened-few : (r : Called) (given : Givens) (bytes : List ℕ) (t t′ : Tables) → outcomeBy r t′ ≡ startOf given bytes t → r .state .frames ≤ 4096
-unfolding outcomeBy startOf settle startState zeroState
+unfolding outcomeBy startOf settle startGuard startState zeroState
 opened-few r given bytes t t′ e =
     let is : r .state ≡ startOf given bytes t .guard .state = ap (λ (o : Outcome). o .guard .state) e in
     rw is (by (firstNo (startQuestions given bytes (policyOf bytes) (lengthsOf t))) refl)

@@ -13,4 +13,5 @@ returns-2 c = search (needs, bytes-none)
 pub bytes-lent-spec : {M : Type 1} → statement M
 bytes-lent-spec =
     tie.close
-    (tie.spec (λ c κs. search needs) (λ c. search needs) (λ c κs. search needs) (λ c κs. search needs) returns returns-2)
+    (tie.spec (λ c κs. search needs) (λ c. search needs) (λ c κs. search needs) (λ c. search needs)
+    (λ c κs. search needs) returns returns-2)
