@@ -133,7 +133,8 @@ module _ {M : Type 1} (𝓤 : URA M) (H : Heap 𝓤) (A : Atoms 𝓤) (W : Given
       → ent 𝓤 (sem 𝓤 H A (Bt (κ, tt) .own t (u ∷ []))) (guard 𝓤 (Lies t u) (sem 𝓤 H A (B (κ, tt) .own (t .rest) (T′.lowered (t .rest) ∷ []))))
   opened t u is =
       qed W (‵ (Bt (κ, tt) .own t (u ∷ [])) ∷ []) ∵
-      use1 W (given (u ∷ [] ≡ G′.lowered t ∷ []) (‵ (all-own (G.the-type (namedLft 1 0 tt (κ, tt)) .parts) (G′.the-laws (namedLft 1 0 tt (κ, tt))) (t .number, (t .rest, tt)))))
+      use1 W (given (u ∷ [] ≡ G′.lowered t ∷ []) (‵ (all-own (G.the-type (namedLft 1 0 tt (κ, tt)) .parts) (G′.the-laws (namedLft 1 0 tt (κ, tt)))
+      (t .number, (t .rest, tt)))))
       (own-open 𝓤 H A W (G.the-type (namedLft 1 0 tt (κ, tt))) (G′.the-laws (namedLft 1 0 tt (κ, tt))) (t .number, (t .rest, tt)) u) $ learn ! (λ i.
       check ! (i, subst WT (ap only i) (LL.lawful (G.the-type αᵉ) (G′.the-laws αᵉ) 𝓤 H A W .typed t _ is .0 .1)) $
       fsplit ! $ drop ! $ fsplit ! $ move ! (1 ∷ []) $ drop ! $ done !)

@@ -69,7 +69,8 @@ module _ (bytes : List ℕ) (pageAt left page : ℕ) (read : page ≡ numberAt b
       unfolding storedEach approvedEach
       listed-shadow entry made e =
           rw made
-          (rw (numbers-front bytes pageAt left page pageAfter read moved more, numbers-front bytes frameAt left frame frameAfter frameRead frameMoved more) at e)
+          (rw (numbers-front bytes pageAt left page pageAfter read moved more, numbers-front bytes frameAt left frame frameAfter frameRead frameMoved more)
+          at e)
 
 pub listed-end : (bytes : List ℕ) (at left : ℕ) (values t whole : List ℕ) → left ≤ 0 → storedEach (numbersAt bytes at left) values t ≡ whole → t ≡ whole
 unfolding storedEach

@@ -82,11 +82,14 @@ module _ (given : Givens) (bytes : List ℕ) (l : Lengths) (question : ℕ) (ask
   long : length bytes ≡ 8 + 4 * policyOf bytes .count
   long = record-length given bytes (policyOf bytes) 0 (sym (start-record given bytes (policyOf bytes) l none)) refl
 
-  pub pages-ready : (count place : ℕ) → count ≡ numberAt bytes 4 → place ≡ 8 → (count ≡ numberAt bytes 4) × (place ≡ 8) × (length bytes ≡ 8 + 4 * policyOf bytes .count) × (l .shadow ≡ policyOf bytes .pages) × (l .map ≡ policyOf bytes .pages)
+  pub pages-ready : (count place : ℕ) → count ≡ numberAt bytes 4 → place ≡ 8
+      → (count ≡ numberAt bytes 4) × (place ≡ 8) × (length bytes ≡ 8 + 4 * policyOf bytes .count) × (l .shadow ≡ policyOf bytes .pages)
+      × (l .map ≡ policyOf bytes .pages)
       × (allBelow (policyOf bytes .pages) (policyOf bytes .listedPages) ≡ true) × (allBelow 4096 (policyOf bytes .listedFrames) ≡ true)
   pages-ready count place eN eA = (eN, eA, long, fitting .shadow, fitting .map, passed .pages-below, frames-small)
 
-  pub vector-ready : (count place : ℕ) → count ≡ numberAt bytes 4 → place ≡ 8 → (count ≡ numberAt bytes 4) × (place ≡ 8) × (length bytes ≡ 8 + 4 * policyOf bytes .count) × (l .exclusion ≡ vectorBytes (policyOf bytes .frames))
+  pub vector-ready : (count place : ℕ) → count ≡ numberAt bytes 4 → place ≡ 8
+      → (count ≡ numberAt bytes 4) × (place ≡ 8) × (length bytes ≡ 8 + 4 * policyOf bytes .count) × (l .exclusion ≡ vectorBytes (policyOf bytes .frames))
       × (policyOf bytes .frames ≤ 4096) × (allBelow 4096 (policyOf bytes .listedFrames) ≡ true)
   vector-ready count place eN eA = (eN, eA, long, fitting .exclusion, passed .frames-high, frames-small)
 
@@ -117,8 +120,8 @@ module _ (given : Givens) (bytes : List ℕ) (t : Tables) (r : Called) where
     pub record-refuses : (question ≡ 0 → ⊥) → r ≡ refusedStart question → outcomeBy r t ≡ startOf given bytes t
     record-refuses named e = refuses question (asks-record given bytes (lengthsOf t) question asked named) named e
 
-    module _ (six : question ≡ 0) (pages frames : ℕ) (eV : pages ≡ numberAt bytes 0) (eF : frames ≡ numberAt bytes 2) (fits : Bool)
-        (e7 : fits ≡ inOrder true (eqb (lengthsOf t .shadow) pages ∷ eqb (lengthsOf t .map) pages ∷ eqb (lengthsOf t .exclusion) (vectorBytes frames) ∷ [])) where
+    module _ (six : question ≡ 0) (pages frames : ℕ) (eV : pages ≡ numberAt bytes 0) (eF : frames ≡ numberAt bytes 2) (fits : Bool) (e7 : fits
+        ≡ inOrder true (eqb (lengthsOf t .shadow) pages ∷ eqb (lengthsOf t .map) pages ∷ eqb (lengthsOf t .exclusion) (vectorBytes frames) ∷ [])) where
       pub lengths-refuse : not fits ≡ true → r ≡ refusedStart 7 → outcomeBy r t ≡ startOf given bytes t
       lengths-refuse short e = refuses 7 (asks-lengths given bytes (lengthsOf t) question asked six pages frames eV eF fits e7 short) (λ z. omega arith) e
 

@@ -1,6 +1,7 @@
--- `policy::read_sizes` meets its contract: a walk of its MIR, by hand. One `Reader` is made at the start of the slice, and each of four calls of `take` is passed the
--- reader that the one before handed on; the four numbers and the last reader's place make the result. All that the proof knows of `new` and `take` is that each
--- meets its contract (`TakeCall`). Assumes nothing.
+-- `policy::read_sizes` meets its contract: a walk of its MIR, by hand. One `Reader` is made at the start of the slice, and each of four calls of `take` is
+-- passed the reader that the one before handed on; the four numbers and the last reader's place make the result. All that the proof knows of `new` and `take`
+-- is that each meets its contract (`TakeCall`).
+-- Assumes nothing.
 use mathlib.Core.Path.{_≡_, refl, ap}
 use Prim.Native.Nat.{ℕ, _+_, _<_, _≤_, _^_}
 use mathlib.Core.List.{List, [], _∷_}
@@ -19,8 +20,8 @@ use prog.Wp.{Heap, Calls, Loops, WpFn, Tables}
 use ghost.Atoms.{Atoms}
 use contract.Monad.{Fun, fact}
 use contract.Running.{givenOf, tables, tablesOf}
-use types.Kit.{Given, ‵, raw, _⊛_, ⋆, some, later, given, _$_, _∵_, !, qed, by, move, drop, use1, use2, split, pick, learn, fsplit, fjoin, suffices, frame, await}
-use types.Kit.{rewrite}
+use types.Kit.{Given, ‵, raw, _⊛_, ⋆, some, later, given, _$_, _∵_, !, qed, by, move, drop, use1, use2, split, pick, learn, fsplit, fjoin, suffices, frame}
+use types.Kit.{await, rewrite}
 use types.Part.{whole, sub, look-in, agg}
 use types.Run.{look, init, forget, stop, fld, from, load, lit, of-opd, and-then, no-more, assigns, land, returns, enter, alloc1, alloc0, params1, pass1, pass0}
 use types.Run.{free1, free0}
@@ -95,7 +96,8 @@ module _ {M : Type 1} (𝓤 : URA M) (H : Heap 𝓤) (A : Atoms 𝓤) (W : Given
         → ent 𝓤 (⋆ 𝓤 H A (‵ (B (κ, tt) .own (t₄ .rest) (u ∷ [])) ∷ (‵ (flft κ q) ⊛ ‵ ftrue) ∷ ‵ (Own 𝓤 H A W mem run κ q s) ∷ [])) (Post (N′.lowered made))
     exits e h₁ h₂ h₃ h₄ far =
         qed W (‵ (B (κ, tt) .own (t₄ .rest) (u ∷ [])) ∷ (‵ (flft κ q) ⊛ ‵ ftrue) ∷ ‵ (Own 𝓤 H A W mem run κ q s) ∷ []) ∵ drop ! $
-        suffices ! _ (ends-at 𝓤 H A read-sizes.ended stayed (read-sizes.clauses 𝓤 H A mem run) W (((κ, tt), (q, tt), tt, (s, tt), at), tt) (N′.lowered made) made
+        suffices ! _ (ends-at 𝓤 H A read-sizes.ended stayed (read-sizes.clauses 𝓤 H A mem run) W (((κ, tt), (q, tt), tt, (s, tt), at), tt) (N′.lowered made)
+        made
         (tt, tt) (tt, tt)) $ says ! e $
         frame ! $ nothing ! $ move ! (1 ∷ 0 ∷ []) $ fjoin ! $ frame ! $
         -- []: the facts of the five numbers are what the result owns
@@ -111,61 +113,89 @@ module _ {M : Type 1} (𝓤 : URA M) (H : Heap 𝓤) (A : Atoms 𝓤) (W : Given
     walk : Is (ShrSlice (named 0) κ u8) s (v 𝓤 H A W mem run κ q s ∷ [])
         → ent 𝓤 (onEntry 𝓤 H A read-sizes.signature (κ, tt) (q, tt) (s, tt) at) (WpFn 𝓤 H C Λ code.function (v 𝓤 H A W mem run κ q s ∷ []) Post)
     walk p =
-        qed W ((‵ (flft κ q) ⊛ ‵ ftrue) ∷ ‵ (owns (ShrSlice (named 0) κ u8 ∷ []) (s, tt) at) ∷ []) ∵ enter ! C Λ code.function (v 𝓤 H A W mem run κ q s ∷ []) _ $
+        qed W ((‵ (flft κ q) ⊛ ‵ ftrue) ∷ ‵ (owns (ShrSlice (named 0) κ u8 ∷ []) (s, tt) at) ∷ []) ∵ enter ! C Λ code.function (v 𝓤 H A W mem run κ q s ∷ [])
+        _ $
         alloc1 ! (λ l₀. alloc1 ! (λ l₁. alloc1 ! (λ l₂. alloc1 ! (λ l₃. alloc1 ! (λ l₄. alloc1 ! (λ l₅. alloc1 ! (λ l₆. alloc1 ! (λ l₇. alloc1 ! (λ l₈.
         alloc1 ! (λ l₉. alloc1 ! (λ l₁₀. alloc1 ! (λ l₁₁. alloc1 ! (λ l₁₂. alloc1 ! (λ l₁₃. alloc1 ! (λ l₁₄. alloc0 ! $ params1 ! $
         pass1 ! (init ! 26 refl (shr-slice-lawful 𝓤 H A W (named 0) κ u8 .typed s (v 𝓤 H A W mem run κ q s ∷ []) p .0)) $ pass0 ! $
         move ! (31 ∷ []) $ fsplit ! $ move ! (1 ∷ []) $ drop ! $ move ! (0 ∷ 31 ∷ []) $
-        use2 W (raw (New 𝓤 H A mem run .pre (to-new 𝓤 H A W mem run κ q s 0)) ⊛ ‵ (Own 𝓤 H A W mem run κ q s)) (goes-new 𝓤 H A W mem run κ q s 0 (lit< tt)) $ split ! $
+        use2 W (raw (New 𝓤 H A mem run .pre (to-new 𝓤 H A W mem run κ q s 0)) ⊛ ‵ (Own 𝓤 H A W mem run κ q s)) (goes-new 𝓤 H A W mem run κ q s 0 (lit< tt)) $
+        split ! $
         -- [what `new` asks; what s owns; room for _14; …]: local i stands at 30 - 2i, and at 31 - 2i where a call has returned
-        calls-at ! fm (New 𝓤 H A mem run) known-new (to-new 𝓤 H A W mem run κ q s 0) (and-then ! (load ! (from ! (stop !)) (look ! 28 refl)) (and-then ! (lit ! tt) (no-more !))) (λ u.
+        calls-at ! fm (New 𝓤 H A mem run) known-new (to-new 𝓤 H A W mem run κ q s 0)
+        (and-then ! (load ! (from ! (stop !)) (look ! 28 refl)) (and-then ! (lit ! tt) (no-more !))) (λ u.
         use1 W (later (some (λ (r : Reader). ((‵ (flft κ q) ⊛ ‵ ftrue) ⊛ ‵ (B (κ, tt) .own r (u ∷ [])))
         ⊛ raw (ensured 𝓤 H A new.ended (new.clauses 𝓤 H A mem run) (κ, tt) (s, (0, tt)) tt r)))) (id⊢ 𝓤 _) $ await ! tt $ pick ! (λ r.
-        split ! $ move ! (1 ∷ []) $ use1 W (raw (fact 𝓤 (Stands s 0 r))) (new-said 𝓤 H A W mem run κ q s 0 r) $ heard ! (Stands s 0 r) (λ e. split ! $ move ! (1 ∷ []) $
+        split ! $ move ! (1 ∷ []) $ use1 W (raw (fact 𝓤 (Stands s 0 r))) (new-said 𝓤 H A W mem run κ q s 0 r) $
+        heard ! (Stands s 0 r) (λ e. split ! $ move ! (1 ∷ []) $
         peeks ! (B (κ, tt)) (Is (B (κ, tt))) (shows 𝓤 H A (B (κ, tt))) r (u ∷ []) (λ is.
-        land ! (from ! (stop !)) (init ! 19 refl (LL.lawful (T.the-type (αᵉ 𝓤 H A W mem run κ q s)) (T′.the-laws (αᵉ 𝓤 H A W mem run κ q s)) 𝓤 H A W .typed r _ is .0)) $
+        land ! (from ! (stop !)) (init ! 19 refl (LL.lawful (T.the-type (αᵉ 𝓤 H A W mem run κ q s)) (T′.the-laws (αᵉ 𝓤 H A W mem run κ q s)) 𝓤 H A W .typed r _
+        is .0)) $
         -- the number at 0
-        use2 W (raw (Take 𝓤 H A mem run .pre (to-take 𝓤 H A W mem run κ q s r u))) (goes-take 𝓤 H A W mem run κ q s r u (both-there s 0 r e (there 0 (lit< tt)))) $
-        calls-at ! fm (Take 𝓤 H A mem run) known-take (to-take 𝓤 H A W mem run κ q s r u) (and-then ! (load ! (from ! (stop !)) (look ! 18 refl)) (no-more !)) (λ u₁.
+        use2 W (raw (Take 𝓤 H A mem run .pre (to-take 𝓤 H A W mem run κ q s r u)))
+        (goes-take 𝓤 H A W mem run κ q s r u (both-there s 0 r e (there 0 (lit< tt)))) $
+        calls-at ! fm (Take 𝓤 H A mem run) known-take (to-take 𝓤 H A W mem run κ q s r u) (and-then ! (load ! (from ! (stop !)) (look ! 18 refl)) (no-more !))
+        (λ u₁.
         use1 W (later (some (λ (t : Taken). ((‵ (flft κ q) ⊛ ‵ ftrue) ⊛ ‵ (Bt (κ, tt) .own t (u₁ ∷ [])))
         ⊛ raw (ensured 𝓤 H A take.ended (take.clauses 𝓤 H A mem run) (κ, tt) (r, tt) tt t)))) (id⊢ 𝓤 _) $ await ! tt $ pick ! (λ t₁.
-        split ! $ move ! (1 ∷ []) $ use1 W (raw (fact 𝓤 (Read s 0 t₁))) (read-said 𝓤 H A W mem run κ q s 0 r t₁ e) $ heard ! (Read s 0 t₁) (λ f₁. split ! $ move ! (1 ∷ []) $
+        split ! $ move ! (1 ∷ []) $ use1 W (raw (fact 𝓤 (Read s 0 t₁))) (read-said 𝓤 H A W mem run κ q s 0 r t₁ e) $
+        heard ! (Read s 0 t₁) (λ f₁. split ! $ move ! (1 ∷ []) $
         peeks ! (Bt (κ, tt)) (Is (Bt (κ, tt))) (shows 𝓤 H A (Bt (κ, tt))) t₁ (u₁ ∷ []) (λ is₁.
-        land ! (from ! (stop !)) (init ! 27 refl (LL.lawful (G.the-type (αᵉ 𝓤 H A W mem run κ q s)) (G′.the-laws (αᵉ 𝓤 H A W mem run κ q s)) 𝓤 H A W .typed t₁ _ is₁ .0)) $
-        use1 W (given (Lies 𝓤 H A W mem run κ q s t₁ u₁) (‵ (B (κ, tt) .own (t₁ .rest) (T′.lowered (t₁ .rest) ∷ [])))) (opened 𝓤 H A W mem run κ q s t₁ u₁ is₁) $ learn ! (λ i₁.
+        land ! (from ! (stop !)) (init ! 27 refl (LL.lawful (G.the-type (αᵉ 𝓤 H A W mem run κ q s)) (G′.the-laws (αᵉ 𝓤 H A W mem run κ q s)) 𝓤 H A W .typed t₁ _
+        is₁ .0)) $
+        use1 W (given (Lies 𝓤 H A W mem run κ q s t₁ u₁) (‵ (B (κ, tt) .own (t₁ .rest) (T′.lowered (t₁ .rest) ∷ []))))
+        (opened 𝓤 H A W mem run κ q s t₁ u₁ is₁) $ learn ! (λ i₁.
         rewrite ! 27 (λ (x : Val). ‵ (fat fullShare (G′.mir erased) l₂ 0 x)) (ap only (i₁ .0)) refl $
-        assigns ! (of-opd ! (load ! (from ! (fld ! refl (stop !))) (look-in ! 27 (sub ! 1 refl (whole !))))) (from ! (stop !)) (init ! 17 refl (tt, i₁ .1 .1 .0)) $
+        assigns ! (of-opd ! (load ! (from ! (fld ! refl (stop !))) (look-in ! 27 (sub ! 1 refl (whole !))))) (from ! (stop !))
+        (init ! 17 refl (tt, i₁ .1 .1 .0)) $
         -- the number at 2
-        use2 W (raw (Take 𝓤 H A mem run .pre (to-take 𝓤 H A W mem run κ q s (t₁ .rest) (T′.lowered (t₁ .rest))))) (goes-take 𝓤 H A W mem run κ q s (t₁ .rest) (T′.lowered (t₁ .rest)) (both-there s 2 (t₁ .rest) (f₁ .1) (there 2 (lit< tt)))) $
-        calls-at ! fm (Take 𝓤 H A mem run) known-take (to-take 𝓤 H A W mem run κ q s (t₁ .rest) (T′.lowered (t₁ .rest))) (and-then ! (load ! (from ! (stop !)) (look ! 16 refl)) (no-more !)) (λ u₂.
+        use2 W (raw (Take 𝓤 H A mem run .pre (to-take 𝓤 H A W mem run κ q s (t₁ .rest) (T′.lowered (t₁ .rest)))))
+        (goes-take 𝓤 H A W mem run κ q s (t₁ .rest) (T′.lowered (t₁ .rest)) (both-there s 2 (t₁ .rest) (f₁ .1) (there 2 (lit< tt)))) $
+        calls-at ! fm (Take 𝓤 H A mem run) known-take (to-take 𝓤 H A W mem run κ q s (t₁ .rest) (T′.lowered (t₁ .rest)))
+        (and-then ! (load ! (from ! (stop !)) (look ! 16 refl)) (no-more !)) (λ u₂.
         use1 W (later (some (λ (t : Taken). ((‵ (flft κ q) ⊛ ‵ ftrue) ⊛ ‵ (Bt (κ, tt) .own t (u₂ ∷ [])))
         ⊛ raw (ensured 𝓤 H A take.ended (take.clauses 𝓤 H A mem run) (κ, tt) ((t₁ .rest), tt) tt t)))) (id⊢ 𝓤 _) $ await ! tt $ pick ! (λ t₂.
-        split ! $ move ! (1 ∷ []) $ use1 W (raw (fact 𝓤 (Read s 2 t₂))) (read-said 𝓤 H A W mem run κ q s 2 (t₁ .rest) t₂ (f₁ .1)) $ heard ! (Read s 2 t₂) (λ f₂. split ! $ move ! (1 ∷ []) $
+        split ! $ move ! (1 ∷ []) $ use1 W (raw (fact 𝓤 (Read s 2 t₂))) (read-said 𝓤 H A W mem run κ q s 2 (t₁ .rest) t₂ (f₁ .1)) $
+        heard ! (Read s 2 t₂) (λ f₂. split ! $ move ! (1 ∷ []) $
         peeks ! (Bt (κ, tt)) (Is (Bt (κ, tt))) (shows 𝓤 H A (Bt (κ, tt))) t₂ (u₂ ∷ []) (λ is₂.
-        land ! (from ! (stop !)) (init ! 25 refl (LL.lawful (G.the-type (αᵉ 𝓤 H A W mem run κ q s)) (G′.the-laws (αᵉ 𝓤 H A W mem run κ q s)) 𝓤 H A W .typed t₂ _ is₂ .0)) $
-        use1 W (given (Lies 𝓤 H A W mem run κ q s t₂ u₂) (‵ (B (κ, tt) .own (t₂ .rest) (T′.lowered (t₂ .rest) ∷ [])))) (opened 𝓤 H A W mem run κ q s t₂ u₂ is₂) $ learn ! (λ i₂.
+        land ! (from ! (stop !)) (init ! 25 refl (LL.lawful (G.the-type (αᵉ 𝓤 H A W mem run κ q s)) (G′.the-laws (αᵉ 𝓤 H A W mem run κ q s)) 𝓤 H A W .typed t₂ _
+        is₂ .0)) $
+        use1 W (given (Lies 𝓤 H A W mem run κ q s t₂ u₂) (‵ (B (κ, tt) .own (t₂ .rest) (T′.lowered (t₂ .rest) ∷ []))))
+        (opened 𝓤 H A W mem run κ q s t₂ u₂ is₂) $ learn ! (λ i₂.
         rewrite ! 25 (λ (x : Val). ‵ (fat fullShare (G′.mir erased) l₃ 0 x)) (ap only (i₂ .0)) refl $
-        assigns ! (of-opd ! (load ! (from ! (fld ! refl (stop !))) (look-in ! 25 (sub ! 1 refl (whole !))))) (from ! (stop !)) (init ! 15 refl (tt, i₂ .1 .1 .0)) $
+        assigns ! (of-opd ! (load ! (from ! (fld ! refl (stop !))) (look-in ! 25 (sub ! 1 refl (whole !))))) (from ! (stop !))
+        (init ! 15 refl (tt, i₂ .1 .1 .0)) $
         -- the number at 4
-        use2 W (raw (Take 𝓤 H A mem run .pre (to-take 𝓤 H A W mem run κ q s (t₂ .rest) (T′.lowered (t₂ .rest))))) (goes-take 𝓤 H A W mem run κ q s (t₂ .rest) (T′.lowered (t₂ .rest)) (both-there s 4 (t₂ .rest) (f₂ .1) (there 4 (lit< tt)))) $
-        calls-at ! fm (Take 𝓤 H A mem run) known-take (to-take 𝓤 H A W mem run κ q s (t₂ .rest) (T′.lowered (t₂ .rest))) (and-then ! (load ! (from ! (stop !)) (look ! 14 refl)) (no-more !)) (λ u₃.
+        use2 W (raw (Take 𝓤 H A mem run .pre (to-take 𝓤 H A W mem run κ q s (t₂ .rest) (T′.lowered (t₂ .rest)))))
+        (goes-take 𝓤 H A W mem run κ q s (t₂ .rest) (T′.lowered (t₂ .rest)) (both-there s 4 (t₂ .rest) (f₂ .1) (there 4 (lit< tt)))) $
+        calls-at ! fm (Take 𝓤 H A mem run) known-take (to-take 𝓤 H A W mem run κ q s (t₂ .rest) (T′.lowered (t₂ .rest)))
+        (and-then ! (load ! (from ! (stop !)) (look ! 14 refl)) (no-more !)) (λ u₃.
         use1 W (later (some (λ (t : Taken). ((‵ (flft κ q) ⊛ ‵ ftrue) ⊛ ‵ (Bt (κ, tt) .own t (u₃ ∷ [])))
         ⊛ raw (ensured 𝓤 H A take.ended (take.clauses 𝓤 H A mem run) (κ, tt) ((t₂ .rest), tt) tt t)))) (id⊢ 𝓤 _) $ await ! tt $ pick ! (λ t₃.
-        split ! $ move ! (1 ∷ []) $ use1 W (raw (fact 𝓤 (Read s 4 t₃))) (read-said 𝓤 H A W mem run κ q s 4 (t₂ .rest) t₃ (f₂ .1)) $ heard ! (Read s 4 t₃) (λ f₃. split ! $ move ! (1 ∷ []) $
+        split ! $ move ! (1 ∷ []) $ use1 W (raw (fact 𝓤 (Read s 4 t₃))) (read-said 𝓤 H A W mem run κ q s 4 (t₂ .rest) t₃ (f₂ .1)) $
+        heard ! (Read s 4 t₃) (λ f₃. split ! $ move ! (1 ∷ []) $
         peeks ! (Bt (κ, tt)) (Is (Bt (κ, tt))) (shows 𝓤 H A (Bt (κ, tt))) t₃ (u₃ ∷ []) (λ is₃.
-        land ! (from ! (stop !)) (init ! 23 refl (LL.lawful (G.the-type (αᵉ 𝓤 H A W mem run κ q s)) (G′.the-laws (αᵉ 𝓤 H A W mem run κ q s)) 𝓤 H A W .typed t₃ _ is₃ .0)) $
-        use1 W (given (Lies 𝓤 H A W mem run κ q s t₃ u₃) (‵ (B (κ, tt) .own (t₃ .rest) (T′.lowered (t₃ .rest) ∷ [])))) (opened 𝓤 H A W mem run κ q s t₃ u₃ is₃) $ learn ! (λ i₃.
+        land ! (from ! (stop !)) (init ! 23 refl (LL.lawful (G.the-type (αᵉ 𝓤 H A W mem run κ q s)) (G′.the-laws (αᵉ 𝓤 H A W mem run κ q s)) 𝓤 H A W .typed t₃ _
+        is₃ .0)) $
+        use1 W (given (Lies 𝓤 H A W mem run κ q s t₃ u₃) (‵ (B (κ, tt) .own (t₃ .rest) (T′.lowered (t₃ .rest) ∷ []))))
+        (opened 𝓤 H A W mem run κ q s t₃ u₃ is₃) $ learn ! (λ i₃.
         rewrite ! 23 (λ (x : Val). ‵ (fat fullShare (G′.mir erased) l₄ 0 x)) (ap only (i₃ .0)) refl $
-        assigns ! (of-opd ! (load ! (from ! (fld ! refl (stop !))) (look-in ! 23 (sub ! 1 refl (whole !))))) (from ! (stop !)) (init ! 13 refl (tt, i₃ .1 .1 .0)) $
+        assigns ! (of-opd ! (load ! (from ! (fld ! refl (stop !))) (look-in ! 23 (sub ! 1 refl (whole !))))) (from ! (stop !))
+        (init ! 13 refl (tt, i₃ .1 .1 .0)) $
         -- the number at 6
-        use2 W (raw (Take 𝓤 H A mem run .pre (to-take 𝓤 H A W mem run κ q s (t₃ .rest) (T′.lowered (t₃ .rest))))) (goes-take 𝓤 H A W mem run κ q s (t₃ .rest) (T′.lowered (t₃ .rest)) (both-there s 6 (t₃ .rest) (f₃ .1) (there 6 (lit< tt)))) $
-        calls-at ! fm (Take 𝓤 H A mem run) known-take (to-take 𝓤 H A W mem run κ q s (t₃ .rest) (T′.lowered (t₃ .rest))) (and-then ! (load ! (from ! (stop !)) (look ! 12 refl)) (no-more !)) (λ u₄.
+        use2 W (raw (Take 𝓤 H A mem run .pre (to-take 𝓤 H A W mem run κ q s (t₃ .rest) (T′.lowered (t₃ .rest)))))
+        (goes-take 𝓤 H A W mem run κ q s (t₃ .rest) (T′.lowered (t₃ .rest)) (both-there s 6 (t₃ .rest) (f₃ .1) (there 6 (lit< tt)))) $
+        calls-at ! fm (Take 𝓤 H A mem run) known-take (to-take 𝓤 H A W mem run κ q s (t₃ .rest) (T′.lowered (t₃ .rest)))
+        (and-then ! (load ! (from ! (stop !)) (look ! 12 refl)) (no-more !)) (λ u₄.
         use1 W (later (some (λ (t : Taken). ((‵ (flft κ q) ⊛ ‵ ftrue) ⊛ ‵ (Bt (κ, tt) .own t (u₄ ∷ [])))
         ⊛ raw (ensured 𝓤 H A take.ended (take.clauses 𝓤 H A mem run) (κ, tt) ((t₃ .rest), tt) tt t)))) (id⊢ 𝓤 _) $ await ! tt $ pick ! (λ t₄.
-        split ! $ move ! (1 ∷ []) $ use1 W (raw (fact 𝓤 (Read s 6 t₄))) (read-said 𝓤 H A W mem run κ q s 6 (t₃ .rest) t₄ (f₃ .1)) $ heard ! (Read s 6 t₄) (λ f₄. split ! $ move ! (1 ∷ []) $
+        split ! $ move ! (1 ∷ []) $ use1 W (raw (fact 𝓤 (Read s 6 t₄))) (read-said 𝓤 H A W mem run κ q s 6 (t₃ .rest) t₄ (f₃ .1)) $
+        heard ! (Read s 6 t₄) (λ f₄. split ! $ move ! (1 ∷ []) $
         peeks ! (Bt (κ, tt)) (Is (Bt (κ, tt))) (shows 𝓤 H A (Bt (κ, tt))) t₄ (u₄ ∷ []) (λ is₄.
-        land ! (from ! (stop !)) (init ! 21 refl (LL.lawful (G.the-type (αᵉ 𝓤 H A W mem run κ q s)) (G′.the-laws (αᵉ 𝓤 H A W mem run κ q s)) 𝓤 H A W .typed t₄ _ is₄ .0)) $
-        use1 W (given (Lies 𝓤 H A W mem run κ q s t₄ u₄) (‵ (B (κ, tt) .own (t₄ .rest) (T′.lowered (t₄ .rest) ∷ [])))) (opened 𝓤 H A W mem run κ q s t₄ u₄ is₄) $ learn ! (λ i₄.
+        land ! (from ! (stop !)) (init ! 21 refl (LL.lawful (G.the-type (αᵉ 𝓤 H A W mem run κ q s)) (G′.the-laws (αᵉ 𝓤 H A W mem run κ q s)) 𝓤 H A W .typed t₄ _
+        is₄ .0)) $
+        use1 W (given (Lies 𝓤 H A W mem run κ q s t₄ u₄) (‵ (B (κ, tt) .own (t₄ .rest) (T′.lowered (t₄ .rest) ∷ []))))
+        (opened 𝓤 H A W mem run κ q s t₄ u₄ is₄) $ learn ! (λ i₄.
         rewrite ! 21 (λ (x : Val). ‵ (fat fullShare (G′.mir erased) l₅ 0 x)) (ap only (i₄ .0)) refl $
         -- the four numbers, and how far the reader has come
         assigns ! (of-opd ! (load ! (from ! (fld ! refl (stop !))) (look-in ! 27 (sub ! 0 refl (whole !))))) (from ! (stop !)) (init ! 11 refl (tt, i₁ .1 .0)) $
@@ -175,9 +205,11 @@ module _ {M : Type 1} (𝓤 : URA M) (H : Heap 𝓤) (A : Atoms 𝓤) (W : Given
         assigns ! (of-opd ! (load ! (from ! (fld ! refl (fld ! refl (stop !)))) (look-in ! 21 (sub ! 1 refl (sub ! 1 refl (whole !)))))) (from ! (stop !))
         (init ! 3 refl (tt, i₄ .1 .1 .0 .1 .0)) $
         assigns ! (agg ! (and-then ! (load ! (from ! (stop !)) (look ! 11 refl)) (and-then ! (load ! (from ! (stop !)) (look ! 9 refl))
-        (and-then ! (load ! (from ! (stop !)) (look ! 7 refl)) (and-then ! (load ! (from ! (stop !)) (look ! 5 refl)) (and-then ! (load ! (from ! (stop !)) (look ! 3 refl)) (no-more !)))))))
+        (and-then ! (load ! (from ! (stop !)) (look ! 7 refl)) (and-then ! (load ! (from ! (stop !)) (look ! 5 refl))
+        (and-then ! (load ! (from ! (stop !)) (look ! 3 refl)) (no-more !)))))))
         (from ! (stop !)) (init ! 31 refl (tt, (i₁ .1 .0, (i₂ .1 .0, (i₃ .1 .0, (i₄ .1 .0, (i₄ .1 .1 .0 .1 .0, tt))))))) $
-        returns ! (look ! 31 refl) $ forget ! 3 refl $ forget ! 5 refl $ forget ! 7 refl $ forget ! 9 refl $ forget ! 11 refl $ forget ! 13 refl $ forget ! 15 refl $ forget ! 17 refl $
+        returns ! (look ! 31 refl) $ forget ! 3 refl $ forget ! 5 refl $ forget ! 7 refl $ forget ! 9 refl $ forget ! 11 refl $ forget ! 13 refl $
+        forget ! 15 refl $ forget ! 17 refl $
         forget ! 19 refl $ forget ! 21 refl $ forget ! 23 refl $ forget ! 25 refl $ forget ! 27 refl $ forget ! 29 refl $ forget ! 31 refl $
         move ! (31 ∷ 32 ∷ []) $ free1 ! $ move ! (29 ∷ 30 ∷ []) $ free1 ! $ move ! (27 ∷ 28 ∷ []) $ free1 ! $ move ! (25 ∷ 26 ∷ []) $ free1 ! $
         move ! (23 ∷ 24 ∷ []) $ free1 ! $ move ! (21 ∷ 22 ∷ []) $ free1 ! $ move ! (19 ∷ 20 ∷ []) $ free1 ! $ move ! (17 ∷ 18 ∷ []) $ free1 ! $

@@ -24,8 +24,10 @@ loop-again : tie.Need-loop-again Inv-loop μ-loop
 loop-again c = (
   search needs,
   search needs,
-  gather-step _ _ _ _ _ _ _ _ (c .before .before .before .before .before .before .before .loop .inv .2) (c .before .before .before .before .before .next-number .ensures .0)
-      (c .before .before .before .before .before .next-number .ensures .1) (c .before .before .before .before .before .before .loop-test .taken) (c .before .before .set-bit .ensures),
+  gather-step _ _ _ _ _ _ _ _ (c .before .before .before .before .before .before .before .loop .inv .2)
+      (c .before .before .before .before .before .next-number .ensures .0)
+      (c .before .before .before .before .before .next-number .ensures .1) (c .before .before .before .before .before .before .loop-test .taken)
+      (c .before .before .set-bit .ensures),
 )
 
 returns : tie.Need-returns Inv-loop μ-loop

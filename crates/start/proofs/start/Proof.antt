@@ -15,21 +15,35 @@ returns-2 c = search (needs, lengths-refuse)
 
 set-pages-requires : tie.Need-set-pages-requires
 set-pages-requires c κs =
-    pages-ready _ _ (lengths _ _ _) _ (c .before .before .before .before .before .before .record-question .ensures) (c .before .before .before .before .before .if1 .left) _ _ (c .before .before .before .before .read-sizes .ensures .0)
+    pages-ready _ _ (lengths _ _ _) _ (c .before .before .before .before .before .before .record-question .ensures)
+    (c .before .before .before .before .before .if1 .left) _ _ (c .before .before .before .before .read-sizes .ensures .0)
     (c .before .before .before .before .read-sizes .ensures .1) _ (c .before .before .before .start-in-order .ensures) (c .before .before .if2 .left) _ _
     (c .before .before .before .before .read-sizes .ensures .2) (c .before .before .before .before .read-sizes .ensures .4)
 
 set-vector-requires : tie.Need-set-vector-requires
 set-vector-requires c κs =
-    vector-ready _ _ (lengths _ _ _) _ (c .before .before .before .before .before .before .before .before .before .before .before .before .record-question .ensures) (c .before .before .before .before .before .before .before .before .before .before .before .if1 .left) _ _ (c .before .before .before .before .before .before .before .before .before .before .read-sizes .ensures .0)
-    (c .before .before .before .before .before .before .before .before .before .before .read-sizes .ensures .1) _ (c .before .before .before .before .before .before .before .before .before .start-in-order .ensures) (c .before .before .before .before .before .before .before .before .if2 .left) _ _
-    (c .before .before .before .before .before .before .before .before .before .before .read-sizes .ensures .2) (c .before .before .before .before .before .before .before .before .before .before .read-sizes .ensures .4)
+    vector-ready _ _ (lengths _ _ _) _
+    (c .before .before .before .before .before .before .before .before .before .before .before .before .record-question .ensures)
+    (c .before .before .before .before .before .before .before .before .before .before .before .if1 .left) _ _
+    (c .before .before .before .before .before .before .before .before .before .before .read-sizes .ensures .0)
+    (c .before .before .before .before .before .before .before .before .before .before .read-sizes .ensures .1) _
+    (c .before .before .before .before .before .before .before .before .before .start-in-order .ensures)
+    (c .before .before .before .before .before .before .before .before .if2 .left) _ _
+    (c .before .before .before .before .before .before .before .before .before .before .read-sizes .ensures .2)
+    (c .before .before .before .before .before .before .before .before .before .before .read-sizes .ensures .4)
 
 accepted-start-requires : tie.Need-accepted-start-requires
 accepted-start-requires c κs =
-    answer-ready _ _ (lengths _ _ _) _ (c .before .before .before .before .before .before .before .before .before .before .before .before .before .before .before .record-question .ensures) (c .before .before .before .before .before .before .before .before .before .before .before .before .before .before .if1 .left) _ _ (c .before .before .before .before .before .before .before .before .before .before .before .before .before .read-sizes .ensures .0)
-    (c .before .before .before .before .before .before .before .before .before .before .before .before .before .read-sizes .ensures .1) _ (c .before .before .before .before .before .before .before .before .before .before .before .before .start-in-order .ensures) (c .before .before .before .before .before .before .before .before .before .before .before .if2 .left) _ _ _
-    (c .before .before .before .before .before .before .before .before .before .before .before .before .before .read-sizes .ensures .2) (c .before .before .before .before .before .before .before .before .before .before .before .before .before .read-sizes .ensures .3) (c .before .before .before .before .before .before .before .before .before .before .before .before .before .read-sizes .ensures .4)
+    answer-ready _ _ (lengths _ _ _) _
+    (c .before .before .before .before .before .before .before .before .before .before .before .before .before .before .before .record-question .ensures)
+    (c .before .before .before .before .before .before .before .before .before .before .before .before .before .before .if1 .left) _ _
+    (c .before .before .before .before .before .before .before .before .before .before .before .before .before .read-sizes .ensures .0)
+    (c .before .before .before .before .before .before .before .before .before .before .before .before .before .read-sizes .ensures .1) _
+    (c .before .before .before .before .before .before .before .before .before .before .before .before .start-in-order .ensures)
+    (c .before .before .before .before .before .before .before .before .before .before .before .if2 .left) _ _ _
+    (c .before .before .before .before .before .before .before .before .before .before .before .before .before .read-sizes .ensures .2)
+    (c .before .before .before .before .before .before .before .before .before .before .before .before .before .read-sizes .ensures .3)
+    (c .before .before .before .before .before .before .before .before .before .before .before .before .before .read-sizes .ensures .4)
 
 returns-3 : tie.Need-returns-3
 returns-3 c = search (needs, start-accepts)
