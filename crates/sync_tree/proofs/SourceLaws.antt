@@ -7,11 +7,11 @@ use native.Mathlib.Omega.{arith}
 use lib.ListN.{length, getD}
 use Rattle.model.specs.Basics.{both, bit}
 use Rattle.model.specs.Bits.{present, valid, takenApart}
-use Rattle.model.specs.Tree.{Tree, tablesIn, Rights, flatAt, readsAt}
+use Rattle.model.specs.Tree.{Tree, tablesIn, Rights, flatAt}
 use Rattle.model.specs.Sync.{Rules, Slot, Sweep, sweep, sweepFrom, step, stepFrom}
 use Rattle.tree.specs.declared.Below.the-variants.{Table, Large, Nowhere}
 use Rattle.tree.specs.declared.Part.{Part}
-use Rattle.tree.specs.Parts.{rightsBy, lastFlat, flatBelow, flatIn, readsIn, Sound}
+use Rattle.tree.specs.Parts.{rightsBy, lastFlat, flatBelow, flatIn, Sound}
 use Rattle.sync_tree.specs.declared.Source.{Source}
 use Rattle.step.specs.Steps.{stored}
 use Rattle.sync_tree.specs.Runs.{sweptFrom, Holds, wordBy, flatBy, entryBy}
@@ -112,15 +112,15 @@ module _ (r : Rules) (words : List ℕ) (part : Part) (source : Source) (first e
 module _ (words : List ℕ) (part : Part) (n : ℕ) (sound : Sound words part) (few-pages : n ≤ 512) where
   pub table-holds : (number : ℕ) → part .below ≡ Table number → number * 512 + n ≤ length words
   unfolding tablesIn
-  table-holds number below = let inside : number < length words / 512 = rw below at (sound .0) in omega arith
+  table-holds number below = let inside : number < length words / 512 = rw below at sound in omega arith
 
   pub large-holds : (entry : ℕ) → part .below ≡ Large entry → (entry % 2 ^ 21 < 2 ^ 12) × (n ≤ 512)
-  large-holds entry below = (rw below at (sound .0), few-pages)
+  large-holds entry below = (rw below at sound, few-pages)
 
 -- After a part: the tree gives its pages what the part does.
 pub parts-more : (r : Rules) (words : List ℕ) (tree : Tree) (part : Part) (first end pages : ℕ) (before after all : Sweep)
     → sweptFrom (stepFrom r (flatAt tree)) first (pages - first) before ≡ all → first ≤ end → end ≤ pages → end - first ≤ 512 → first % 512 ≡ 0
-    → ((p : ℕ) → p / 512 ≡ first / 512 → (flatAt tree p ≡ flatIn words part p) × (readsAt tree p ≡ readsIn part))
+    → ((p : ℕ) → p / 512 ≡ first / 512 → flatAt tree p ≡ flatIn words part p)
     → after ≡ sweptFrom (stepFrom r (flatIn words part)) first (end - first) before
     → sweptFrom (stepFrom r (flatAt tree)) end (pages - end) after ≡ all
 unfolding stepFrom
@@ -129,7 +129,7 @@ parts-more r words tree part first end pages before after all inv low high few-p
     let place : first + (end - first) ≡ end = omega arith in
     let same : sweptFrom (stepFrom r (flatIn words part)) first (end - first) before ≡ sweptFrom (stepFrom r (flatAt tree)) first (end - first) before =
     swept-same (stepFrom r (flatIn words part)) (stepFrom r (flatAt tree)) first (end - first) before (λ p s m a b.
-    ap (λ (k : ℕ). step r k m) (sym (gives p (near p a b) .0))) in
+    ap (λ (k : ℕ). step r k m) (sym (gives p (near p a b)))) in
     rw (e ∙ same) (rw place at (sym (swept-append (stepFrom r (flatAt tree)) first (end - first) (pages - end) before)) ∙ (rw split at inv))
   where
     near : (p : ℕ) → first ≤ p → p < first + (end - first) → p / 512 ≡ first / 512

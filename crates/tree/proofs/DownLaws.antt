@@ -7,7 +7,7 @@ use native.Mathlib.Omega.{arith}
 use lib.Bits.{bitAnd, bitOr}
 use lib.Dec.{eqb, ltb}
 use lib.ListN.{length, getD}
-use borrow.Author.Tests.{ltb-true, ltb-false, not-true, not-false, eq-eqb, ne-eqb, lt-ltb, le-ltb}
+use borrow.Author.Tests.{ltb-true, ltb-false, eqb-true, eqb-false, not-true, not-false, eq-eqb, ne-eqb, lt-ltb, le-ltb}
 use Rattle.model.specs.declared.Answer.{Answer}
 use Rattle.model.specs.declared.Answer.the-variants.{Done}
 use Rattle.model.specs.declared.Entry.{Entry}
@@ -204,6 +204,13 @@ reached page (suc (suc (suc zero))) l = by (ltb page (2 ^ 27)) refl
     by true e = rw e (eq-eqb (page / 2 ^ 27) 0 (omega (arith, ltb-true page (2 ^ 27) e)))
     by false e = rw e (ne-eqb (page / 2 ^ 27) 0 (λ q. omega (arith, q, ltb-false page (2 ^ 27) e)))
 reached page (suc (suc (suc (suc depth)))) l = absurd (omega arith)
+
+module _ (page depth : ℕ) (most : depth ≤ 3) (b : Bool) (asked : b ≡ ltb page (2 ^ (9 * depth))) where
+  pub few-bits-asked : not b ≡ false → page / 2 ^ (9 * depth) ≡ 0
+  few-bits-asked few = eqb-true (page / 2 ^ (9 * depth)) 0 (reached page depth most ∙ sym asked ∙ not-false b few)
+
+  pub many-bits-asked : not b ≡ true → page / 2 ^ (9 * depth) ≡ 0 → ⊥
+  many-bits-asked many = eqb-false (page / 2 ^ (9 * depth)) 0 (reached page depth most ∙ sym asked ∙ not-true b many)
 
 -- The flat entry of a walk has nothing in bits 5 to 11 either.
 either-low : (b : Bool) (x y : Walk) → x .flat % 2 ^ 12 < 2 ^ 5 → y .flat % 2 ^ 12 < 2 ^ 5 → cond b x y .flat % 2 ^ 12 < 2 ^ 5

@@ -27,7 +27,7 @@ lastFlat rights (Present x) = flatEntry (gathered 1 rights x) x (x .frame)
 unfoldable pub walkWord : Walk → ℕ
 walkWord walk = walk .flat + length (walk .met) * 2 ^ 5
 
--- The flat entry of a page of the part, and how many entries its walk reads.
+-- The flat entry of a page of the part.
 unfoldable pub flatBelow : List ℕ → Rights → ℕ → Below → ℕ
 flatBelow words rights page (Table number) = lastFlat rights (takenApart (getD words (number * 512 + page % 512) 0))
 flatBelow words rights page (Large entry) = lastFlat rights (takenApart (entry + page % 512 * 2 ^ 12))
@@ -36,14 +36,6 @@ flatBelow words rights page Nowhere = 0
 unfoldable pub flatIn : List ℕ → Part → ℕ → ℕ
 flatIn words part page = flatBelow words (rightsBy (part .all) (part .any)) page (part .below)
 
-unfoldable pub readsBelow : ℕ → Below → ℕ
-readsBelow reads (Table number) = reads + 1
-readsBelow reads (Large entry) = reads
-readsBelow reads Nowhere = reads
-
-unfoldable pub readsIn : Part → ℕ
-readsIn part = readsBelow (part .reads) (part .below)
-
 -- A table is one of the run, and a page's low nine bits can be added to a large page's entry.
 abbrev pub SoundBelow : List ℕ → Below → Type 0
 SoundBelow words (Table number) = number < tablesIn words
@@ -51,11 +43,10 @@ SoundBelow words (Large entry) = entry % 2 ^ 21 < 2 ^ 12
 SoundBelow words Nowhere = Unit {0}
 
 abbrev pub Sound : List ℕ → Part → Type 0
-Sound words part = SoundBelow words (part .below) × (part .reads ≤ 3)
+Sound words part = SoundBelow words (part .below)
 
 -- A part in one word, as the recursion hands it on: bit 0 clear where the pages are absent, bit 7 set for a large page, whose entry the word is; else the
--- number of the table from bit 12 on, with the gathered rights at bits 1 and 2, and no-execute at bit 8. Bits 5 and 6, which mean nothing in an entry, are
--- the count of entries read.
+-- number of the table from bit 12 on, with the gathered rights at bits 1 and 2, and no-execute at bit 8.
 unfoldable pub belowBy : ℕ → Below
 belowBy word = cond (bit 0 word) (cond (bit 7 word) (Large word) (Table (word / 2 ^ 12))) Nowhere
 
@@ -65,11 +56,8 @@ partBy word =
       below = belowBy word;
       all = cond (bit 7 word) (2 ^ 64 - 1) word;
       any = cond (bit 7 word) 0 (word / 2 ^ 8 % 2 * 2 ^ 63);
-      reads = word / 2 ^ 5 % 4;
     }
 
 -- Two parts that give every page the same.
 abbrev pub Alike : Part → Part → Type 0
-Alike a b =
-    ((words : List ℕ) (page : ℕ) → flatIn words a page ≡ flatIn words b page) × (readsIn a ≡ readsIn b)
-    × ((words : List ℕ) → Sound words a → Sound words b)
+Alike a b = ((words : List ℕ) (page : ℕ) → flatIn words a page ≡ flatIn words b page) × ((words : List ℕ) → Sound words a → Sound words b)

@@ -13,7 +13,7 @@ ghost use Rattle.model.specs.declared.Answer.the-variants.{Done};
 ghost use Rattle.model.specs.Calls.{replyOf};
 ghost use Rattle.model.specs.Tree.{treeOf, treeInOrder, walkFrom, flatAt, readsAt};
 ghost use Rattle.model.specs.Walks.{walkReply};
-ghost use Rattle.tree.specs.Parts.{rightsBy, lastFlat, walkWord, flatIn, readsIn, Sound, partBy, Alike};
+ghost use Rattle.tree.specs.Parts.{rightsBy, lastFlat, walkWord, flatIn, Sound, partBy, Alike};
 ghost use Rattle.tree.specs.declared.Below.the-variants.{Table, Large, Nowhere};
 
 // "tables of 512 entries": nine page bits choose one of them.
@@ -34,7 +34,7 @@ const LARGE: u64 = 0x80;
 
 const FRAME: u64 = 0x1000;
 
-// Where a part's word has the count of entries read, and whether an entry gathered so far has no-execute.
+// Where a walk's word has the count of entries read, and a part's word whether an entry gathered so far has no-execute.
 const COUNT: u64 = 0x20;
 
 const GATHERED_NO_EXECUTE: u64 = 0x100;
@@ -49,13 +49,12 @@ pub enum Below {
     Nowhere,
 }
 
-// A part: where the walk of its 512 pages goes on, the bits that all entries gathered so far have, those that any of them has, and how many entries were
-// read. Of both words only bits 1, 2 and 63 mean something, and nothing where the pages are absent.
+// A part: where the walk of its 512 pages goes on, the bits that all entries gathered so far have and those that any of them has. Of both words only bits 1,
+// 2 and 63 mean something, and nothing where the pages are absent.
 pub struct Part {
     pub below: Below,
     pub all: u64,
     pub any: u64,
-    pub reads: u64,
 }
 
 // Question 17.
@@ -97,44 +96,27 @@ pub fn narrow(all: u64, any: u64, entry: u64) -> u64
         | any / entry::NO_EXECUTE * entry::NO_EXECUTE
 }
 
-// A part in one word, which the recursion can return in a register: absent, in a table, and in a large page, whose rights are those of its own entry,
-// which is the last.
-fn absent_word(reads: u64) -> u64
-    requires { ⌜ reads ≤ 3 ⌝ }
-    ensures { λ r. ⌜ ((all any : ℕ) → Alike (record { below = Nowhere; all = all; any = any; reads = reads }) (partBy r)) ⌝ }
-{
-    reads * COUNT
-}
-
-fn table_word(all: u64, any: u64, number: u64, reads: u64) -> u64
-    requires { ⌜ (number < 2 ^ 52) × (reads ≤ 3) ⌝ }
-    ensures { λ r. ⌜ Alike (record { below = Table number; all = all; any = any; reads = reads }) (partBy r) ⌝ }
+// A part in one word, which the recursion can return in a register: 0 where it is absent, the entry of a large page, whose rights are its own and which is
+// the last, and else this word of a table.
+fn table_word(all: u64, any: u64, number: u64) -> u64
+    requires { ⌜ number < 2 ^ 52 ⌝ }
+    ensures { λ r. ⌜ Alike (record { below = Table number; all = all; any = any }) (partBy r) ⌝ }
 {
     number * FRAME
         + any / entry::NO_EXECUTE * GATHERED_NO_EXECUTE
-        + reads * COUNT
         + all / WRITABLE % 4 * WRITABLE
         + 1
-}
-
-fn large_word(entry: u64, reads: u64) -> u64
-    requires { ⌜ (reads ≤ 3) × (entry % 2 ≡ 1) × (entry / 2 ^ 7 % 2 ≡ 1) ⌝ }
-    ensures { λ r. ⌜ Alike (record { below = Large entry; all = 2 ^ 64 - 1; any = 0; reads = reads }) (partBy r) ⌝ }
-{
-    entry / LARGE * LARGE + reads * COUNT + entry % COUNT
 }
 
 // The part that a word says.
 fn part_in(word: u64) -> Part
     ensures { λ r. ⌜ Alike (partBy word) r ⌝ }
 {
-    let reads = word / COUNT % 4;
     if word % 2 == 0 {
         return Part {
             below: Below::Nowhere,
             all: 0,
             any: 0,
-            reads,
         };
     }
     if word / LARGE % 2 == 1 {
@@ -142,7 +124,6 @@ fn part_in(word: u64) -> Part
             below: Below::Large(word),
             all: EVERY_BIT,
             any: 0,
-            reads,
         };
     }
     let any = word / GATHERED_NO_EXECUTE % 2 * entry::NO_EXECUTE;
@@ -150,76 +131,70 @@ fn part_in(word: u64) -> Part
         below: Below::Table(word / FRAME),
         all: word,
         any,
-        reads,
     }
 }
 
 // The walk from a level down to the table of level 1, whose entry is not read here, in the table with this number, by the rights gathered above it. None
-// are gathered above level 2. Each call is one level down; the levels stand as numbers so that the compiler can follow them.
-fn part_from(
-    words: &[u64],
-    page: u64,
-    level: u32,
-    all: u64,
-    any: u64,
-    number: u64,
-    reads: u64,
-) -> u64
-    requires { ⌜ (1 ≤ level) × (reads + level ≤ 3) × (2 ≤ level → (all ≡ 2 ^ 64 - 1) × (any ≡ 0)) ⌝ }
-    ensures { λ r. ⌜ Sound (now (words .entry)) (partBy r) × ((p : ℕ) → p / 512 ≡ page / 512
-        → (walkFrom (now (words .entry)) p level (rightsBy all any) number .flat ≡ flatIn (now (words .entry)) (partBy r) p)
-        × (reads + length (walkFrom (now (words .entry)) p level (rightsBy all any) number .met) ≡ readsIn (partBy r))) ⌝ }
+// are gathered above level 2. Each call is one level down; the run is behind a reference, and the levels stand as numbers, as in `walk_from`.
+fn part_from(run: &&[u64], page: u64, level: u32, all: u64, any: u64, number: u64) -> u64
+    requires { ⌜ (1 ≤ level) × (level ≤ 3) × (2 ≤ level → (all ≡ 2 ^ 64 - 1) × (any ≡ 0)) × (length (now (now run)) < 2 ^ 61) ⌝ }
+    ensures { λ r. ⌜ Sound (now (now (run .entry))) (partBy r) × ((p : ℕ) → p / 512 ≡ page / 512
+        → walkFrom (now (now (run .entry))) p level (rightsBy all any) number .flat ≡ flatIn (now (now (run .entry))) (partBy r) p) ⌝ }
 {
+    let words = *run;
     if words.len() as u64 / ENTRIES <= number {
-        return absent_word(reads);
+        return 0;
     }
     if level == 1 {
-        return table_word(all, any, number, reads);
+        return table_word(all, any, number);
     }
     let place = (page >> PLACE_BITS * (level - 1)) % ENTRIES;
     let entry = words[(number * ENTRIES + place) as usize];
-    let reads = reads + 1;
     let Entry::Present(x) = entry::take_apart(entry) else {
-        return absent_word(reads);
+        return 0;
     };
     if level == 2 {
         if entry / LARGE % 2 == 0 {
-            return part_from(words, page, 1, all & entry, any | entry, x.frame, reads);
+            return part_from(run, page, 1, all & entry, any | entry, x.frame);
         }
         if x.frame % ENTRIES != 0 {
-            return absent_word(reads);
+            return 0;
         }
-        return large_word(entry, reads);
+        return entry;
     }
     // "at level 3 these three bits do not count"
-    part_from(words, page, 2, all, any, x.frame, reads)
+    part_from(run, page, 2, all, any, x.frame)
+}
+
+// "A page whose number needs more bits than the depth has is absent".
+fn reaches(depth: u64, page: u64) -> bool
+    requires { ⌜ depth ≤ 3 ⌝ }
+    ensures { λ r. ⌜ r ≡ ltb page (2 ^ (9 * depth)) ⌝ }
+{
+    page >> PLACE_BITS * depth as u32 == 0
 }
 
 // The part of a page. It asks for a tree that question 17 has let pass. A tree of depth 1 has no level above.
 pub fn part_of(words: &[u64], root: u64, depth: u64, page: u64) -> Part
     requires { ⌜ treeInOrder (treeOf (now words) root depth) ≡ true ⌝ }
     ensures { λ r. ⌜ Sound (now (words .entry)) r × ((p : ℕ) → p / 512 ≡ page / 512
-        → (flatAt (treeOf (now (words .entry)) root depth) p ≡ flatIn (now (words .entry)) r p)
-        × (readsAt (treeOf (now (words .entry)) root depth) p ≡ readsIn r)) ⌝ }
+        → flatAt (treeOf (now (words .entry)) root depth) p ≡ flatIn (now (words .entry)) r p) ⌝ }
 {
-    let level = depth as u32;
-    if page >> PLACE_BITS * level != 0 {
+    if !reaches(depth, page) {
         return Part {
             below: Below::Nowhere,
             all: 0,
             any: 0,
-            reads: 0,
         };
     }
-    if level == 1 {
+    if depth == 1 {
         return Part {
             below: Below::Table(root),
             all: EVERY_BIT,
             any: 0,
-            reads: 0,
         };
     }
-    part_in(part_from(words, page, level, EVERY_BIT, 0, root, 0))
+    part_in(part_from(&words, page, depth as u32, EVERY_BIT, 0, root))
 }
 
 // The walk from a level down, in the table with this number, by the rights gathered above it: the flat entry, with the count of entries read in bits 5
@@ -262,14 +237,6 @@ fn walk_from(
     }
     // "at level 3 these three bits do not count"
     walk_from(run, page, 2, all, any, x.frame, count)
-}
-
-// "A page whose number needs more bits than the depth has is absent".
-fn reaches(depth: u64, page: u64) -> bool
-    requires { ⌜ depth ≤ 3 ⌝ }
-    ensures { λ r. ⌜ r ≡ ltb page (2 ^ (9 * depth)) ⌝ }
-{
-    page >> PLACE_BITS * depth as u32 == 0
 }
 
 // An entry that is taken apart as the flat entry of a page is: a synchronisation asks no more. It asks for a tree that question 17 has let pass.

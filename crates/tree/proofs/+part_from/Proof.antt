@@ -1,112 +1,105 @@
--- The walk's recursion, whose measure is the level: a law for each way out of a level.
+-- The recursion of a part's walk, whose measure is the level: a law for each way out of a level.
 use Prim.Native.Nat.{ℕ, _+_, _-_, _*_, _/_, _%_, _^_, _<_}
 use native.Mathlib.Omega.{arith}
 use lib.ListN.{length}
+use Rattle.tree.proofs.WordLaws.{absent-said, large-said}
 use Rattle.tree.proofs.WalkLaws.{gives-alike, gives-outside, gives-table, level-absent, level-3, level-2, level-misaligned, level-large-all, large-low}
 use Rattle.tree.proofs.WalkLaws.{large-odd, table-sound, met-in}
 use borrow.Author.Needs.{needs}
 use borrow.Fn.Kinds.{In}
 use borrow.Fn.PlainCycle.{Measures, is, falls, and}
 use Rattle.entry.proofs.take_apart.Reads as take-apart
-use Rattle.tree.proofs.absent_word.Reads as absent-word
 use Rattle.tree.proofs.table_word.Reads as table-word
-use Rattle.tree.proofs.large_word.Reads as large-word
 use Rattle.tree.proofs.part_from.Reads as part-from
 use Rattle.tree.proofs.part_from.Kinds as part-from-kinds
 use Rattle.tree.proofs.+part_from.Lts-part_from as lts
 use Rattle.tree.proofs.+part_from.{statement}
 use Rattle.tree.proofs.+part_from.Tie.{close}
 
-abbrev level : Measures 1 part-from-kinds.ps ℕ
+abbrev level : Measures 2 part-from-kinds.ps ℕ
 level κs a = a .1 .1 .0
 
 -- What a call is given at the level t, and what it asks of the call below.
-abbrev at : ℕ → In 1 part-from-kinds.ps
-at t = and 1 part-from-kinds.ps (is 1 part-from-kinds.ps level t) part-from.Pre
+abbrev at : ℕ → In 2 part-from-kinds.ps
+at t = and 2 part-from-kinds.ps (is 2 part-from-kinds.ps level t) part-from.Pre
 
-abbrev below : ℕ → In 1 part-from-kinds.ps
-below t = and 1 part-from-kinds.ps (falls 1 part-from-kinds.ps _<_ level t) part-from.Pre
+abbrev below : ℕ → In 2 part-from-kinds.ps
+below t = and 2 part-from-kinds.ps (falls 2 part-from-kinds.ps _<_ level t) part-from.Pre
 
 module _ (t : ℕ) where
-  table-word-requires : lts.Need-table-word-requires (absent-word.Asked, absent-word.Learnt, table-word.Asked, table-word.Learnt, take-apart.Asked, take-apart.Learnt, below t, part-from.Post, large-word.Asked, large-word.Learnt) (at t) part-from.Post
-  table-word-requires c κs = (omega arith, omega arith)
-
-  returns : lts.Need-returns (absent-word.Asked, absent-word.Learnt, table-word.Asked, table-word.Learnt, take-apart.Asked, take-apart.Learnt, below t, part-from.Post, large-word.Asked, large-word.Learnt) (at t) part-from.Post
+  returns : lts.Need-returns (table-word.Asked, table-word.Learnt, take-apart.Asked, take-apart.Learnt, below t, part-from.Post) (at t) part-from.Post
   returns c =
-      let alike = c .absent-word .ensures (c .before .before .before .args .all) (c .before .before .before .args .any) in
-      (alike .2 _ (tt, omega arith), gives-alike _ _ _ _ _ _ _ _ _ alike (gives-outside _ _ _ _ _ _ _ (omega arith) (c .before .if1 .taken)))
+      let alike = absent-said (c .before .before .args .all) (c .before .before .args .any) in
+      (alike .1 _ tt, gives-alike _ _ _ _ _ _ _ _ alike (gives-outside _ _ _ _ _ _ (omega arith) (c .if1 .taken)))
 
-  returns-2 : lts.Need-returns-2 (absent-word.Asked, absent-word.Learnt, table-word.Asked, table-word.Learnt, take-apart.Asked, take-apart.Learnt, below t, part-from.Post, large-word.Asked, large-word.Learnt) (at t) part-from.Post
+  table-word-requires : lts.Need-table-word-requires (table-word.Asked, table-word.Learnt, take-apart.Asked, take-apart.Learnt, below t, part-from.Post) (at t) part-from.Post
+  table-word-requires c κs = omega arith
+
+  returns-2 : lts.Need-returns-2 (table-word.Asked, table-word.Learnt, take-apart.Asked, take-apart.Learnt, below t, part-from.Post) (at t) part-from.Post
   returns-2 c =
       let alike = c .table-word .ensures in
-      (alike .2 _ (table-sound _ _ (c .before .before .if1 .left), omega arith), gives-alike _ _ _ _ _ _ _ _ _ alike (gives-table _ _ _ _ _ _ _ (c .before .if2 .taken) (c .before .before .if1 .left)))
+      (alike .1 _ (table-sound _ _ (c .before .before .if1 .left)), gives-alike _ _ _ _ _ _ _ _ alike (gives-table _ _ _ _ _ _ (c .before .if2 .taken) (c .before .before .if1 .left)))
 
-  mul-place : lts.Need-mul-place (absent-word.Asked, absent-word.Learnt, table-word.Asked, table-word.Learnt, take-apart.Asked, take-apart.Learnt, below t, part-from.Post, large-word.Asked, large-word.Learnt) (at t) part-from.Post
+  sub-place : lts.Need-sub-place (table-word.Asked, table-word.Learnt, take-apart.Asked, take-apart.Learnt, below t, part-from.Post) (at t) part-from.Post
+  sub-place c = omega arith
+
+  mul-place : lts.Need-mul-place (table-word.Asked, table-word.Learnt, take-apart.Asked, take-apart.Learnt, below t, part-from.Post) (at t) part-from.Post
   mul-place c = omega arith
 
-  cast-place : lts.Need-cast-place (absent-word.Asked, absent-word.Learnt, table-word.Asked, table-word.Learnt, take-apart.Asked, take-apart.Learnt, below t, part-from.Post, large-word.Asked, large-word.Learnt) (at t) part-from.Post
+  cast-place : lts.Need-cast-place (table-word.Asked, table-word.Learnt, take-apart.Asked, take-apart.Learnt, below t, part-from.Post) (at t) part-from.Post
   cast-place c = omega arith
 
-  shr-place : lts.Need-shr-place (absent-word.Asked, absent-word.Learnt, table-word.Asked, table-word.Learnt, take-apart.Asked, take-apart.Learnt, below t, part-from.Post, large-word.Asked, large-word.Learnt) (at t) part-from.Post
+  shr-place : lts.Need-shr-place (table-word.Asked, table-word.Learnt, take-apart.Asked, take-apart.Learnt, below t, part-from.Post) (at t) part-from.Post
   shr-place c = omega arith
 
-  mul-entry : lts.Need-mul-entry (absent-word.Asked, absent-word.Learnt, table-word.Asked, table-word.Learnt, take-apart.Asked, take-apart.Learnt, below t, part-from.Post, large-word.Asked, large-word.Learnt) (at t) part-from.Post
-  mul-entry c = omega arith
+  mul-entry : lts.Need-mul-entry (table-word.Asked, table-word.Learnt, take-apart.Asked, take-apart.Learnt, below t, part-from.Post) (at t) part-from.Post
+  mul-entry c =
+      let inside : c .before .before .before .args .number * 512 + c .before .before .before .args .page / 2 ^ (9 * (c .before .before .before .args .level - 1)) % 512 < length (c .before .before .before .args .run .now .now) = met-in _ _ (c .before .before .before .args .page / 2 ^ (9 * (c .before .before .before .args .level - 1))) (c .before .if1 .left) in
+      omega arith
 
-  add-entry : lts.Need-add-entry (absent-word.Asked, absent-word.Learnt, table-word.Asked, table-word.Learnt, take-apart.Asked, take-apart.Learnt, below t, part-from.Post, large-word.Asked, large-word.Learnt) (at t) part-from.Post
+  add-entry : lts.Need-add-entry (table-word.Asked, table-word.Learnt, take-apart.Asked, take-apart.Learnt, below t, part-from.Post) (at t) part-from.Post
   add-entry c =
-      let inside : c .before .before .before .args .number * 512 + c .before .before .before .args .page / 2 ^ (9 * (c .before .before .before .args .level - 1)) % 512 < length (c .before .before .before .args .words .now) = met-in _ _ (c .before .before .before .args .page / 2 ^ (9 * (c .before .before .before .args .level - 1))) (c .before .if1 .left) in
+      let inside : c .before .before .before .args .number * 512 + c .before .before .before .args .page / 2 ^ (9 * (c .before .before .before .args .level - 1)) % 512 < length (c .before .before .before .args .run .now .now) = met-in _ _ (c .before .before .before .args .page / 2 ^ (9 * (c .before .before .before .args .level - 1))) (c .before .if1 .left) in
       omega arith
 
-  mul-entry-2 : lts.Need-mul-entry-2 (absent-word.Asked, absent-word.Learnt, table-word.Asked, table-word.Learnt, take-apart.Asked, take-apart.Learnt, below t, part-from.Post, large-word.Asked, large-word.Learnt) (at t) part-from.Post
+  mul-entry-2 : lts.Need-mul-entry-2 (table-word.Asked, table-word.Learnt, take-apart.Asked, take-apart.Learnt, below t, part-from.Post) (at t) part-from.Post
   mul-entry-2 c =
-      let inside : c .before .before .before .args .number * 512 + c .before .before .before .args .page / 2 ^ (9 * (c .before .before .before .args .level - 1)) % 512 < length (c .before .before .before .args .words .now) = met-in _ _ (c .before .before .before .args .page / 2 ^ (9 * (c .before .before .before .args .level - 1))) (c .before .if1 .left) in
+      let inside : c .before .before .before .args .number * 512 + c .before .before .before .args .page / 2 ^ (9 * (c .before .before .before .args .level - 1)) % 512 < length (c .before .before .before .args .run .now .now) = met-in _ _ (c .before .before .before .args .page / 2 ^ (9 * (c .before .before .before .args .level - 1))) (c .before .if1 .left) in
       omega arith
 
-  shared-slice-read-entry : lts.Need-shared-slice-read-entry (absent-word.Asked, absent-word.Learnt, table-word.Asked, table-word.Learnt, take-apart.Asked, take-apart.Learnt, below t, part-from.Post, large-word.Asked, large-word.Learnt) (at t) part-from.Post
+  shared-slice-read-entry : lts.Need-shared-slice-read-entry (table-word.Asked, table-word.Learnt, take-apart.Asked, take-apart.Learnt, below t, part-from.Post) (at t) part-from.Post
   shared-slice-read-entry c = met-in _ _ (c .before .before .before .before .args .page / 2 ^ (9 * (c .before .before .before .before .args .level - 1))) (c .before .before .if1 .left)
 
-  add-reads : lts.Need-add-reads (absent-word.Asked, absent-word.Learnt, table-word.Asked, table-word.Learnt, take-apart.Asked, take-apart.Learnt, below t, part-from.Post, large-word.Asked, large-word.Learnt) (at t) part-from.Post
-  add-reads c = omega arith
-
-  returns-3 : lts.Need-returns-3 (absent-word.Asked, absent-word.Learnt, table-word.Asked, table-word.Learnt, take-apart.Asked, take-apart.Learnt, below t, part-from.Post, large-word.Asked, large-word.Learnt) (at t) part-from.Post
+  returns-3 : lts.Need-returns-3 (table-word.Asked, table-word.Learnt, take-apart.Asked, take-apart.Learnt, below t, part-from.Post) (at t) part-from.Post
   returns-3 c =
-      let alike = c .absent-word2 .ensures (c .before .before .before .before .before .before .before .before .args .all) (c .before .before .before .before .before .before .before .before .args .any) in
-      (alike .2 _ (tt, omega arith), gives-alike _ _ _ _ _ _ _ _ _ alike (level-absent _ _ _ _ _ _ _ _ (c .before .before .before .take-apart .ensures) (c .before .before .before .before .before .before .if1 .left) (omega arith) (omega arith) (c .before .before .before .before .before .if2 .left) (search needs)))
+      let alike = absent-said (c .before .before .before .before .before .before .before .args .all) (c .before .before .before .before .before .before .before .args .any) in
+      (alike .1 _ tt, gives-alike _ _ _ _ _ _ _ _ alike (level-absent _ _ _ _ _ _ _ (c .before .before .take-apart .ensures) (c .before .before .before .before .before .if1 .left) (omega arith) (omega arith) (c .before .before .before .before .if2 .left) (search needs)))
 
-  part-from-requires : lts.Need-part-from-requires (absent-word.Asked, absent-word.Learnt, table-word.Asked, table-word.Learnt, take-apart.Asked, take-apart.Learnt, below t, part-from.Post, large-word.Asked, large-word.Learnt) (at t) part-from.Post
-  part-from-requires c κs = (omega arith, (omega arith, omega arith, λ l. absurd (omega arith)))
+  part-from-requires : lts.Need-part-from-requires (table-word.Asked, table-word.Learnt, take-apart.Asked, take-apart.Learnt, below t, part-from.Post) (at t) part-from.Post
+  part-from-requires c κs = (omega arith, (omega arith, omega arith, (λ l. absurd (omega arith)), omega arith))
 
-  returns-4 : lts.Need-returns-4 (absent-word.Asked, absent-word.Learnt, table-word.Asked, table-word.Learnt, take-apart.Asked, take-apart.Learnt, below t, part-from.Post, large-word.Asked, large-word.Learnt) (at t) part-from.Post
-  returns-4 c = (c .part-from .ensures .0, level-2 _ _ _ _ _ _ _ _ (c .before .before .before .before .before .before .take-apart .ensures) (c .before .before .before .before .before .before .before .before .before .if1 .left) (c .before .before .before .before .x .given .0 .0) (search needs) (c .before .before .if3 .taken) _ (c .before .if4 .taken) (c .part-from .ensures .1))
+  returns-4 : lts.Need-returns-4 (table-word.Asked, table-word.Learnt, take-apart.Asked, take-apart.Learnt, below t, part-from.Post) (at t) part-from.Post
+  returns-4 c = (c .part-from .ensures .0, level-2 _ _ _ _ _ _ _ (c .before .before .before .before .before .before .take-apart .ensures) (c .before .before .before .before .before .before .before .before .before .if1 .left) (c .before .before .before .before .x .given .0 .0) (search needs) (c .before .before .if3 .taken) _ (c .before .if4 .taken) (c .part-from .ensures .1))
 
-  returns-5 : lts.Need-returns-5 (absent-word.Asked, absent-word.Learnt, table-word.Asked, table-word.Learnt, take-apart.Asked, take-apart.Learnt, below t, part-from.Post, large-word.Asked, large-word.Learnt) (at t) part-from.Post
+  returns-5 : lts.Need-returns-5 (table-word.Asked, table-word.Learnt, take-apart.Asked, take-apart.Learnt, below t, part-from.Post) (at t) part-from.Post
   returns-5 c =
-      let alike = c .absent-word3 .ensures (c .before .before .before .before .before .before .before .before .before .before .before .before .before .args .all) (c .before .before .before .before .before .before .before .before .before .before .before .before .before .args .any) in
-      (alike .2 _ (tt, omega arith), gives-alike _ _ _ _ _ _ _ _ _ alike (level-misaligned _ _ _ _ _ _ _ _ (c .before .before .before .before .before .before .before .before .take-apart .ensures) (c .before .before .before .before .before .before .before .before .before .before .before .if1 .left) (c .before .before .before .before .before .before .x .given .0 .0) (search needs) (c .before .before .before .before .if3 .taken) (omega arith) (c .before .if5 .taken)))
+      let alike = absent-said (c .before .before .before .before .before .before .before .before .before .before .before .before .args .all) (c .before .before .before .before .before .before .before .before .before .before .before .before .args .any) in
+      (alike .1 _ tt, gives-alike _ _ _ _ _ _ _ _ alike (level-misaligned _ _ _ _ _ _ _ (c .before .before .before .before .before .before .before .take-apart .ensures) (c .before .before .before .before .before .before .before .before .before .before .if1 .left) (c .before .before .before .before .before .x .given .0 .0) (search needs) (c .before .before .before .if3 .taken) (omega arith) (c .if5 .taken)))
 
-  large-word-requires : lts.Need-large-word-requires (absent-word.Asked, absent-word.Learnt, table-word.Asked, table-word.Learnt, take-apart.Asked, take-apart.Learnt, below t, part-from.Post, large-word.Asked, large-word.Learnt) (at t) part-from.Post
-  large-word-requires c κs = (omega arith, large-odd _ _ (c .before .before .before .before .before .x .given .0 .0) (c .before .before .before .before .before .before .before .take-apart .ensures) (search needs), omega arith)
-
-  returns-6 : lts.Need-returns-6 (absent-word.Asked, absent-word.Learnt, table-word.Asked, table-word.Learnt, take-apart.Asked, take-apart.Learnt, below t, part-from.Post, large-word.Asked, large-word.Learnt) (at t) part-from.Post
+  returns-6 : lts.Need-returns-6 (table-word.Asked, table-word.Learnt, take-apart.Asked, take-apart.Learnt, below t, part-from.Post) (at t) part-from.Post
   returns-6 c =
-      let alike = c .large-word .ensures in
-      let none = c .before .before .before .before .before .before .before .before .before .before .before .before .before .pre .1 .2 (omega arith) in (
-        alike .2 _ (large-low _ _ (c .before .before .before .before .before .before .x .given .0 .0) (c .before .before .before .before .before .before .before .before .take-apart .ensures) (search needs) (c .before .if5 .left), omega arith),
-        gives-alike _ _ _ _ _ _ _ _ _ alike (level-large-all _ _ _ _ _ _ _ _ (c .before .before .before .before .before .before .before .before .take-apart .ensures) (c .before .before .before .before .before .before .before .before .before .before .before .if1 .left) (c .before .before .before .before .before .before .x .given .0 .0) (search needs) (c .before .before .before .before .if3 .taken) (omega arith) (none .0) (none .1) (c .before .if5 .left)),
-      )
+      let alike = large-said _ (large-odd _ _ (c .before .before .before .before .before .x .given .0 .0) (c .before .before .before .before .before .before .before .take-apart .ensures) (search needs)) (omega arith) in
+      let none = c .before .before .before .before .before .before .before .before .before .before .before .before .pre .1 .2 (omega arith) in
+      (alike .1 _ (large-low _ _ (c .before .before .before .before .before .x .given .0 .0) (c .before .before .before .before .before .before .before .take-apart .ensures) (search needs) (c .if5 .left)), gives-alike _ _ _ _ _ _ _ _ alike (level-large-all _ _ _ _ _ _ _ (c .before .before .before .before .before .before .before .take-apart .ensures) (c .before .before .before .before .before .before .before .before .before .before .if1 .left) (c .before .before .before .before .before .x .given .0 .0) (search needs) (c .before .before .before .if3 .taken) (omega arith) (none .0) (none .1) (c .if5 .left)))
 
-  part-from-requires-2 : lts.Need-part-from-requires-2 (absent-word.Asked, absent-word.Learnt, table-word.Asked, table-word.Learnt, take-apart.Asked, take-apart.Learnt, below t, part-from.Post, large-word.Asked, large-word.Learnt) (at t) part-from.Post
-  part-from-requires-2 c κs = (omega arith, (omega arith, omega arith, λ l. c .before .before .before .before .before .before .before .before .before .pre .1 .2 (omega arith)))
+  part-from-requires-2 : lts.Need-part-from-requires-2 (table-word.Asked, table-word.Learnt, take-apart.Asked, take-apart.Learnt, below t, part-from.Post) (at t) part-from.Post
+  part-from-requires-2 c κs = (omega arith, (omega arith, omega arith, (λ l. c .before .before .before .before .before .before .before .before .before .pre .1 .2 (omega arith)), omega arith))
 
-  returns-7 : lts.Need-returns-7 (absent-word.Asked, absent-word.Learnt, table-word.Asked, table-word.Learnt, take-apart.Asked, take-apart.Learnt, below t, part-from.Post, large-word.Asked, large-word.Learnt) (at t) part-from.Post
-  returns-7 c = (c .part-from2 .ensures .0, level-3 _ _ _ _ _ _ _ _ (c .before .before .before .before .before .take-apart .ensures) (c .before .before .before .before .before .before .before .before .if1 .left) (c .before .before .before .x .given .0 .0) (search needs) _ (omega arith) (c .part-from2 .ensures .1))
+  returns-7 : lts.Need-returns-7 (table-word.Asked, table-word.Learnt, take-apart.Asked, take-apart.Learnt, below t, part-from.Post) (at t) part-from.Post
+  returns-7 c = (c .part-from2 .ensures .0, level-3 _ _ _ _ _ _ _ (c .before .before .before .before .before .take-apart .ensures) (c .before .before .before .before .before .before .before .before .if1 .left) (c .before .before .before .x .given .0 .0) (search needs) _ (omega arith) (c .part-from2 .ensures .1))
 
 pub +part-from-spec : {M : Type 1} → statement M
 +part-from-spec =
     close level
-    (λ t. lts.spec (absent-word.Asked, absent-word.Learnt, table-word.Asked, table-word.Learnt, take-apart.Asked, take-apart.Learnt, below t, part-from.Post, large-word.Asked, large-word.Learnt) (at t) part-from.Post
-    (λ c κs. omega arith) (returns t) (table-word-requires t) (returns-2 t)
-    (λ c. search needs) (mul-place t) (cast-place t) (shr-place t) (mul-entry t) (add-entry t) (mul-entry-2 t) (shared-slice-read-entry t)
-    (add-reads t) (λ c κs. search needs) (λ c. search needs) (λ c. search needs) (λ c κs. omega arith) (returns-3 t) (part-from-requires t) (returns-4 t)
-    (λ c κs. omega arith) (returns-5 t) (large-word-requires t) (returns-6 t) (part-from-requires-2 t) (returns-7 t))
+    (λ t. lts.spec (table-word.Asked, table-word.Learnt, take-apart.Asked, take-apart.Learnt, below t, part-from.Post) (at t) part-from.Post
+    (returns t) (table-word-requires t) (returns-2 t) (sub-place t) (mul-place t) (cast-place t) (shr-place t) (mul-entry t) (add-entry t) (mul-entry-2 t) (shared-slice-read-entry t) (λ c κs. search needs) (λ c. search needs) (λ c. search needs) (returns-3 t) (part-from-requires t) (returns-4 t) (returns-5 t) (returns-6 t) (part-from-requires-2 t) (returns-7 t))
