@@ -7,11 +7,11 @@ use Rattle.drill.proofs.take_turns.Statement.{statement}
 use Rattle.drill.proofs.take_turns.Tie as tie
 
 abbrev Inv-loop : tie.InvT-loop
-Inv-loop kernel₀ shadow₀ map₀ exclusion devices s₀ left₀ kernel shadow map s left =
+Inv-loop frames kernel₀ shadow₀ map₀ exclusion devices s₀ left₀ kernel shadow map s left =
     (length kernel ≡ length kernel₀) × (length shadow ≡ length shadow₀) × (length map ≡ length map₀)
 
 abbrev μ-loop : tie.MeasureT-loop
-μ-loop kernel₀ shadow₀ map₀ exclusion devices s₀ left₀ kernel shadow map s left = left
+μ-loop frames kernel₀ shadow₀ map₀ exclusion devices s₀ left₀ kernel shadow map s left = left
 
 loop-holds : tie.Need-loop-holds Inv-loop μ-loop
 loop-holds c = search needs
