@@ -27,9 +27,9 @@
  * A refused call changes nothing else: the state run, every table, a list of devices and a buffer stay as they were.
  *
  * The state run and the numbers run are part of question 7. A state run that has not GUARD_STATE_WORDS words, a V, F, e, running
- * page or number of devices in it that is wider than 16 bits, a mode word that is neither GUARD_MODE_KERNEL nor GUARD_MODE_USER,
- * a pending word that is neither 0 nor 1, with 1 there a pending page that is not below V or a pending frame that is not below F, or
- * a numbers run that has not GUARD_NUMBERS words gives 7. So does a state run of an older version, which has fewer words. A numbers
+ * page or number of devices in it that is out of its range, at whichever of its 64 bits, a mode word that is neither
+ * GUARD_MODE_KERNEL nor GUARD_MODE_USER, a pending word that is neither 0 nor 1, with 1 there a pending page that is not below V or
+ * a pending frame that is not below F, or a numbers run that has not GUARD_NUMBERS words gives 7. So does a state run of an older version, which has fewer words. A numbers
  * run of another length is not written.
  */
 #ifndef GUARD_H
@@ -71,9 +71,8 @@ static uint64_t (*const guard_boundary)(void) = guard_boundary_1;
 #endif
 
 /*
- * The layout of a state run. V, F, e, the running page and the number of devices are 16-bit fields, each in a word of its own. An
- * entry page that is wider than 16 bits counts as one that is not below V. The pending page and frame are compared with V and F at
- * their full width, and mean nothing where none is pending. guard_start writes all words; guard_enter and guard_leave write
+ * The layout of a state run. Each number has a word of its own, which is read whole: none is cut. An entry page that is not below V
+ * gives 9 where it is entered. The pending page and frame mean nothing where none is pending. guard_start writes all words; guard_enter and guard_leave write
  * GUARD_STATE_MODE and GUARD_STATE_RUNNING alone; guard_fetch writes GUARD_STATE_RUNNING alone; guard_ask, guard_commit and
  * guard_drop write the three words of what is pending alone; the other calls write none. A later version appends its fields.
  */
