@@ -8,6 +8,7 @@ use reference::{Answer, Device, State};
 
 use crate::plain::{self, on_runs};
 use crate::sides::{PlainSide, RunSide};
+use crate::steps::{self, Reply, Stepped, Steps};
 use crate::tables::Tables;
 use crate::work::{in_turn, Side, Sides, Work, ARGUMENTS};
 
@@ -19,6 +20,7 @@ pub fn number(answer: Answer) -> u8 {
 /// Fetch: the pages that are answered with one number, in turn.
 pub struct Fetch {
     sides: Sides,
+    stepped: Stepped,
     pages: Vec<u64>,
 }
 
@@ -30,7 +32,7 @@ impl Fetch {
             number(reference::fetch(&mut state, &sides.plain.shadow, page))
         };
         let pages = (0..tables.v.into()).filter(|&page| answered(page) == wanted).collect();
-        Fetch { pages: in_turn(pages), sides }
+        Fetch { pages: in_turn(pages), stepped: Stepped::new(&sides), sides }
     }
 }
 
@@ -54,6 +56,15 @@ fn fetch_on_state(side: &mut PlainSide, pages: impl Iterator<Item = u64>) {
     }
 }
 
+impl Steps for Fetch {
+    fn repeat_step<const STEP: u8, R: Reply>(&mut self, count: u64) {
+        let Stepped { state, run: RunSide { state: run, numbers, shadow, .. } } = &mut self.stepped;
+        for page in (0..count as usize).map(|i| self.pages[i % ARGUMENTS]) {
+            steps::fetch::<STEP, R>(state, run, shadow, black_box(page), numbers).keep();
+        }
+    }
+}
+
 impl Work for Fetch {
     fn repeat(&mut self, side: Side, count: u64) -> bool {
         let pages = (0..count as usize).map(|i| self.pages[i % ARGUMENTS]);
@@ -61,7 +72,7 @@ impl Work for Fetch {
             Side::Archive => fetch_on_runs(&mut self.sides.archive, pages, archive::fetch),
             Side::Reference => fetch_on_state(&mut self.sides.plain, pages),
             Side::OnRuns => fetch_on_runs(&mut self.sides.on_runs, pages, on_runs::fetch),
-            Side::WithoutApproval | Side::Flat => return false,
+            _ => return steps::repeat(self, side, count),
         }
         true
     }
@@ -69,11 +80,16 @@ impl Work for Fetch {
     fn agree(&self) -> bool {
         self.sides.agree()
     }
+
+    fn steps_agree(&self) -> bool {
+        self.stepped.agrees(&self.sides.plain)
+    }
 }
 
 /// Write: the addresses that are answered with one number, in turn, with one length.
 pub struct Write {
     sides: Sides,
+    stepped: Stepped,
     addresses: Vec<u64>,
     length: u64,
 }
@@ -87,7 +103,7 @@ impl Write {
             |address| number(reference::write(state, shadow, exclusion, address, length));
         let ends = (1..u64::from(tables.v)).map(|page| page * 4096 - before_end);
         let addresses = ends.filter(|&address| answered(address) == wanted).collect();
-        Write { addresses: in_turn(addresses), length, sides }
+        Write { addresses: in_turn(addresses), length, stepped: Stepped::new(&sides), sides }
     }
 }
 
@@ -113,6 +129,17 @@ fn write_on_state(side: &PlainSide, places: impl Iterator<Item = (u64, u64)>) {
     }
 }
 
+impl Steps for Write {
+    fn repeat_step<const STEP: u8, R: Reply>(&mut self, count: u64) {
+        let Stepped { state, run } = &mut self.stepped;
+        let RunSide { state: run, numbers, shadow, exclusion, .. } = run;
+        for place in (0..count as usize).map(|i| (self.addresses[i % ARGUMENTS], self.length)) {
+            let (address, length) = black_box(place);
+            steps::write::<STEP, R>(state, run, shadow, exclusion, address, length, numbers).keep();
+        }
+    }
+}
+
 impl Work for Write {
     fn repeat(&mut self, side: Side, count: u64) -> bool {
         let places = (0..count as usize).map(|i| (self.addresses[i % ARGUMENTS], self.length));
@@ -120,13 +147,17 @@ impl Work for Write {
             Side::Archive => write_on_runs(&mut self.sides.archive, places, archive::write),
             Side::Reference => write_on_state(&self.sides.plain, places),
             Side::OnRuns => write_on_runs(&mut self.sides.on_runs, places, on_runs::write),
-            Side::WithoutApproval | Side::Flat => return false,
+            _ => return steps::repeat(self, side, count),
         }
         true
     }
 
     fn agree(&self) -> bool {
         self.sides.agree()
+    }
+
+    fn steps_agree(&self) -> bool {
+        self.stepped.agrees(&self.sides.plain)
     }
 }
 
@@ -202,7 +233,7 @@ impl Work for DeviceWrite {
             Side::OnRuns => {
                 device_on_runs(&mut sides.on_runs, plain, transfers, on_runs::device_write);
             }
-            Side::WithoutApproval | Side::Flat => return false,
+            _ => return false,
         }
         true
     }

@@ -10,6 +10,7 @@ use reference::Pair;
 use crate::access::number;
 use crate::plain::{self, on_runs};
 use crate::sides::{pending_words, PlainSide, RunSide};
+use crate::steps::{self, Reply, Stepped, Steps, FIELDS, PUT};
 use crate::tables::Tables;
 use crate::work::{in_turn, Side, Sides, Work, ARGUMENTS};
 
@@ -83,7 +84,7 @@ impl Work for Ask {
             Side::Archive => ask_on_runs(&mut sides.archive, pairs, archive::ask),
             Side::Reference => ask_on_state(&mut sides.plain, pairs),
             Side::OnRuns => ask_on_runs(&mut sides.on_runs, pairs, on_runs::ask),
-            Side::WithoutApproval | Side::Flat => return false,
+            _ => return false,
         }
         true
     }
@@ -178,7 +179,7 @@ impl Work for Commit {
             Side::OnRuns => {
                 commit_on_runs(&mut sides.on_runs, count, *pair, pages, on_runs::commit);
             }
-            Side::WithoutApproval | Side::Flat => return false,
+            _ => return false,
         }
         true
     }
@@ -199,6 +200,7 @@ impl Work for Commit {
 /// Drop of the same pair again and again, or of nothing, which is refused with 22.
 pub struct Drop {
     sides: Sides,
+    stepped: Stepped,
     /// What is pending at each repetition.
     pair: Option<Pair>,
 }
@@ -209,11 +211,11 @@ impl Drop {
         let PlainSide { mut state, mut exclusion, .. } = sides.plain.clone();
         let answer = reference::drop(&mut state, &mut exclusion);
         assert_eq!(number(answer), refused_with(tables), "the drop of the case");
-        Drop { pair: tables.asked, sides }
+        Drop { pair: tables.asked, stepped: Stepped::new(&sides), sides }
     }
 }
 
-#[inline(always)]
+#[inline(never)]
 fn drop_on_runs(
     side: &mut RunSide,
     count: u64,
@@ -228,7 +230,7 @@ fn drop_on_runs(
     }
 }
 
-#[inline(always)]
+#[inline(never)]
 fn drop_on_state(side: &mut PlainSide, count: u64, pair: Option<Pair>) {
     let PlainSide { state, exclusion, .. } = side;
     for _ in 0..count {
@@ -238,14 +240,33 @@ fn drop_on_state(side: &mut PlainSide, count: u64, pair: Option<Pair>) {
     }
 }
 
+impl Steps for Drop {
+    /// The pair is put back where the step takes it from, and where the step has written.
+    #[inline(never)]
+    fn repeat_step<const STEP: u8, R: Reply>(&mut self, count: u64) {
+        let Drop { stepped: Stepped { state, run }, pair, .. } = self;
+        let RunSide { state: run, numbers, exclusion, .. } = run;
+        for _ in 0..count {
+            steps::drop::<STEP, R>(state, run, exclusion, numbers).keep();
+            if STEP < FIELDS {
+                state.pending = *pair;
+            }
+            if STEP >= PUT {
+                run[PAIR].copy_from_slice(&pending_words(*pair));
+            }
+            exclude(exclusion, *pair);
+        }
+    }
+}
+
 impl Work for Drop {
     fn repeat(&mut self, side: Side, count: u64) -> bool {
-        let Drop { sides, pair } = self;
+        let Drop { sides, pair, .. } = self;
         match side {
             Side::Archive => drop_on_runs(&mut sides.archive, count, *pair, archive::drop),
             Side::Reference => drop_on_state(&mut sides.plain, count, *pair),
             Side::OnRuns => drop_on_runs(&mut sides.on_runs, count, *pair, on_runs::drop),
-            Side::WithoutApproval | Side::Flat => return false,
+            _ => return steps::repeat(self, side, count),
         }
         true
     }
@@ -256,5 +277,9 @@ impl Work for Drop {
             |PlainSide { state, exclusion, .. }| plain::drop(state, exclusion),
             |RunSide { state, numbers, exclusion, .. }| on_runs::drop(state, exclusion, numbers),
         )
+    }
+
+    fn steps_agree(&self) -> bool {
+        self.stepped.agrees(&self.sides.plain)
     }
 }

@@ -5,6 +5,8 @@ use reference::Device;
 
 use crate::access::{DeviceWrite, Fetch, Write};
 use crate::approval::{Ask, Commit, Drop};
+use crate::cold::Cold;
+use crate::growth::{Growth, SIZES as SIZES_OF_PLOT};
 use crate::record::WriteRecord;
 use crate::switch::{LeaveAndEnter, Start};
 use crate::synchronise::{SynchroniseAll, SynchroniseOne};
@@ -16,6 +18,15 @@ use crate::work::Work;
 pub struct Case {
     pub name: String,
     pub prepare: Box<dyn Fn() -> Box<dyn Work>>,
+    pub of: Of,
+}
+
+/// Which of its rounds a time is of.
+#[derive(Clone, Copy, Debug, PartialEq, Eq)]
+pub enum Of {
+    Least,
+    /// For tables that no cache holds: the least round is the one for which a cache held some.
+    Median,
 }
 
 const SMALLEST: u16 = 16;
@@ -26,6 +37,7 @@ const SIZES: [u16; 3] = [SMALLEST, MIDDLE, LARGEST];
 const DEPTHS: [(u64, u16); 3] = [(1, 512), (2, LARGEST), (3, LARGEST)];
 const MEBIBYTE: u64 = 1 << 20;
 
+/// The lines of the tables of instructions and of times.
 pub fn cases() -> Vec<Case> {
     let mut cases = synchronisations();
     cases.extend(accesses());
@@ -40,7 +52,37 @@ fn case<W: Work + 'static>(
     name: impl Into<String>,
     prepare: impl Fn() -> W + Copy + 'static,
 ) -> Case {
-    Case { name: name.into(), prepare: Box::new(move || Box::new(prepare())) }
+    Case { name: name.into(), prepare: Box::new(move || Box::new(prepare())), of: Of::Least }
+}
+
+/// The name of synchronise all in kernel mode at the largest V, by what changes between two calls and whether a cache holds the tables.
+pub fn large_name(contents: Contents, changes: bool, is_cold: bool) -> String {
+    let change = if changes { "" } else { ", nothing changed" };
+    let heat = if is_cold { ", cold" } else { "" };
+    format!("synchronise all, V {LARGEST}, {}{change}{heat}", contents.words())
+}
+
+/// Synchronise all at the largest V where nothing changes, and on cold tables.
+pub fn cold_cases() -> Vec<Case> {
+    let mut cases = Vec::new();
+    for contents in Contents::ALL {
+        for changes in [false, true] {
+            let tables = if changes { Tables::new } else { Tables::unchanged };
+            let all = move || SynchroniseAll::new(tables(contents, LARGEST), false);
+            if !changes {
+                cases.push(case(large_name(contents, changes, false), all));
+            }
+            let cold = case(large_name(contents, changes, true), move || Cold::new(all()));
+            cases.push(Case { of: Of::Median, ..cold });
+        }
+    }
+    cases
+}
+
+/// The points of the plot.
+pub fn growth_cases() -> Vec<Case> {
+    let points = Growth::ALL.into_iter().flat_map(|call| SIZES_OF_PLOT.map(|v| (call, v)));
+    points.map(|(call, v)| case(call.case(v), move || call.prepare(v))).collect()
 }
 
 fn synchronisations() -> Vec<Case> {

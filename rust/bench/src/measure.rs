@@ -1,17 +1,17 @@
-//! Times of the cases: rounds in which all sides run one after another, and the least time of each side.
-//! The median of the rounds' ratios stands beside, to show how quiet the machine was.
+//! Times of the cases: rounds in which all sides run one after another, and of each side the least of its rounds.
 
 use std::time::Instant;
 
-use crate::cases::Case;
+use crate::cases::{Case, Of};
+use crate::figures::Figures;
 use crate::work::{Side, Work};
 
-const ROUNDS: usize = 400;
+const ROUNDS: usize = 150;
 /// A side's turn in a round lasts at least this long, in nanoseconds.
 const TURN: f64 = 40_000.0;
 
 /// Nanoseconds for each repetition, by side and round; none where the case has no such side.
-type Times = [Vec<f64>; Side::ALL.len()];
+type Times = [Vec<f64>; Side::TIMED.len()];
 
 fn time(work: &mut dyn Work, side: Side, count: u64) -> Option<f64> {
     let begin = Instant::now();
@@ -24,7 +24,7 @@ fn time(work: &mut dyn Work, side: Side, count: u64) -> Option<f64> {
 fn repetitions(work: &mut dyn Work) -> u64 {
     let mut count = 2;
     loop {
-        let each = Side::ALL.iter().filter_map(|&side| time(work, side, count));
+        let each = Side::TIMED.iter().filter_map(|&side| time(work, side, count));
         let least = each.min_by(f64::total_cmp).unwrap_or(TURN);
         if least * count as f64 >= TURN {
             return count;
@@ -37,47 +37,30 @@ fn times(work: &mut dyn Work) -> Times {
     let count = repetitions(work);
     let mut times = Times::default();
     for _ in 0..ROUNDS {
-        for side in Side::ALL {
-            times[side as usize].extend(time(work, side, count));
+        for (times, side) in times.iter_mut().zip(Side::TIMED) {
+            times.extend(time(work, side, count));
         }
     }
     times
 }
 
-fn least(times: &Times, side: Side) -> Option<f64> {
-    times[side as usize].iter().copied().min_by(f64::total_cmp)
-}
-
-fn median_ratio(times: &Times) -> f64 {
-    let rounds = times[Side::Archive as usize].iter().zip(&times[Side::Reference as usize]);
-    let mut ratios: Vec<_> = rounds.map(|(archive, reference)| archive / reference).collect();
-    ratios.sort_by(f64::total_cmp);
-    ratios[ratios.len() / 2]
-}
-
-/// Prints the table; a case on which the sides do not agree is no measurement.
-pub fn print_table(cases: &[Case]) {
-    println!("| call | archive, ns | Rust, ns | ratio | median ratio | Rust on runs, ns | ratio | Rust without approval, ns | price of approval | archive from flat, ns | price of the tree |");
-    println!("|---|---|---|---|---|---|---|---|---|---|---|");
+/// The figures of cases; a case on which the sides do not agree is no measurement.
+pub fn figures(cases: &[Case]) -> Figures {
+    let mut figures = Figures::default();
     for case in cases {
         let mut work = (case.prepare)();
         let times = times(&mut *work);
         assert!(work.agree(), "{}: archive and reference differ", case.name);
-        println!("{}", line(&case.name, &times));
+        for (mut times, side) in times.into_iter().zip(Side::TIMED) {
+            times.sort_by(f64::total_cmp);
+            let place = match case.of {
+                Of::Least => 0,
+                Of::Median => times.len() / 2,
+            };
+            if let Some(&time) = times.get(place) {
+                figures.take(&case.name, side, time);
+            }
+        }
     }
-}
-
-fn line(name: &str, times: &Times) -> String {
-    let of_side = |side| least(times, side).expect("every case has this side");
-    let archive = of_side(Side::Archive);
-    let (reference, on_runs) = (of_side(Side::Reference), of_side(Side::OnRuns));
-    let (ratio, median, ratio_on_runs) =
-        (archive / reference, median_ratio(times), archive / on_runs);
-    let without = least(times, Side::WithoutApproval)
-        .map_or("- | -".into(), |without| format!("{without:.1} | {:.2}", reference / without));
-    let flat = least(times, Side::Flat)
-        .map_or("- | -".into(), |flat| format!("{flat:.1} | {:.2}", archive / flat));
-    format!(
-        "| {name} | {archive:.1} | {reference:.1} | {ratio:.2} | {median:.2} | {on_runs:.1} | {ratio_on_runs:.2} | {without} | {flat} |"
-    )
+    figures
 }

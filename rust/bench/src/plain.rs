@@ -1,31 +1,48 @@
 //! The plain calls, none of them inlined: each is one call, as the archive's is.
 //! Otherwise the compiler could take parts of the plain sides out of the measured loop.
 
-use std::hint::black_box;
-
 use reference::{Answer, Device, State, Tree};
 
-/// Lets the calls' addresses out, so that the compiler fits none of them to the lengths that this program happens to pass:
-/// the archive's calls are not fitted either.
-pub fn keep_general() {
-    black_box((start as *const (), sync_page as *const (), sync_all as *const ()));
-    black_box((fetch as *const (), write as *const (), device_write as *const ()));
-    black_box((enter as *const (), leave as *const (), write_record as *const ()));
-    black_box((without_approval::sync_page as *const (), without_approval::sync_all as *const ()));
-    black_box((on_runs::start as *const (), on_runs::sync_page as *const ()));
-    black_box((on_runs::sync_all as *const (), on_runs::fetch as *const ()));
-    black_box((on_runs::write as *const (), on_runs::device_write as *const ()));
-    black_box((on_runs::enter as *const (), on_runs::leave as *const ()));
-    black_box(on_runs::write_record as *const ());
-    black_box((walk as *const (), sync_page_tree as *const (), sync_all_tree as *const ()));
-    black_box((on_runs::walk as *const (), on_runs::sync_page_tree as *const ()));
-    black_box(on_runs::sync_all_tree as *const ());
-    black_box((ask as *const (), commit as *const (), drop as *const ()));
-    black_box((
+/// Where the calls begin. To ask lets their addresses out, so that the compiler fits none of them to the lengths that this program happens
+/// to pass: the archive's calls are not fitted either.
+pub fn begins() -> Vec<usize> {
+    let on_state = [
+        start as *const (),
+        sync_page as *const (),
+        sync_all as *const (),
+        fetch as *const (),
+        write as *const (),
+        device_write as *const (),
+        enter as *const (),
+        leave as *const (),
+        write_record as *const (),
+        walk as *const (),
+        sync_page_tree as *const (),
+        sync_all_tree as *const (),
+        ask as *const (),
+        commit as *const (),
+        drop as *const (),
+        without_approval::sync_page as *const (),
+        without_approval::sync_all as *const (),
+    ];
+    let on_runs = [
+        on_runs::start as *const (),
+        on_runs::sync_page as *const (),
+        on_runs::sync_all as *const (),
+        on_runs::fetch as *const (),
+        on_runs::write as *const (),
+        on_runs::device_write as *const (),
+        on_runs::enter as *const (),
+        on_runs::leave as *const (),
+        on_runs::write_record as *const (),
+        on_runs::walk as *const (),
+        on_runs::sync_page_tree as *const (),
+        on_runs::sync_all_tree as *const (),
         on_runs::ask as *const (),
         on_runs::commit as *const (),
         on_runs::drop as *const (),
-    ));
+    ];
+    on_state.into_iter().chain(on_runs).map(|call| call as usize).collect()
 }
 
 #[inline(never)]

@@ -76,7 +76,7 @@ impl Work for WriteRecord {
             Side::Archive => write_on_runs(archive, count, parts, archive::write_record),
             Side::Reference => write_alone(plain, count, parts),
             Side::OnRuns => write_on_runs(on_runs, count, parts, on_runs::write_record),
-            Side::WithoutApproval | Side::Flat => return false,
+            _ => return false,
         }
         true
     }

@@ -7,18 +7,21 @@ use guard::archive;
 
 use crate::plain::{self, on_runs};
 use crate::sides::{PlainSide, RunSide};
+use crate::steps::{self, Reply, Stepped, Steps};
 use crate::tables::Tables;
 use crate::work::{Side, Sides, Work};
 
 /// Leave to the last page and enter by index 0: a repetition is both.
 pub struct LeaveAndEnter {
     sides: Sides,
+    stepped: Stepped,
     last: u64,
 }
 
 impl LeaveAndEnter {
     pub fn new(tables: &Tables) -> LeaveAndEnter {
-        LeaveAndEnter { sides: Sides::new(tables, false), last: u64::from(tables.v) - 1 }
+        let sides = Sides::new(tables, false);
+        LeaveAndEnter { stepped: Stepped::new(&sides), sides, last: u64::from(tables.v) - 1 }
     }
 }
 
@@ -43,9 +46,19 @@ fn switch_on_state(side: &mut PlainSide, count: u64, last: u64) {
     }
 }
 
+impl Steps for LeaveAndEnter {
+    fn repeat_step<const STEP: u8, R: Reply>(&mut self, count: u64) {
+        let Stepped { state, run: RunSide { state: run, numbers, shadow, .. } } = &mut self.stepped;
+        for _ in 0..count {
+            steps::leave::<STEP, R>(state, run, shadow, black_box(self.last), numbers).keep();
+            steps::enter::<STEP, R>(state, run, shadow, black_box(0), numbers).keep();
+        }
+    }
+}
+
 impl Work for LeaveAndEnter {
     fn repeat(&mut self, side: Side, count: u64) -> bool {
-        let LeaveAndEnter { sides, last } = self;
+        let LeaveAndEnter { sides, last, .. } = self;
         match side {
             Side::Archive => {
                 switch_on_runs(&mut sides.archive, count, *last, archive::leave, archive::enter);
@@ -54,13 +67,17 @@ impl Work for LeaveAndEnter {
             Side::OnRuns => {
                 switch_on_runs(&mut sides.on_runs, count, *last, on_runs::leave, on_runs::enter);
             }
-            Side::WithoutApproval | Side::Flat => return false,
+            _ => return steps::repeat(self, side, count),
         }
         true
     }
 
     fn agree(&self) -> bool {
         self.sides.agree()
+    }
+
+    fn steps_agree(&self) -> bool {
+        self.stepped.agrees(&self.sides.plain)
     }
 }
 
@@ -111,7 +128,7 @@ impl Work for Start {
             Side::Archive => start_on_runs(&mut sides.archive, count, given, archive::start),
             Side::Reference => start_on_state(&mut sides.plain, count, given),
             Side::OnRuns => start_on_runs(&mut sides.on_runs, count, given, on_runs::start),
-            Side::WithoutApproval | Side::Flat => return false,
+            _ => return false,
         }
         true
     }

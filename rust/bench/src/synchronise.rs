@@ -12,6 +12,7 @@ use crate::tables::Tables;
 use crate::work::{in_turn, Side, Sides, Work, ARGUMENTS};
 
 /// The sides of a call that synchronises.
+#[derive(Clone)]
 struct Synchronising {
     tables: Tables,
     sides: Sides,
@@ -83,7 +84,7 @@ impl Work for SynchroniseOne {
             Side::Reference => pages_on_state(&mut sides.plain, pages, plain::sync_page),
             Side::OnRuns => pages_on_runs(&mut sides.on_runs, pages, on_runs::sync_page),
             Side::WithoutApproval => pages_on_state(without, pages, without_approval::sync_page),
-            Side::Flat => return false,
+            _ => return false,
         }
         true
     }
@@ -94,11 +95,16 @@ impl Work for SynchroniseOne {
 }
 
 /// Synchronise all pages, from the two kernel tables in turn.
-pub struct SynchroniseAll(Synchronising);
+#[derive(Clone)]
+pub struct SynchroniseAll {
+    with: Synchronising,
+    /// The calls of each side so far.
+    calls: [u64; Side::ALL.len()],
+}
 
 impl SynchroniseAll {
     pub fn new(tables: Tables, in_user: bool) -> SynchroniseAll {
-        SynchroniseAll(Synchronising::new(tables, in_user))
+        SynchroniseAll { with: Synchronising::new(tables, in_user), calls: Default::default() }
     }
 }
 
@@ -128,19 +134,21 @@ fn all_on_state<'a>(
 
 impl Work for SynchroniseAll {
     fn repeat(&mut self, side: Side, count: u64) -> bool {
-        let Synchronising { tables, sides, without } = &mut self.0;
-        let kernels = (0..count).map(|i| &tables.kernels[(i % 2) as usize][..]);
+        let Synchronising { tables, sides, without } = &mut self.with;
+        let first = self.calls[side as usize];
+        self.calls[side as usize] += count;
+        let kernels = (first..first + count).map(|i| &tables.kernels[(i % 2) as usize][..]);
         match side {
             Side::Archive => all_on_runs(&mut sides.archive, kernels, archive::sync_all),
             Side::Reference => all_on_state(&mut sides.plain, kernels, plain::sync_all),
             Side::OnRuns => all_on_runs(&mut sides.on_runs, kernels, on_runs::sync_all),
             Side::WithoutApproval => all_on_state(without, kernels, without_approval::sync_all),
-            Side::Flat => return false,
+            _ => return false,
         }
         true
     }
 
     fn agree(&self) -> bool {
-        self.0.sides.agree()
+        self.with.sides.agree()
     }
 }

@@ -36,6 +36,7 @@ impl Contents {
     }
 }
 
+#[derive(Clone)]
 pub struct Tables {
     pub v: u16,
     pub policy: Vec<u8>,
@@ -76,6 +77,13 @@ impl Tables {
         }
         let policy = record(v, 2 * v, 1, &listed);
         Tables { v, policy, devices: MOST_DEVICES, asked: None, kernels: [first, second] }
+    }
+
+    /// The same kernel table in every turn.
+    pub fn unchanged(contents: Contents, v: u16) -> Tables {
+        let mut tables = Tables::new(contents, v);
+        tables.kernels[1] = tables.kernels[0].clone();
+        tables
     }
 
     /// The last page and a free frame are asked for. Some pages of a large table that is mostly ordinary have that frame.

@@ -58,7 +58,7 @@ impl Work for Walk {
             Side::Archive => walk_on_runs(numbers, walks, archive::walk),
             Side::Reference => walk_alone(walks),
             Side::OnRuns => walk_on_runs(numbers, walks, on_runs::walk),
-            Side::WithoutApproval | Side::Flat => return false,
+            _ => return false,
         }
         true
     }
@@ -161,7 +161,7 @@ impl Work for SynchroniseOneFromTree {
                 flat,
                 turns.map(|(turn, page)| (&trees.flat.kernels[turn % 2][..], page)),
             ),
-            Side::WithoutApproval => return false,
+            _ => return false,
         }
         true
     }
@@ -218,7 +218,7 @@ impl Work for SynchroniseAllFromTree {
             Side::Reference => all_on_state(&mut sides.plain, in_turn),
             Side::OnRuns => all_on_runs(&mut sides.on_runs, in_turn, on_runs::sync_all_tree),
             Side::Flat => all_flat(flat, turns.map(|turn| &trees.flat.kernels[turn % 2][..])),
-            Side::WithoutApproval => return false,
+            _ => return false,
         }
         true
     }

@@ -7,7 +7,7 @@ use reference::Answer;
 use crate::sides::{PlainSide, RunSide};
 use crate::tables::Tables;
 
-#[derive(Clone, Copy, Debug, PartialEq, Eq)]
+#[derive(Clone, Copy, Debug, PartialEq, Eq, PartialOrd, Ord)]
 pub enum Side {
     /// The proved library.
     Archive,
@@ -19,13 +19,53 @@ pub enum Side {
     WithoutApproval,
     /// The proved library's call from the flat table of a tree's walks; only calls that synchronise from a tree have this side.
     Flat,
+    /// A copy of the bytes of the tables that the call goes through; only the cases of the plot have this side.
+    Copy,
+    /// From here on: the reference with a part of the boundary, each with what the one before has and a thing more.
+    /// Only some small calls have these sides. The first is lent both runs beside its state, and reads neither.
+    Lent,
+    /// The lengths of both runs are tested.
+    Lengths,
+    /// The words of the mode and of what is pending are tested.
+    Words,
+    /// The two numbers are written to their run, and the number of the refusal is returned.
+    Numbers,
+    /// What changed of the state is written to its run too.
+    Put,
+    /// The state is decoded from its run, but for the entry pages.
+    Fields,
+    /// The entry pages too. Without the state beside the runs it is the reference behind the boundary.
+    EntryPages,
 }
 
 impl Side {
-    pub const ALL: [Side; 5] =
-        [Side::Archive, Side::Reference, Side::OnRuns, Side::WithoutApproval, Side::Flat];
+    pub const ALL: [Side; 13] = [
+        Side::Archive,
+        Side::Reference,
+        Side::OnRuns,
+        Side::WithoutApproval,
+        Side::Flat,
+        Side::Copy,
+        Side::Lent,
+        Side::Lengths,
+        Side::Words,
+        Side::Numbers,
+        Side::Put,
+        Side::Fields,
+        Side::EntryPages,
+    ];
 
-    /// As an argument of the program.
+    /// Those whose time is measured. The others are for instruction counts.
+    pub const TIMED: [Side; 6] = [
+        Side::Archive,
+        Side::Reference,
+        Side::OnRuns,
+        Side::WithoutApproval,
+        Side::Flat,
+        Side::Copy,
+    ];
+
+    /// In the figures, and as an argument of the program.
     pub fn name(self) -> &'static str {
         match self {
             Side::Archive => "archive",
@@ -33,7 +73,19 @@ impl Side {
             Side::OnRuns => "on-runs",
             Side::WithoutApproval => "without-approval",
             Side::Flat => "flat",
+            Side::Copy => "copy",
+            Side::Lent => "lent",
+            Side::Lengths => "lengths",
+            Side::Words => "words",
+            Side::Numbers => "numbers",
+            Side::Put => "put",
+            Side::Fields => "fields",
+            Side::EntryPages => "entry-pages",
         }
+    }
+
+    pub fn named(name: &str) -> Option<Side> {
+        Side::ALL.into_iter().find(|side| side.name() == name)
     }
 }
 
@@ -44,6 +96,11 @@ pub trait Work {
 
     /// Whether the archive and the reference stand alike after the same repetitions.
     fn agree(&self) -> bool;
+
+    /// Whether the steps to the boundary stand where the reference does, after the same repetitions of all; true where there are none.
+    fn steps_agree(&self) -> bool {
+        true
+    }
 }
 
 /// What the archive and the reference hold.

@@ -147,7 +147,7 @@ pub(crate) fn walk_variant<const VARIANT: u8>(tree: Tree, page: u64, numbers: &m
 /// The state of a run with the right length, in which each field has its width. An entry page too wide is above every V. The words of
 /// the pair are read where one is pending.
 #[inline(always)]
-fn state_in(run: &[u64]) -> Option<State> {
+pub fn state_in(run: &[u64]) -> Option<State> {
     let run: &[u64; STATE_WORDS] = run.try_into().ok()?;
     let field = |place: usize| u16::try_from(run[place]).ok();
     let page = field(RUNNING)?;
@@ -179,23 +179,25 @@ fn put_state(run: &mut [u64], state: &State) {
     put_pending(run, state.pending);
 }
 
+/// The words of a mode.
 #[inline(always)]
-fn put_mode(run: &mut [u64], mode: Mode) {
+pub fn put_mode(run: &mut [u64], mode: Mode) {
     run[MODE] = mode.is_user().into();
     run[RUNNING] = mode.page().into();
 }
 
-/// Where nothing is pending all three words are 0.
+/// The words of what is pending. Where nothing is, all three are 0.
 #[inline(always)]
-fn put_pending(run: &mut [u64], pending: Option<Pair>) {
+pub fn put_pending(run: &mut [u64], pending: Option<Pair>) {
     let [page, frame] = pending.map_or([0; 2], |pair| [pair.page.into(), pair.frame.into()]);
     run[PENDING] = pending.is_some().into();
     run[PENDING_PAGE] = page;
     run[PENDING_FRAME] = frame;
 }
 
+/// The number of an answer, whose two numbers go into their run.
 #[inline(always)]
-fn reply(numbers: &mut [u64], answer: Answer) -> u64 {
+pub fn reply(numbers: &mut [u64], answer: Answer) -> u64 {
     let (number, (first, second)) = match answer {
         Ok(numbers) => (0, numbers),
         Err(refusal) => (refusal.number().into(), (0, 0)),

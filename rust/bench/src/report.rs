@@ -1,0 +1,183 @@
+//! The tables of docs/BENCH.md from the figures.
+
+use crate::cases::{cases, cold_cases, large_name, Case};
+use crate::figures::{Figures, Times};
+use crate::tables::Contents;
+use crate::work::Side;
+
+/// A table from its head and its lines.
+fn table(head: &[&str], lines: impl Iterator<Item = Vec<String>>) -> String {
+    let line = |cells: &[String]| format!("| {} |\n", cells.join(" | "));
+    let head: Vec<_> = head.iter().map(|cell| cell.to_string()).collect();
+    let rule = format!("|{}\n", "---|".repeat(head.len()));
+    lines.fold(line(&head) + &rule, |table, cells| table + &line(&cells))
+}
+
+fn time(time: Option<f64>) -> String {
+    time.map_or("-".into(), |time| format!("{time:.1}"))
+}
+
+fn ratio(of: Option<f64>, to: Option<f64>) -> String {
+    of.zip(to).map_or("-".into(), |(of, to)| format!("{:.2}", of / to))
+}
+
+fn whole(count: Option<f64>) -> String {
+    count.map_or("-".into(), |count| format!("{count:.0}"))
+}
+
+/// The lines whose ratio to the reference on runs is above 1.00, as printed, the largest first.
+fn above(figure: impl Fn(&str, Side) -> Option<f64>, cases: &[Case]) -> String {
+    let ratio =
+        |case: &Case| Some(figure(&case.name, Side::Archive)? / figure(&case.name, Side::OnRuns)?);
+    let ratios = cases.iter().filter_map(|case| Some((ratio(case)?, &case.name)));
+    let mut above: Vec<_> = ratios.filter(|(ratio, _)| *ratio >= 1.005).collect();
+    above.sort_by(|(one, _), (other, _)| other.total_cmp(one));
+    let named: Vec<_> = above.iter().map(|(ratio, name)| format!("{name} ({ratio:.2})")).collect();
+    let (count, all) = (above.len(), cases.len());
+    if named.is_empty() {
+        return format!("\nNo line of {all} is above 1.00 of Rust on runs.\n");
+    }
+    format!("\n{count} of {all} lines are above 1.00 of Rust on runs: {}.\n", named.join("; "))
+}
+
+/// Times: of each side the worst place, with the best beside it.
+pub fn times(times: &Times) -> String {
+    let head = [
+        "call",
+        "archive, ns",
+        "at best",
+        "Rust on runs, ns",
+        "at best",
+        "ratio",
+        "Rust, ns",
+        "ratio",
+        "Rust without approval, ns",
+        "price of approval",
+        "archive from flat, ns",
+        "price of the tree",
+    ];
+    let cases = cases();
+    let lines = cases.iter().map(|Case { name, .. }| {
+        let [archive, plain, on_runs, without, flat] =
+            [Side::Archive, Side::Reference, Side::OnRuns, Side::WithoutApproval, Side::Flat]
+                .map(|side| times.worst(name, side));
+        vec![
+            name.clone(),
+            time(archive),
+            time(times.best(name, Side::Archive)),
+            time(on_runs),
+            time(times.best(name, Side::OnRuns)),
+            ratio(archive, on_runs),
+            time(plain),
+            ratio(archive, plain),
+            time(without),
+            ratio(plain, without),
+            time(flat),
+            ratio(archive, flat),
+        ]
+    });
+    table(&head, lines) + &above(|name, side| times.worst(name, side), &cases)
+}
+
+/// Synchronise all at the largest V: warm and cold tables, with nothing changed and with an eighth changed. Of each side the worst place.
+pub fn cold(times: &Times) -> String {
+    let head = [
+        "table",
+        "changed",
+        "archive, warm, ns",
+        "Rust on runs",
+        "ratio",
+        "archive, cold, ns",
+        "Rust on runs",
+        "ratio",
+    ];
+    let rows = Contents::ALL.into_iter().flat_map(|contents| [(contents, false), (contents, true)]);
+    let lines = rows.map(|(contents, changes)| {
+        let name = large_name(contents, changes, false);
+        let worst = |is_cold, side| times.worst(&large_name(contents, changes, is_cold), side);
+        let changed = if changes { "an eighth" } else { "nothing" };
+        let mut line = vec![contents.words().into(), changed.into()];
+        for is_cold in [false, true] {
+            let (archive, on_runs) = (worst(is_cold, Side::Archive), worst(is_cold, Side::OnRuns));
+            line.extend([time(archive), time(on_runs), ratio(archive, on_runs)]);
+        }
+        assert_eq!(line.len(), head.len(), "{name}");
+        line
+    });
+    table(&head, lines) + &above(|name, side| times.worst(name, side), &cold_cases())
+}
+
+/// Instructions of a repetition.
+pub fn instructions(counts: &Figures) -> String {
+    let head = [
+        "call",
+        "archive",
+        "Rust",
+        "ratio",
+        "Rust on runs",
+        "ratio",
+        "Rust without approval",
+        "archive from flat",
+        "ratio",
+    ];
+    let cases = cases();
+    let lines = cases.iter().map(|Case { name, .. }| {
+        let count = |side| counts.get(name, side);
+        let archive = count(Side::Archive);
+        vec![
+            name.clone(),
+            whole(archive),
+            whole(count(Side::Reference)),
+            ratio(archive, count(Side::Reference)),
+            whole(count(Side::OnRuns)),
+            ratio(archive, count(Side::OnRuns)),
+            whole(count(Side::WithoutApproval)),
+            whole(count(Side::Flat)),
+            ratio(archive, count(Side::Flat)),
+        ]
+    });
+    table(&head, lines) + &above(|name, side| counts.get(name, side), &cases)
+}
+
+/// What the boundary costs Rust, part by part, and what it costs the archive in all, in instructions of a repetition.
+pub fn boundary(counts: &Figures) -> String {
+    let head = [
+        "call",
+        "Rust",
+        "runs handed over",
+        "lengths tested",
+        "words of mode and pair tested",
+        "two numbers written",
+        "state's words written",
+        "state decoded",
+        "entry pages decoded",
+        "no struct handed over",
+        "Rust on runs",
+        "archive",
+        "archive less Rust",
+    ];
+    let way = [
+        Side::Reference,
+        Side::Lent,
+        Side::Lengths,
+        Side::Words,
+        Side::Numbers,
+        Side::Put,
+        Side::Fields,
+        Side::EntryPages,
+        Side::OnRuns,
+    ];
+    let cases = cases();
+    let stepped = cases.iter().filter(|case| counts.get(&case.name, Side::Lengths).is_some());
+    let lines = stepped.map(|Case { name, .. }| {
+        let count = |side| counts.get(name, side);
+        let more = |of, than| count(of).zip(count(than)).map(|(of, than)| of - than);
+        let signed = |more: Option<f64>| more.map_or("-".into(), |more| format!("{more:+.0}"));
+        let mut line = vec![name.clone(), whole(count(Side::Reference))];
+        line.extend(way.windows(2).map(|step| signed(more(step[1], step[0]))));
+        line.extend([whole(count(Side::OnRuns)), whole(count(Side::Archive))]);
+        line.push(signed(more(Side::Archive, Side::Reference)));
+        line
+    });
+    table(&head, lines)
+}
