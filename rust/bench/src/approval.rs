@@ -44,6 +44,7 @@ impl Ask {
 }
 
 /// Excludes the frame that is pending, if one is.
+#[inline(always)]
 fn exclude(exclusion: &mut [u8], pair: Option<Pair>) {
     if let Some(Pair { frame, .. }) = pair {
         exclusion[usize::from(frame / 8)] |= 1 << (frame % 8);
@@ -215,6 +216,15 @@ impl Drop {
     }
 }
 
+/// Repeats a drop with what it puts back: a loop where a pair is, and one where none is, so that no repetition asks for it.
+#[inline(always)]
+fn in_loop(count: u64, pair: Option<Pair>, mut drop: impl FnMut(Option<Pair>)) {
+    match pair {
+        Some(pair) => (0..count).for_each(|_| drop(Some(pair))),
+        None => (0..count).for_each(|_| drop(None)),
+    }
+}
+
 #[inline(never)]
 fn drop_on_runs(
     side: &mut RunSide,
@@ -223,21 +233,21 @@ fn drop_on_runs(
     call: impl Fn(&mut [u64], &mut [u8], &mut [u64]) -> u64,
 ) {
     let RunSide { state, numbers, exclusion, .. } = side;
-    for _ in 0..count {
+    in_loop(count, pair, |pair| {
         black_box(call(state, exclusion, numbers));
         state[PAIR].copy_from_slice(&pending_words(pair));
         exclude(exclusion, pair);
-    }
+    });
 }
 
 #[inline(never)]
 fn drop_on_state(side: &mut PlainSide, count: u64, pair: Option<Pair>) {
     let PlainSide { state, exclusion, .. } = side;
-    for _ in 0..count {
+    in_loop(count, pair, |pair| {
         black_box(&plain::drop(state, exclusion));
         state.pending = pair;
         exclude(exclusion, pair);
-    }
+    });
 }
 
 impl Steps for Drop {
@@ -246,16 +256,16 @@ impl Steps for Drop {
     fn repeat_step<const STEP: u8, R: Reply>(&mut self, count: u64) {
         let Drop { stepped: Stepped { state, run }, pair, .. } = self;
         let RunSide { state: run, numbers, exclusion, .. } = run;
-        for _ in 0..count {
+        in_loop(count, *pair, |pair| {
             steps::drop::<STEP, R>(state, run, exclusion, numbers).keep();
             if STEP < FIELDS {
-                state.pending = *pair;
+                state.pending = pair;
             }
             if STEP >= PUT {
-                run[PAIR].copy_from_slice(&pending_words(*pair));
+                run[PAIR].copy_from_slice(&pending_words(pair));
             }
-            exclude(exclusion, *pair);
-        }
+            exclude(exclusion, pair);
+        });
     }
 }
 

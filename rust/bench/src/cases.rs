@@ -8,6 +8,7 @@ use crate::approval::{Ask, Commit, Drop};
 use crate::cold::Cold;
 use crate::growth::{Growth, SIZES as SIZES_OF_PLOT};
 use crate::record::WriteRecord;
+use crate::rungs::{Rung, Small, Wrong};
 use crate::switch::{LeaveAndEnter, Start};
 use crate::synchronise::{SynchroniseAll, SynchroniseOne};
 use crate::tables::{Contents, Tables, MOST_DEVICES};
@@ -77,6 +78,12 @@ pub fn cold_cases() -> Vec<Case> {
         }
     }
     cases
+}
+
+/// Small calls with something wrong, for their instructions.
+pub fn small_cases() -> Vec<Case> {
+    let calls = Small::ALL.into_iter().flat_map(|call| Rung::ALL.map(|rung| (call, rung)));
+    calls.map(|(call, rung)| case(rung.case(call), move || Wrong::new(call, rung))).collect()
 }
 
 /// The points of the plot.

@@ -69,25 +69,30 @@ impl Growth {
                 (Box::new(Commit::new(&Tables::asked(Contents::Absent, v))), shadow + map)
             }
         };
-        Growing { work, from: vec![0xa5; bytes], to: vec![0; bytes] }
+        Growing { work, copied: vec![0xa5; 2 * bytes + GAP], bytes }
     }
 }
 
 /// A call with the copy.
 pub struct Growing {
     work: Box<dyn Work>,
-    from: Vec<u8>,
-    to: Vec<u8>,
+    /// What is copied, the gap, and where it is copied to.
+    copied: Vec<u8>,
+    bytes: usize,
 }
+
+/// Keeps what is copied and where it goes from lying alike in their pages, which processors take slowly.
+const GAP: usize = 2048 + 64;
 
 impl Work for Growing {
     fn repeat(&mut self, side: Side, count: u64) -> bool {
-        let Growing { work, from, to } = self;
+        let Growing { work, copied, bytes } = self;
         match side {
-            Side::Archive | Side::OnRuns => return work.repeat(side, count),
             // The reference is not drawn; it is brought along, so that the sides can be compared.
-            Side::Reference => return work.repeat(side, count),
+            Side::Archive | Side::OnRuns | Side::Reference => return work.repeat(side, count),
             Side::Copy => {
+                let (from, to) = copied.split_at_mut(*bytes + GAP);
+                let from = &from[..*bytes];
                 for _ in 0..count {
                     to.copy_from_slice(black_box(from));
                     black_box(&mut *to);

@@ -15,6 +15,7 @@ mod plain;
 mod plot;
 mod record;
 mod report;
+mod rungs;
 mod sides;
 mod steps;
 mod switch;
@@ -28,7 +29,7 @@ use std::env;
 use std::fs;
 use std::process::ExitCode;
 
-use cases::{cases, cold_cases, growth_cases};
+use cases::{cases, cold_cases, growth_cases, small_cases};
 use figures::{Figures, Times};
 use work::Side;
 
@@ -36,7 +37,7 @@ const USAGE: &str = "bench
 bench times PLACE: figures of all cases, where every function begins at this place of 64
 bench count COUNT: repeats every side of every case, for callgrind
 bench list, bench repeat CASE SIDE COUNT: one side of one case, for a profiler
-bench table times|cold|instructions|boundary FOLDER: a table from a folder of figures
+bench table times|cold|instructions|boundary|small FOLDER: a table from a folder of figures
 bench plot FOLDER
 bench fill DOCUMENT FOLDER: the document with the tables of the figures";
 
@@ -72,13 +73,14 @@ fn table(name: &str, folder: &str) -> Result<String, String> {
         "cold" => Times::all(folder).map(|times| report::cold(&times)),
         "instructions" => Figures::counts(folder).map(|counts| report::instructions(&counts)),
         "boundary" => Figures::counts(folder).map(|counts| report::boundary(&counts)),
+        "small" => Figures::counts(folder).map(|counts| report::small(&counts)),
         _ => Err(USAGE.into()),
     }
 }
 
 fn fill(document: &str, folder: &str) -> Result<String, String> {
     let text = fs::read_to_string(document).map_err(|e| format!("{document}: {e}"))?;
-    let names = ["instructions", "times", "cold", "boundary"];
+    let names = ["instructions", "times", "cold", "boundary", "small"];
     names.into_iter().try_fold(text, |text, name| {
         document::filled(&text, name, &table(name, folder)?)
             .ok_or(format!("{document}: no place for the table {name}"))
@@ -91,7 +93,8 @@ fn done(arguments: &[&str]) -> Result<String, String> {
         [] => Ok(report::times(&Times::of_one(measure::figures(&cases())))),
         ["times", place] => times(place),
         ["count", count] => {
-            count::count(&cases(), count.parse().map_err(|e| format!("{count}: {e}"))?);
+            let all: Vec<_> = cases().into_iter().chain(small_cases()).collect();
+            count::count(&all, count.parse().map_err(|e| format!("{count}: {e}"))?);
             Ok(String::new())
         }
         ["list"] => Ok(list()),
@@ -184,8 +187,21 @@ mod tests {
     }
 
     #[test]
+    fn small_calls_are_refused_for_what_is_wrong() {
+        for case in small_cases() {
+            let mut work = (case.prepare)();
+            for side in [Side::Archive, Side::OnRuns] {
+                assert!(work.repeat(side, COUNT), "{}", case.name);
+            }
+            work.repeat(Side::Reference, COUNT);
+            assert!(work.agree(), "{}", case.name);
+        }
+    }
+
+    #[test]
     fn the_cases_have_different_names() {
-        let all: Vec<_> = cases().into_iter().chain(cold_cases()).chain(growth_cases()).collect();
+        let timed = cases().into_iter().chain(cold_cases()).chain(growth_cases());
+        let all: Vec<_> = timed.chain(small_cases()).collect();
         let names: BTreeSet<_> = all.iter().map(|case| &case.name).collect();
         assert_eq!(names.len(), all.len());
         assert!(names.iter().all(|name| !name.contains(['\t', '|'])));

@@ -37,7 +37,7 @@ const LINES: [Line; 3] = [
     Line {
         side: Side::OnRuns,
         words: "Rust on runs",
-        colour: "#f0a040",
+        colour: "#e08a1e",
         width: 5.0,
         dashes: "none",
         radius: 5.0,
@@ -87,7 +87,7 @@ fn grid((x, y): (f64, f64)) -> String {
     for v in SIZES {
         let at = x + across(v);
         svg += &rule((at, y), (at, bottom));
-        svg += &text(at, bottom + 15.0, "text-anchor=\"middle\" font-size=\"11\"", &v.to_string());
+        svg += &text(at, bottom + 15.0, "text-anchor=\"middle\" font-size=\"10\"", &v.to_string());
     }
     for decade in 0..=DECADES {
         let nanoseconds = 10_u32.pow(decade as u32);
@@ -152,13 +152,14 @@ fn legend() -> String {
         svg += &text(x + 52.0, at + 4.0, "", line.words);
     }
     let notes = [
-        "Each point: the worst of four places in memory.",
+        "Each point: the worst of four places.",
         "Kernel mode, warm tables, F is 2 × V.",
-        "An eighth of the kernel's entries changes",
-        "between two synchronisations.",
-        "Both axes are logarithmic: a cost that grows",
-        "with V is a straight line that rises one decade",
-        "in 3.3 doublings.",
+        "An eighth of the kernel's entries",
+        "changes between two synchronisations.",
+        "A cost that grows with V rises one",
+        "decade in 3.3 doublings.",
+        "memcpy: source and target leave the",
+        "first cache between V 512 and 1024.",
     ];
     for (place, note) in notes.into_iter().enumerate() {
         svg += &text(x, y + 120.0 + 18.0 * place as f64, "font-size=\"12\"", note);

@@ -1,7 +1,8 @@
 //! The tables of docs/BENCH.md from the figures.
 
-use crate::cases::{cases, cold_cases, large_name, Case};
+use crate::cases::{cases, large_name, Case};
 use crate::figures::{Figures, Times};
+use crate::rungs::{Rung, Small};
 use crate::tables::Contents;
 use crate::work::Side;
 
@@ -93,7 +94,6 @@ pub fn cold(times: &Times) -> String {
     ];
     let rows = Contents::ALL.into_iter().flat_map(|contents| [(contents, false), (contents, true)]);
     let lines = rows.map(|(contents, changes)| {
-        let name = large_name(contents, changes, false);
         let worst = |is_cold, side| times.worst(&large_name(contents, changes, is_cold), side);
         let changed = if changes { "an eighth" } else { "nothing" };
         let mut line = vec![contents.words().into(), changed.into()];
@@ -101,10 +101,9 @@ pub fn cold(times: &Times) -> String {
             let (archive, on_runs) = (worst(is_cold, Side::Archive), worst(is_cold, Side::OnRuns));
             line.extend([time(archive), time(on_runs), ratio(archive, on_runs)]);
         }
-        assert_eq!(line.len(), head.len(), "{name}");
         line
     });
-    table(&head, lines) + &above(|name, side| times.worst(name, side), &cold_cases())
+    table(&head, lines)
 }
 
 /// Instructions of a repetition.
@@ -180,4 +179,58 @@ pub fn boundary(counts: &Figures) -> String {
         line
     });
     table(&head, lines)
+}
+
+/// Where the instructions of a small call go, side by side.
+pub fn small(counts: &Figures) -> String {
+    let head = [
+        "call",
+        "side",
+        "called, and refused for a length",
+        "words of mode and pair",
+        "numbers of the state",
+        "up to here",
+        "lengths of tables",
+        "the rest, with what is written",
+        "in all",
+    ];
+    let sides = [Side::Archive, Side::OnRuns, Side::Reference];
+    let rows = Small::ALL.into_iter().flat_map(|call| sides.map(|side| (call, side)));
+    let lines = rows.map(|(call, side)| {
+        let count = |rung: Rung| counts.get(&rung.case(call), side);
+        // The number that is asked last.
+        let numbers = Rung::NUMBERS.into_iter().filter_map(count).max_by(f64::total_cmp);
+        let rungs = [
+            count(Rung::Lengths),
+            count(Rung::Words),
+            numbers,
+            count(Rung::Tables),
+            count(Rung::Accepted),
+        ];
+        let mut line = vec![call.words().into(), side_words(side).into()];
+        let mut before = None;
+        for (place, rung) in rungs.into_iter().enumerate() {
+            line.push(match (before, rung) {
+                (Some(before), Some(rung)) => format!("{:+.0}", rung - before),
+                // A side without runs has only the sum.
+                (None, Some(_)) if place > 0 => "-".into(),
+                _ => whole(rung),
+            });
+            if place == 2 {
+                line.push(whole(rung));
+            }
+            before = rung.or(before);
+        }
+        line.push(whole(count(Rung::Accepted)));
+        line
+    });
+    table(&head, lines)
+}
+
+fn side_words(side: Side) -> &'static str {
+    match side {
+        Side::Archive => "archive",
+        Side::OnRuns => "Rust on runs",
+        _ => "Rust",
+    }
 }
