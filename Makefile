@@ -9,5 +9,6 @@ test:
 
 bench:
 	rt staticlib exports
-	cd rust && cargo run --quiet --profile measured --offline -p bench
 	bash rust/bench/instructions
+	bash rust/bench/times
+	bash rust/bench/document

@@ -27,6 +27,7 @@ mod work;
 
 use std::env;
 use std::fs;
+use std::path::Path;
 use std::process::ExitCode;
 
 use cases::{cases, cold_cases, growth_cases, small_cases};
@@ -37,7 +38,7 @@ const USAGE: &str = "bench
 bench times PLACE: figures of all cases, where every function begins at this place of 64
 bench count COUNT: repeats every side of every case, for callgrind
 bench list, bench repeat CASE SIDE COUNT: one side of one case, for a profiler
-bench table times|cold|instructions|boundary|small FOLDER: a table from a folder of figures
+bench table NAME FOLDER: a table from a folder of figures: times, cold, instructions, boundary or small
 bench plot FOLDER
 bench fill DOCUMENT FOLDER: the document with the tables of the figures";
 
@@ -74,14 +75,19 @@ fn table(name: &str, folder: &str) -> Result<String, String> {
         "instructions" => Figures::counts(folder).map(|counts| report::instructions(&counts)),
         "boundary" => Figures::counts(folder).map(|counts| report::boundary(&counts)),
         "small" => Figures::counts(folder).map(|counts| report::small(&counts)),
+        // What the scripts wrote down of the machine, of callgrind and of the date.
+        "measured" | "counted" => {
+            let path = Path::new(folder).join(name);
+            fs::read_to_string(&path).map_err(|e| format!("{}: {e}", path.display()))
+        }
         _ => Err(USAGE.into()),
     }
 }
 
 fn fill(document: &str, folder: &str) -> Result<String, String> {
     let text = fs::read_to_string(document).map_err(|e| format!("{document}: {e}"))?;
-    let names = ["instructions", "times", "cold", "boundary", "small"];
-    names.into_iter().try_fold(text, |text, name| {
+    let tables = ["counted", "instructions", "boundary", "small", "measured", "times", "cold"];
+    tables.into_iter().try_fold(text, |text, name| {
         document::filled(&text, name, &table(name, folder)?)
             .ok_or(format!("{document}: no place for the table {name}"))
     })

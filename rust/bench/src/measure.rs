@@ -1,4 +1,4 @@
-//! Times of the cases: rounds in which all sides run one after another, and of each side the least of its rounds.
+//! Times of the cases: rounds in which all sides run one after another, and of each side the least of its rounds or the median.
 
 use std::time::Instant;
 
@@ -9,6 +9,8 @@ use crate::work::{Side, Work};
 const ROUNDS: usize = 150;
 /// A side's turn in a round lasts at least this long, in nanoseconds.
 const TURN: f64 = 40_000.0;
+/// Where the median counts, a turn is of many guards.
+const LONG_TURN: f64 = 400_000.0;
 
 /// Nanoseconds for each repetition, by side and round; none where the case has no such side.
 type Times = [Vec<f64>; Side::TIMED.len()];
@@ -21,20 +23,20 @@ fn time(work: &mut dyn Work, side: Side, count: u64) -> Option<f64> {
 }
 
 /// How many repetitions last for a turn. An even number, so that both kernel tables come equally often.
-fn repetitions(work: &mut dyn Work) -> u64 {
+fn repetitions(work: &mut dyn Work, turn: f64) -> u64 {
     let mut count = 2;
     loop {
         let each = Side::TIMED.iter().filter_map(|&side| time(work, side, count));
-        let least = each.min_by(f64::total_cmp).unwrap_or(TURN);
-        if least * count as f64 >= TURN {
+        let least = each.min_by(f64::total_cmp).unwrap_or(turn);
+        if least * count as f64 >= turn {
             return count;
         }
         count *= 2;
     }
 }
 
-fn times(work: &mut dyn Work) -> Times {
-    let count = repetitions(work);
+fn times(work: &mut dyn Work, turn: f64) -> Times {
+    let count = repetitions(work, turn);
     let mut times = Times::default();
     for _ in 0..ROUNDS {
         for (times, side) in times.iter_mut().zip(Side::TIMED) {
@@ -49,7 +51,8 @@ pub fn figures(cases: &[Case]) -> Figures {
     let mut figures = Figures::default();
     for case in cases {
         let mut work = (case.prepare)();
-        let times = times(&mut *work);
+        let turn = if case.of == Of::Median { LONG_TURN } else { TURN };
+        let times = times(&mut *work, turn);
         assert!(work.agree(), "{}: archive and reference differ", case.name);
         for (mut times, side) in times.into_iter().zip(Side::TIMED) {
             times.sort_by(f64::total_cmp);

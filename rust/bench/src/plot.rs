@@ -129,13 +129,17 @@ fn panel(number: usize, call: Growth, times: &Times) -> String {
         let points = SIZES.into_iter().filter_map(|v| Some((x + across(v), y + down(time(v)?))));
         svg += &stroke(line, &points.collect::<Vec<_>>());
     }
-    // The times at the largest V, where no line goes.
+    // The times at the largest V, where no line goes, with no grid behind them.
+    let (left, top) = (x + DRAWN.0 - 168.0, y + DRAWN.1 - 50.0);
+    svg += &format!(
+        "<rect x=\"{left:.1}\" y=\"{top:.1}\" width=\"167\" height=\"49\" fill=\"white\"/>\n"
+    );
     let largest = SIZES[SIZES.len() - 1];
     for (place, line) in LINES.iter().enumerate() {
         let Some(time) = times.worst(&call.case(largest), line.side) else { continue };
         let at = y + DRAWN.1 - 8.0 - 15.0 * place as f64;
         let attributes = format!("text-anchor=\"end\" font-size=\"11\" fill=\"{}\"", line.colour);
-        let name = line.words.split(' ').next().unwrap_or_default();
+        let name = line.words.split(" of ").next().unwrap_or_default();
         let words = format!("{name} at V {largest}: {time:.0} ns");
         svg += &text(x + DRAWN.0 - 6.0, at, &attributes, &words);
     }
@@ -158,11 +162,11 @@ fn legend() -> String {
         "changes between two synchronisations.",
         "A cost that grows with V rises one",
         "decade in 3.3 doublings.",
-        "memcpy: source and target leave the",
-        "first cache between V 512 and 1024.",
+        "memcpy rises faster where source and",
+        "target do not fit into the first cache.",
     ];
     for (place, note) in notes.into_iter().enumerate() {
-        svg += &text(x, y + 120.0 + 18.0 * place as f64, "font-size=\"12\"", note);
+        svg += &text(x, y + 112.0 + 18.0 * place as f64, "font-size=\"12\"", note);
     }
     svg
 }

@@ -33,12 +33,15 @@ fn above(figure: impl Fn(&str, Side) -> Option<f64>, cases: &[Case]) -> String {
     let ratios = cases.iter().filter_map(|case| Some((ratio(case)?, &case.name)));
     let mut above: Vec<_> = ratios.filter(|(ratio, _)| *ratio >= 1.005).collect();
     above.sort_by(|(one, _), (other, _)| other.total_cmp(one));
-    let named: Vec<_> = above.iter().map(|(ratio, name)| format!("{name} ({ratio:.2})")).collect();
     let (count, all) = (above.len(), cases.len());
-    if named.is_empty() {
+    if above.is_empty() {
         return format!("\nNo line of {all} is above 1.00 of Rust on runs.\n");
     }
-    format!("\n{count} of {all} lines are above 1.00 of Rust on runs: {}.\n", named.join("; "))
+    let mut text = format!("\n**{count} of {all} lines are above 1.00 of Rust on runs:**\n");
+    for (ratio, name) in above {
+        text += &format!("- {name}: {ratio:.2}\n");
+    }
+    text
 }
 
 /// Times: of each side the worst place, with the best beside it.
