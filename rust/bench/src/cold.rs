@@ -8,13 +8,13 @@ const GUARDS: usize = 2048;
 /// A call on one guard after another.
 pub struct Cold<W> {
     guards: Vec<W>,
-    /// The guard that each side is at. They are apart, so that none finds what another has just read.
+    /// The guard that each side is at. They are apart, so that none finds kernel tables that another has just read.
     next: [usize; Side::ALL.len()],
 }
 
-/// The guard that a side begins at.
+/// The guard that a side begins at: a quarter of them apart, since there are four sides.
 fn begin(side: usize) -> usize {
-    side * GUARDS / Side::ALL.len()
+    side % 4 * (GUARDS / 4)
 }
 
 impl<W: Work + Clone> Cold<W> {

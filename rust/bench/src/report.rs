@@ -26,6 +26,14 @@ fn whole(count: Option<f64>) -> String {
     count.map_or("-".into(), |count| format!("{count:.0}"))
 }
 
+fn signed(more: Option<f64>) -> String {
+    more.map_or("-".into(), |more| format!("{more:+.0}"))
+}
+
+fn less(of: Option<f64>, than: Option<f64>) -> Option<f64> {
+    of.zip(than).map(|(of, than)| of - than)
+}
+
 /// The lines whose ratio to the reference on runs is above 1.00, as printed, the largest first.
 fn above(figure: impl Fn(&str, Side) -> Option<f64>, cases: &[Case]) -> String {
     let ratio =
@@ -173,12 +181,10 @@ pub fn boundary(counts: &Figures) -> String {
     let stepped = cases.iter().filter(|case| counts.get(&case.name, Side::Lengths).is_some());
     let lines = stepped.map(|Case { name, .. }| {
         let count = |side| counts.get(name, side);
-        let more = |of, than| count(of).zip(count(than)).map(|(of, than)| of - than);
-        let signed = |more: Option<f64>| more.map_or("-".into(), |more| format!("{more:+.0}"));
         let mut line = vec![name.clone(), whole(count(Side::Reference))];
-        line.extend(way.windows(2).map(|step| signed(more(step[1], step[0]))));
+        line.extend(way.windows(2).map(|step| signed(less(count(step[1]), count(step[0])))));
         line.extend([whole(count(Side::OnRuns)), whole(count(Side::Archive))]);
-        line.push(signed(more(Side::Archive, Side::Reference)));
+        line.push(signed(less(count(Side::Archive), count(Side::Reference))));
         line
     });
     table(&head, lines)
@@ -197,43 +203,61 @@ pub fn small(counts: &Figures) -> String {
         "the rest, with what is written",
         "in all",
     ];
-    let sides = [Side::Archive, Side::OnRuns, Side::Reference];
-    let rows = Small::ALL.into_iter().flat_map(|call| sides.map(|side| (call, side)));
-    let lines = rows.map(|(call, side)| {
-        let count = |rung: Rung| counts.get(&rung.case(call), side);
-        // The number that is asked last.
-        let numbers = Rung::NUMBERS.into_iter().filter_map(count).max_by(f64::total_cmp);
-        let rungs = [
-            count(Rung::Lengths),
-            count(Rung::Words),
-            numbers,
-            count(Rung::Tables),
-            count(Rung::Accepted),
-        ];
-        let mut line = vec![call.words().into(), side_words(side).into()];
-        let mut before = None;
-        for (place, rung) in rungs.into_iter().enumerate() {
-            line.push(match (before, rung) {
-                (Some(before), Some(rung)) => format!("{:+.0}", rung - before),
-                // A side without runs has only the sum.
-                (None, Some(_)) if place > 0 => "-".into(),
-                _ => whole(rung),
-            });
-            if place == 2 {
-                line.push(whole(rung));
-            }
-            before = rung.or(before);
-        }
-        line.push(whole(count(Rung::Accepted)));
-        line
+    let lines = Small::ALL.into_iter().flat_map(|call| {
+        let [archive, on_runs, plain] = [Side::Archive, Side::OnRuns, Side::Reference]
+            .map(|side| Rungs::of(call, |case| counts.get(case, side)));
+        let less = vec!["-".into(), "-".into(), "-".into()]
+            .into_iter()
+            .chain(archive.ends().zip(plain.ends()).map(|(of, than)| signed(less(of, than))));
+        [
+            ("archive", archive.cells()),
+            ("Rust on runs", on_runs.cells()),
+            ("Rust", plain.cells()),
+            ("archive less Rust", less.collect()),
+        ]
+        .map(|(side, cells)| [vec![call.words().into(), side.into()], cells].concat())
     });
     table(&head, lines)
 }
 
-fn side_words(side: Side) -> &'static str {
-    match side {
-        Side::Archive => "archive",
-        Side::OnRuns => "Rust on runs",
-        _ => "Rust",
+/// The counts of one call and side, by what is wrong.
+struct Rungs {
+    lengths: Option<f64>,
+    words: Option<f64>,
+    /// For the number of the state that is asked last.
+    numbers: Option<f64>,
+    tables: Option<f64>,
+    accepted: Option<f64>,
+}
+
+impl Rungs {
+    fn of(call: Small, count: impl Fn(&str) -> Option<f64>) -> Rungs {
+        let count = |rung: Rung| count(&rung.case(call));
+        Rungs {
+            lengths: count(Rung::Lengths),
+            words: count(Rung::Words),
+            numbers: Rung::NUMBERS.into_iter().filter_map(count).max_by(f64::total_cmp),
+            tables: count(Rung::Tables),
+            accepted: count(Rung::Accepted),
+        }
+    }
+
+    /// Up to the numbers of the state, then what is more, and all.
+    fn ends(&self) -> impl Iterator<Item = Option<f64>> {
+        let Rungs { numbers, tables, accepted, .. } = *self;
+        [numbers, less(tables, numbers), less(accepted, tables), accepted].into_iter()
+    }
+
+    fn cells(&self) -> Vec<String> {
+        let Rungs { lengths, words, numbers, tables, accepted } = *self;
+        vec![
+            whole(lengths),
+            signed(less(words, lengths)),
+            signed(less(numbers, words)),
+            whole(numbers),
+            signed(less(tables, numbers)),
+            signed(less(accepted, tables)),
+            whole(accepted),
+        ]
     }
 }
