@@ -65,6 +65,8 @@ pub fn pending_in_range(pages: u64, frames: u64, pending: Pending) -> bool
     }
 }
 
+// The state's part of question 7. Each part has a way out, so that the compiler asks once what the boundary and a call below it both ask; the number of devices
+// comes before e, which is the order of the fewest instructions.
 pub fn state_in_order(s: State) -> bool
     ensures { λ r. ⌜ r ≡ stateInOrder s ⌝ }
 {
@@ -76,13 +78,13 @@ pub fn state_in_order(s: State) -> bool
     if !frames_in_range(s.frames) {
         return false;
     }
+    if !devices_in_range(s.devices) {
+        return false;
+    }
     if !entry_count_in_range(s.entry_count) {
         return false;
     }
     if s.pages <= running(mode) {
-        return false;
-    }
-    if !devices_in_range(s.devices) {
         return false;
     }
     pending_in_range(s.pages, s.frames, pending)

@@ -11,13 +11,13 @@ returns-2 : tie.Need-returns-2
 returns-2 c = search (needs, frames-no)
 
 returns-3 : tie.Need-returns-3
-returns-3 c = search (needs, entries-no)
+returns-3 c = search (needs, devices-no)
 
 returns-4 : tie.Need-returns-4
-returns-4 c = search (needs, running-no)
+returns-4 c = search (needs, entries-no)
 
 returns-5 : tie.Need-returns-5
-returns-5 c = search (needs, devices-no)
+returns-5 c = search (needs, running-no)
 
 returns-6 : tie.Need-returns-6
 returns-6 c = search (needs, pair-decides)
