@@ -65,47 +65,14 @@ sums a o entry h =
     total : (f t c w u n : ℕ) → f + (t + c) + (w + u) + 1 + n ≡ 2 ^ 0 + w + u + t + c + f + n
     total f t c w u n = omega arith
 
--- Each part of the sum fits 64 bits beside those before it.
-pub frame-small : (entry : ℕ) (e : Entry) (x : Fields) → e ≡ takenApart entry → e ≡ Present x → x .frame < 2 ^ 40
-unfolding fieldsOf frameOf
-frame-small entry e x apart p = rw (← (fields-apart entry x (sym apart ∙ p))) (omega arith)
-
-pub frame-fits : (f : ℕ) → f < 2 ^ 40 → f * 2 ^ 12 < 2 ^ 64
-frame-fits f h = omega arith
-
-pub caches-fit : (f t : ℕ) → f < 2 ^ 40 → f * 2 ^ 12 + t % 4 * 2 ^ 3 < 2 ^ 64
-caches-fit f t h = omega arith
-
-pub rights-fit : (f t r : ℕ) → f < 2 ^ 40 → f * 2 ^ 12 + t % 4 * 2 ^ 3 + r % 4 * 2 < 2 ^ 64
-rights-fit f t r h = omega arith
-
-pub present-fits : (f t r : ℕ) → f < 2 ^ 40 → f * 2 ^ 12 + t % 4 * 2 ^ 3 + r % 4 * 2 + 1 < 2 ^ 64
-present-fits f t r h = omega arith
-
-pub top-fits : (any entry : ℕ) → any < 2 ^ 64 → entry < 2 ^ 64 → bitOr any entry / 2 ^ 63 * 2 ^ 63 < 2 ^ 64
-top-fits any entry h l = let o : bitOr any entry < 2 ^ 64 = or-lt 64 any entry h l in omega arith
-
-pub whole-fits : (f t r any entry : ℕ) → f < 2 ^ 40 → any < 2 ^ 64 → entry < 2 ^ 64
-    → f * 2 ^ 12 + t % 4 * 2 ^ 3 + r % 4 * 2 + 1 + bitOr any entry / 2 ^ 63 * 2 ^ 63 < 2 ^ 64
-whole-fits f t r any entry k h l =
-    let o : bitOr any entry < 2 ^ 64 = or-lt 64 any entry h l in
-    let top : bitOr any entry / 2 ^ 63 ≤ 1 = omega arith in
-    omega arith
-
--- The flat entry of a last entry that is present, and of one that is not.
-module _ (all any entry : ℕ) (e : Entry) (apart : e ≡ takenApart entry) where
-  pub flat-absent : e ≡ Absent → 0 ≡ lastFlat (rightsBy all any) (takenApart entry)
-  unfolding lastFlat
-  flat-absent p = rw (← apart, p)
-
-  pub flat-present : (x : Fields) → any < 2 ^ 64 → entry < 2 ^ 64 → e ≡ Present x
-      → x .frame * 2 ^ 12 + entry / 2 ^ 3 % 4 * 2 ^ 3 + bitAnd all entry / 2 % 4 * 2 + 1 + bitOr any entry / 2 ^ 63 * 2 ^ 63
-      ≡ lastFlat (rightsBy all any) (takenApart entry)
-  unfolding lastFlat fieldsOf
-  flat-present x l m p =
-      let same : fieldsOf entry ≡ x = fields-apart entry x (sym apart ∙ p) in
-      let top : bitOr any entry < 2 ^ 64 = or-lt 64 any entry l m in
-      rw (← apart, p, ← same, gathered-by 1 all any entry refl) (sums (bitAnd all entry) (bitOr any entry) entry top)
+-- The flat entry of a last entry that is present.
+flat-present : (all any entry : ℕ) → any < 2 ^ 64 → entry < 2 ^ 64 → takenApart entry ≡ Present (fieldsOf entry)
+    → frameOf entry * 2 ^ 12 + entry / 2 ^ 3 % 4 * 2 ^ 3 + bitAnd all entry / 2 % 4 * 2 + 1 + bitOr any entry / 2 ^ 63 * 2 ^ 63
+    ≡ lastFlat (rightsBy all any) (takenApart entry)
+unfolding lastFlat fieldsOf
+flat-present all any entry l m there =
+    let top : bitOr any entry < 2 ^ 64 = or-lt 64 any entry l m in
+    rw (there, gathered-by 1 all any entry refl) (sums (bitAnd all entry) (bitOr any entry) entry top)
 
 -- The flat entry of a valid last entry: bit 63 is set beside what it was, and below it stand the frame and the low bits.
 pub flat-made : (all any entry : ℕ) → any < 2 ^ 64 → entry < 2 ^ 64 → valid entry ≡ true
@@ -123,7 +90,7 @@ flat-made all any entry l m fits =
     let zeros : any / 2 ^ 63 * 2 ^ 63 ≡ any / 2 ^ 63 * 2 ^ 63 + 0 = omega arith in
     let top : bitOr (entry / 2 ^ 63) (any / 2 ^ 63) ≡ bitOr any entry / 2 ^ 63 = or-comm (entry / 2 ^ 63) (any / 2 ^ 63) ∙ sym (or-shr any entry 63) in
     ap₂ bitOr split zeros ∙ or-block 63 (entry / 2 ^ 63) (any / 2 ^ 63) low 0 small (omega arith) ∙ ap₂ (λ (a b : ℕ). a * 2 ^ 63 + b) top (or-zero-r low)
-    ∙ swap (bitOr any entry / 2 ^ 63 * 2 ^ 63) low ∙ flat-present all any entry (takenApart entry) refl (fieldsOf entry) l m there
+    ∙ swap (bitOr any entry / 2 ^ 63 * 2 ^ 63) low ∙ flat-present all any entry l m there
   where
     pieces : (e t r : ℕ) → e % 2 ≡ 1 → e / 2 ^ 52 % 2 ^ 11 ≡ 0
         → e / 2 ^ 12 * 2 ^ 12 + t * 2 ^ 3 + r * 2 + e % 2 ≡ e / 2 ^ 63 * 2 ^ 63 + (e / 2 ^ 12 % 2 ^ 40 * 2 ^ 12 + t * 2 ^ 3 + r * 2 + 1)
@@ -294,7 +261,7 @@ module _ (all any entry : ℕ) (l : any < 2 ^ 64) (m : entry < 2 ^ 64) where
       let parts : (entry % 2 ≡ 1) × (entry / 2 ^ 52 % 2 ^ 11 ≡ 0) = valid-parts entry (present-valid entry (fieldsOf entry) there) in
       let flat : ℕ = frameOf entry * 2 ^ 12 + entry / 2 ^ 3 % 4 * 2 ^ 3 + bitAnd all entry / 2 % 4 * 2 + 1 + bitOr any entry / 2 ^ 63 * 2 ^ 63 in
       let o : bitOr any entry < 2 ^ 64 = or-lt 64 any entry l m in
-      let same : flat ≡ lastFlat (rightsBy all any) (takenApart entry) = flat-present all any entry (takenApart entry) refl (fieldsOf entry) l m there in
+      let same : flat ≡ lastFlat (rightsBy all any) (takenApart entry) = flat-present all any entry l m there in
       let d =
       flat-digits (frameOf entry) (entry / 2 ^ 3 % 4) (bitAnd all entry / 2 % 4) (bitOr any entry / 2 ^ 63) (omega arith) (omega arith) (omega arith)
       (omega arith) in

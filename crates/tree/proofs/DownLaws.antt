@@ -14,7 +14,7 @@ use Rattle.model.specs.declared.Entry.{Entry}
 use Rattle.model.specs.declared.Entry.the-variants.{Absent, Present}
 use Rattle.model.specs.declared.Fields.{Fields}
 use Rattle.model.specs.Basics.{both, bit, flag}
-use Rattle.model.specs.Bits.{valid, fieldsOf, takenApart}
+use Rattle.model.specs.Bits.{valid, takenApart}
 use Rattle.model.specs.Tree.{tablesIn, placeAbove, Rights, gathered, flatEntry, largeEntry, Tree, treeOf, Walk, ending, meeting, onward, walkFrom, walkOf}
 use Rattle.model.specs.Tree.{flatAt, readsAt}
 use Rattle.laws.proofs.BitLaws.{present-valid, fields-apart}
