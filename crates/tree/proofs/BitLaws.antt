@@ -60,7 +60,8 @@ sums a o entry h =
     let rights : a / 2 % 4 * 2 ≡ a / 2 ^ 1 % 2 * 2 ^ 1 + a / 2 ^ 2 % 2 * 2 ^ 2 = omega arith in
     let top : o / 2 ^ 63 * 2 ^ 63 ≡ o / 2 ^ 63 % 2 * 2 ^ 63 = omega arith in
     rw (weight 1 a, weight 2 a, weight 3 entry, weight 4 entry, weight 63 o, caches, rights, top)
-    (total (frameOf entry * 2 ^ 12) (entry / 2 ^ 3 % 2 * 2 ^ 3) (entry / 2 ^ 4 % 2 * 2 ^ 4) (a / 2 ^ 1 % 2 * 2 ^ 1) (a / 2 ^ 2 % 2 * 2 ^ 2) (o / 2 ^ 63 % 2 * 2 ^ 63))
+    (total (frameOf entry * 2 ^ 12) (entry / 2 ^ 3 % 2 * 2 ^ 3) (entry / 2 ^ 4 % 2 * 2 ^ 4) (a / 2 ^ 1 % 2 * 2 ^ 1) (a / 2 ^ 2 % 2 * 2 ^ 2)
+    (o / 2 ^ 63 % 2 * 2 ^ 63))
   where
     total : (f t c w u n : ℕ) → f + (t + c) + (w + u) + 1 + n ≡ 2 ^ 0 + w + u + t + c + f + n
     total f t c w u n = omega arith

@@ -102,7 +102,8 @@ module _ (words : List ℕ) (page all any number count : ℕ) where
   follows level e = onward level page (rightsBy all any) (met words page level number) (λ these next. walkFrom words page (level - 1) these next) e
 
   module _ (h : number < length words / 512) where
-    meets : (level : ℕ) → 1 ≤ level → (e : Entry) → e ≡ takenApart (met words page level number) → walkWord (follows level e) + (count + 2 ^ 5) ≡ word level + count
+    meets : (level : ℕ) → 1 ≤ level → (e : Entry) → e ≡ takenApart (met words page level number)
+        → walkWord (follows level e) + (count + 2 ^ 5) ≡ word level + count
     unfolding walkFrom tablesIn placeAbove meeting walkWord
     meets zero l e apart = absurd (omega arith)
     meets (suc lower) l e apart =
@@ -178,7 +179,8 @@ module _ (words : List ℕ) (page all any number count : ℕ) where
             unfolding onward both bit largeEntry gathered
             word-large f aligned made =
                 let rest = rw (there, not-1, is-2, not-3, on, eq-eqb (x .frame % 512) 0 aligned) at (meets level low e apart) in
-                ap (λ (n : ℕ). n + page % 512 * 2 ^ 12 + (count + 2 ^ 5)) (last-entry f made) ∙ ap (λ (n : ℕ). n + (count + 2 ^ 5)) (added _ x (x .frame) (page % 512))
+                ap (λ (n : ℕ). n + page % 512 * 2 ^ 12 + (count + 2 ^ 5)) (last-entry f made)
+                ∙ ap (λ (n : ℕ). n + (count + 2 ^ 5)) (added _ x (x .frame) (page % 512))
                 ∙ rest
 
 -- The bits of a page's number and of a depth.

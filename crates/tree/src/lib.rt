@@ -80,11 +80,9 @@ fn flat(all: u64, any: u64, entry: u64) -> u64
     requires { ⌜ valid entry ≡ true ⌝ }
     ensures { λ r. ⌜ r ≡ lastFlat (rightsBy all any) (takenApart entry) ⌝ }
 {
-    entry / FRAME * FRAME
-        + entry / WRITE_THROUGH % 4 * WRITE_THROUGH
-        + (all & entry) / WRITABLE % 4 * WRITABLE
-        + entry % 2
-        | any / entry::NO_EXECUTE * entry::NO_EXECUTE
+    let rights = (all & entry) / WRITABLE % 4 * WRITABLE;
+    let top = any / entry::NO_EXECUTE * entry::NO_EXECUTE;
+    entry / FRAME * FRAME + entry / WRITE_THROUGH % 4 * WRITE_THROUGH + rights + entry % 2 | top
 }
 
 // A last entry narrowed to the rights that the entries above leave: the same entry with other bits 1, 2 and 63. It is taken apart as the flat entry is,
@@ -142,25 +140,25 @@ fn part_from(run: &&[u64], page: u64, level: u32, all: u64, any: u64, number: u6
         → walkFrom (now (now (run .entry))) p level (rightsBy all any) number .flat ≡ flatIn (now (now (run .entry))) (partBy r) p) ⌝ }
 {
     let words = *run;
-    if words.len() as u64 / ENTRIES <= number {
+    let tables = words.len() as u64 / ENTRIES;
+    if tables <= number {
         return 0;
     }
     if level == 1 {
         return table_word(all, any, number);
     }
-    let place = (page >> PLACE_BITS * (level - 1)) % ENTRIES;
-    let entry = words[(number * ENTRIES + place) as usize];
-    let Entry::Present(x) = entry::take_apart(entry) else {
+    let upper = words[(number * ENTRIES + (page >> PLACE_BITS * (level - 1)) % ENTRIES) as usize];
+    let Entry::Present(x) = entry::take_apart(upper) else {
         return 0;
     };
     if level == 2 {
-        if entry / LARGE % 2 == 0 {
-            return part_from(run, page, 1, all & entry, any | entry, x.frame);
+        if upper / LARGE % 2 == 0 {
+            return part_from(run, page, 1, all & upper, any | upper, x.frame);
         }
         if x.frame % ENTRIES != 0 {
             return 0;
         }
-        return entry;
+        return upper;
     }
     // "at level 3 these three bits do not count"
     part_from(run, page, 2, all, any, x.frame)

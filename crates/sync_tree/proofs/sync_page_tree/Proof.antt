@@ -35,8 +35,10 @@ returns-4 c =
     let seventeen = nine .before .before in
     let seven = seventeen .before .before in
     page-tree-accepted _ _ _ _ _ _ _ _ (seven .before .three-tables-in-order .ensures) (seven .if1 .left) _ (seventeen .before .in-order .ensures)
-    (seventeen .if2 .left) _ _ (nine .before .page-exists .ensures) _ _ _ _ _ _ _ (nine .if3 .left) (c .before .before .before .before .before .before .before .before .in-user .ensures)
-    (c .before .before .before .before .before .before .before .pending-frame .ensures) (c .before .before .before .before .before .before .before .before .before .word-of .ensures) (c .before .before .before .before .sync-at .ensures .0)
+    (seventeen .if2 .left) _ _ (nine .before .page-exists .ensures) _ _ _ _ _ _ _ (nine .if3 .left)
+    (c .before .before .before .before .before .before .before .before .in-user .ensures)
+    (c .before .before .before .before .before .before .before .pending-frame .ensures)
+    (c .before .before .before .before .before .before .before .before .before .word-of .ensures) (c .before .before .before .before .sync-at .ensures .0)
 
 pub sync-page-tree-spec : {M : Type 1} → statement M
 sync-page-tree-spec =

@@ -13,28 +13,42 @@ reaches-requires : tie.Need-reaches-requires
 reaches-requires c κs = depth-most _ _ _ (c .before .pre)
 
 returns : tie.Need-returns
-returns c =
-    (tt, too-many-bits _ _ _ _ (depth-least _ _ _ (c .before .before .before .pre)) (depth-most _ _ _ (c .before .before .before .pre)) _ _ (many-bits-asked _ _ (depth-most _ _ _ (c .before .before .before .pre)) _ (c .before .reaches .ensures) (c .if1 .taken)))
+returns c = (
+  tt,
+  too-many-bits _ _ _ _ (depth-least _ _ _ (c .before .before .before .pre)) (depth-most _ _ _ (c .before .before .before .pre)) _ _
+      (many-bits-asked _ _ (depth-most _ _ _ (c .before .before .before .pre)) _ (c .before .reaches .ensures) (c .if1 .taken)),
+)
 
 returns-2 : tie.Need-returns-2
 returns-2 c =
     let inside = root-in _ _ _ (c .before .before .before .before .pre) in
-    let few = few-bits-asked _ _ (depth-most _ _ _ (c .before .before .before .before .pre)) _ (c .before .before .reaches .ensures) (c .before .if1 .left) in
-    (table-sound _ _ inside, from-root _ _ _ _ (depth-least _ _ _ (c .before .before .before .before .pre)) (depth-most _ _ _ (c .before .before .before .before .pre)) _ _ few (alike-same _ _ refl refl) (gives-table _ _ _ _ _ _ (c .if2 .taken) inside))
+    let few = few-bits-asked _ _ (depth-most _ _ _ (c .before .before .before .before .pre)) _ (c .before .before .reaches .ensures) (c .before .if1 .left) in (
+      table-sound _ _ inside,
+      from-root _ _ _ _ (depth-least _ _ _ (c .before .before .before .before .pre))
+          (depth-most _ _ _ (c .before .before .before .before .pre)) _ _ few (alike-same _ _ refl refl) (gives-table _ _ _ _ _ _ (c .if2 .taken) inside),
+    )
 
 cast-part-from : tie.Need-cast-part-from
 cast-part-from c = omega (arith, depth-most _ _ _ (c .before .before .before .before .before .pre))
 
 part-from-requires : tie.Need-part-from-requires
-part-from-requires c κs =
-    (depth-least _ _ _ (c .before .before .before .before .before .pre), depth-most _ _ _ (c .before .before .before .before .before .pre), (λ l. (refl, refl)), omega arith)
+part-from-requires c κs = (
+  depth-least _ _ _ (c .before .before .before .before .before .pre),
+  depth-most _ _ _ (c .before .before .before .before .before .pre),
+  (λ l. (refl, refl)),
+  omega arith,
+)
 
 returns-3 : tie.Need-returns-3
 returns-3 c =
     let alike = c .part-in .ensures in
     let walked = c .before .part-from .ensures in
-    let few = few-bits-asked _ _ (depth-most _ _ _ (c .before .before .before .before .before .before .before .pre)) _ (c .before .before .before .before .before .reaches .ensures) (c .before .before .before .before .if1 .left) in
-    (alike .1 _ (walked .0), from-root _ _ _ _ (depth-least _ _ _ (c .before .before .before .before .before .before .before .pre)) (depth-most _ _ _ (c .before .before .before .before .before .before .before .pre)) _ _ few alike (walked .1))
+    let few = few-bits-asked _ _ (depth-most _ _ _ (c .before .before .before .before .before .before .before .pre)) _
+    (c .before .before .before .before .before .reaches .ensures) (c .before .before .before .before .if1 .left) in (
+      alike .1 _ (walked .0),
+      from-root _ _ _ _ (depth-least _ _ _ (c .before .before .before .before .before .before .before .pre))
+          (depth-most _ _ _ (c .before .before .before .before .before .before .before .pre)) _ _ few alike (walked .1),
+    )
 
 pub part-of-spec : {M : Type 1} → statement M
 part-of-spec =

@@ -16,10 +16,16 @@ cast-walk-from : tie.Need-cast-walk-from
 cast-walk-from c = omega (arith, depth-most _ _ _ (c .before .before .before .before .pre))
 
 walk-from-requires : tie.Need-walk-from-requires
-walk-from-requires c κs = (depth-least _ _ _ (c .before .before .before .before .pre), omega (arith, depth-most _ _ _ (c .before .before .before .before .pre)), omega arith)
+walk-from-requires c κs = (
+  depth-least _ _ _ (c .before .before .before .before .pre),
+  omega
+      (arith, depth-most _ _ _ (c .before .before .before .before .pre)),
+  omega arith,
+)
 
 returns-2 : tie.Need-returns-2
-returns-2 c = word-walked _ _ _ _ (depth-most _ _ _ (c .before .before .before .before .before .pre)) _ (c .before .before .before .reaches .ensures) (c .before .before .if1 .left) _ (c .walk-from .ensures)
+returns-2 c = word-walked _ _ _ _ (depth-most _ _ _ (c .before .before .before .before .before .pre)) _ (c .before .before .before .reaches .ensures)
+    (c .before .before .if1 .left) _ (c .walk-from .ensures)
 
 pub walk-down-spec : {M : Type 1} → statement M
 walk-down-spec =
