@@ -74,8 +74,8 @@ pub fn in_order(words: &[u64], root: u64, depth: u64) -> bool
     root < length / ENTRIES
 }
 
-// The flat entry of a valid last entry: its present bit, cache bits and frame, writable and user where all have them, no-execute where any has it. A valid
-// entry has nothing between its frame and bit 63. `% 4` takes two bits that stand side by side.
+// The flat entry of a last entry: its present bit, cache bits and frame, writable and user where all have them, no-execute where any has it. It asks for a
+// valid entry, which has nothing between its frame and bit 63. `% 4` takes two bits that stand side by side.
 fn flat(all: u64, any: u64, entry: u64) -> u64
     requires { ⌜ valid entry ≡ true ⌝ }
     ensures { λ r. ⌜ r ≡ lastFlat (rightsBy all any) (takenApart entry) ⌝ }
@@ -95,7 +95,7 @@ pub fn narrow(all: u64, any: u64, entry: u64) -> u64
 }
 
 // A part in one word, which the recursion can return in a register: 0 where it is absent, the entry of a large page, whose rights are its own and which is
-// the last, and else this word of a table.
+// the last, and else this word of a table. It asks for a number that has room: one of the run has.
 fn table_word(all: u64, any: u64, number: u64) -> u64
     requires { ⌜ number < 2 ^ 52 ⌝ }
     ensures { λ r. ⌜ Alike (record { below = Table number; all = all; any = any }) (partBy r) ⌝ }
@@ -164,7 +164,7 @@ fn part_from(run: &&[u64], page: u64, level: u32, all: u64, any: u64, number: u6
     part_from(run, page, 2, all, any, x.frame)
 }
 
-// "A page whose number needs more bits than the depth has is absent".
+// "A page whose number needs more bits than the depth has is absent". It asks for a depth that question 17 has let pass, so that a number has those bits.
 fn reaches(depth: u64, page: u64) -> bool
     requires { ⌜ depth ≤ 3 ⌝ }
     ensures { λ r. ⌜ r ≡ ltb page (2 ^ (9 * depth)) ⌝ }
@@ -196,9 +196,9 @@ pub fn part_of(words: &[u64], root: u64, depth: u64, page: u64) -> Part
 }
 
 // The walk from a level down, in the table with this number, by the rights gathered above it: the flat entry, with the count of entries read in bits 5
-// and 6, where a flat entry has nothing. `count`: what was read above, in its place. None are gathered above level 2. The run is behind a reference and
-// the levels stand as numbers so that the compiler makes straight code of the recursion: a slice would be copied at each call. Such a slice's length has no
-// bound of its own, and is asked for.
+// and 6, where a flat entry has nothing. `count`: those read above, in its place; it asks that with one at each level they are three at most.
+// The run is behind a reference, and the levels stand as numbers, so that the compiler makes straight code of the recursion: a slice would be copied, and its
+// copy passed by address, at each call. The length of a slice behind a reference has no bound, so that it is asked for: every slice of words has it.
 fn walk_from(
     run: &&[u64],
     page: u64,
