@@ -2,3 +2,4 @@
 mod RunLaws
 mod SourceLaws
 mod TreeLaws
+mod TableLaws

@@ -212,6 +212,56 @@ fn sync_parts(
     counts
 }
 
+// Every page from a tree of depth 1, which has no rights above its table, where no page lies past the table: a part of the words is its flat table.
+fn sync_table(
+    rules: Rules,
+    exclusion: &[u8],
+    words: &[u64],
+    root: u64,
+    shadow: &mut [u64],
+    map: &mut [u16],
+) -> Counts
+    requires { ⌜ (treeInOrder (treeOf (now words) root 1) ≡ true) × (length (now shadow) ≤ 512) × (length (now map) ≡ length (now shadow))
+        × (length (now exclusion) ≡ vectorBytes (rules .frames)) ⌝ }
+    ensures { λ r. ⌜ sweep (now (shadow .exit)) (now (map .exit)) (r .changed) (r .joined)
+        ≡ sweepFrom (stepFrom (rulesIn rules (now (exclusion .entry))) (flatAt (treeOf (now (words .entry)) root 1))) 0
+        (now (shadow .entry)) (now (map .entry)) ⌝ }
+{
+    let first = root as usize * PART;
+    let table = &words[first..first + shadow.len()];
+    sync::sync_flat(
+        rules.user,
+        rules.frames,
+        rules.pending,
+        exclusion,
+        table,
+        shadow,
+        map,
+    )
+}
+
+// Every page from a tree.
+fn sync_pages(
+    rules: Rules,
+    exclusion: &[u8],
+    words: &[u64],
+    root: u64,
+    depth: u64,
+    shadow: &mut [u64],
+    map: &mut [u16],
+) -> Counts
+    requires { ⌜ (treeInOrder (treeOf (now words) root depth) ≡ true) × (length (now map) ≡ length (now shadow))
+        × (length (now exclusion) ≡ vectorBytes (rules .frames)) ⌝ }
+    ensures { λ r. ⌜ sweep (now (shadow .exit)) (now (map .exit)) (r .changed) (r .joined)
+        ≡ sweepFrom (stepFrom (rulesIn rules (now (exclusion .entry))) (flatAt (treeOf (now (words .entry)) root depth))) 0
+        (now (shadow .entry)) (now (map .entry)) ⌝ }
+{
+    if (depth == 1) & (shadow.len() <= PART) {
+        return sync_table(rules, exclusion, words, root, shadow, map);
+    }
+    sync_parts(rules, exclusion, words, root, depth, shadow, map)
+}
+
 // Synchronise one page from a tree.
 pub fn sync_page_tree(
     s: State,
@@ -285,6 +335,6 @@ pub fn sync_all_tree(
         frames: s.frames,
         pending: state::pending_frame(pending),
     };
-    let all = sync_parts(rules, exclusion, words, root, depth, shadow, map);
+    let all = sync_pages(rules, exclusion, words, root, depth, shadow, map);
     Answer::Done(all.changed, all.joined)
 }

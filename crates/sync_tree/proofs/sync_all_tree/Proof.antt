@@ -10,8 +10,8 @@ returns c = search (needs, all-tree-7)
 returns-2 : tie.Need-returns-2
 returns-2 c = search (needs, all-tree-17)
 
-sync-parts-requires : tie.Need-sync-parts-requires
-sync-parts-requires c κs = (
+sync-pages-requires : tie.Need-sync-pages-requires
+sync-pages-requires c κs = (
   tree-yes _ _ _ _ (c .before .before .before .before .before .in-order .ensures) (c .before .before .before .before .if2 .left),
   tree-map _ _ _ _ _ (c .before .before .before .before .before .before .before .three-tables-in-order .ensures)
       (c .before .before .before .before .before .before .if1 .left),
@@ -28,4 +28,4 @@ pub sync-all-tree-spec : {M : Type 1} → statement M
 sync-all-tree-spec =
     tie.close
     (tie.spec (λ c κs. search needs) returns (λ c κs. search needs) returns-2 (λ c κs. search needs)
-    (λ c κs. search needs) sync-parts-requires (λ c. search needs) (λ c. search needs) returns-3)
+    (λ c κs. search needs) sync-pages-requires (λ c. search needs) (λ c. search needs) returns-3)
