@@ -222,7 +222,7 @@ fn sync_table(
     map: &mut [u16],
 ) -> Counts
     requires { ⌜ (treeInOrder (treeOf (now words) root 1) ≡ true) × (length (now shadow) ≤ 512) × (length (now map) ≡ length (now shadow))
-        × (length (now exclusion) ≡ vectorBytes (rules .frames)) ⌝ }
+        × (length (now exclusion) ≡ vectorBytes (rules .frames)) × (rules .frames ≤ 4096) ⌝ }
     ensures { λ r. ⌜ sweep (now (shadow .exit)) (now (map .exit)) (r .changed) (r .joined)
         ≡ sweepFrom (stepFrom (rulesIn rules (now (exclusion .entry))) (flatAt (treeOf (now (words .entry)) root 1))) 0
         (now (shadow .entry)) (now (map .entry)) ⌝ }
@@ -251,7 +251,7 @@ fn sync_pages(
     map: &mut [u16],
 ) -> Counts
     requires { ⌜ (treeInOrder (treeOf (now words) root depth) ≡ true) × (length (now map) ≡ length (now shadow))
-        × (length (now exclusion) ≡ vectorBytes (rules .frames)) ⌝ }
+        × (length (now exclusion) ≡ vectorBytes (rules .frames)) × (rules .frames ≤ 4096) ⌝ }
     ensures { λ r. ⌜ sweep (now (shadow .exit)) (now (map .exit)) (r .changed) (r .joined)
         ≡ sweepFrom (stepFrom (rulesIn rules (now (exclusion .entry))) (flatAt (treeOf (now (words .entry)) root depth))) 0
         (now (shadow .entry)) (now (map .entry)) ⌝ }
