@@ -28,12 +28,21 @@ pub fn test_bit(exclusion: &[u8], frame: u64) -> bool
     }
 }
 
+// The bit of a frame that has a byte in the vector set, as `test_bit_within` reads it.
+pub fn set_bit_within(exclusion: &mut [u8], frame: u64)
+    requires { ⌜ frame / 8 < length (now exclusion) ⌝ }
+    ensures { λ _. ⌜ now (exclusion .exit) ≡ withBit true (now (exclusion .entry)) frame ⌝ }
+{
+    let at = (frame / 8) as usize;
+    exclusion[at] = exclusion[at] | 1 << (frame % 8);
+}
+
 pub fn set_bit(exclusion: &mut [u8], frame: u64)
     ensures { λ _. ⌜ now (exclusion .exit) ≡ withBit true (now (exclusion .entry)) frame ⌝ }
 {
     let at = (frame / 8) as usize;
     if at < exclusion.len() {
-        exclusion[at] = exclusion[at] | 1 << (frame % 8);
+        set_bit_within(exclusion, frame);
     }
 }
 
