@@ -4,7 +4,7 @@
 
 ghost use mathlib.Core.Path.{_≡_};
 ghost use mathlib.Core.Bool.{true};
-ghost use Prim.Native.Nat.{_+_, _*_, _<_, _≤_, _^_, min};
+ghost use Prim.Native.Nat.{_+_, _*_, _<_, _≤_, min};
 ghost use lib.Dec.{leb, ltb};
 ghost use lib.ListN.{length};
 ghost use Rattle.model.specs.Basics.{both, within};
@@ -48,7 +48,7 @@ struct Taken<'a> {
     rest: Reader<'a>,
 }
 
-// Both bytes are there.
+// Both bytes are there: questions 1 and 4 have settled that, so the place past them is a `usize` too.
 fn take<'a>(r: Reader<'a>) -> Taken<'a>
     requires { ⌜ r .at + 1 < length (now (r .src)) ⌝ }
     ensures { λ t. ⌜ (t .number ≡ numberAt (now (r .entry .src)) (r .entry .at))
@@ -167,13 +167,13 @@ pub fn frame_below(frames: u16, frame: u16) -> bool
     frame < frames
 }
 
-// Whether question 5 is a yes, and how far the reader of the pages has come then.
+// Whether question 5 is a yes, and how far the reader of the pages has come where it is.
 struct PagesAsked {
     rising: bool,
     at: usize,
 }
 
-// Question 5, of the count pages from a place on. Question 4 has shown what is required.
+// Question 5, of the count pages from where the reader of the sizes stopped. Question 4 has shown what is required.
 fn pages_rising(bytes: &[u8], from: usize, pages: u16, count: u16) -> PagesAsked
     requires { ⌜ from + 2 * count ≤ length (now bytes) ⌝ }
     ensures { λ r. ⌜ (r .rising ≡ rising pages 0 (numbersAt (now (bytes .entry)) from count)) × (r .rising ≡ true → r .at ≡ from + 2 * count) ⌝ }
@@ -193,7 +193,7 @@ fn pages_rising(bytes: &[u8], from: usize, pages: u16, count: u16) -> PagesAsked
     PagesAsked { rising: true, at }
 }
 
-// Question 6, of the count frames from a place on, where the pages end. Question 4 has shown what is required.
+// Question 6, of the count frames from where the reader of the pages stopped. Question 4 has shown what is required.
 fn frames_below(bytes: &[u8], from: usize, frames: u16, count: u16) -> bool
     requires { ⌜ from + 2 * count ≤ length (now bytes) ⌝ }
     ensures { λ r. ⌜ r ≡ allBelow frames (numbersAt (now (bytes .entry)) from count) ⌝ }
