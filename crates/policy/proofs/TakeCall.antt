@@ -118,12 +118,11 @@ module _ {M : Type 1} (𝓤 : URA M) (H : Heap 𝓤) (A : Atoms 𝓤) (W : Given
       qed W (‵ (B (κ, tt) .own r (u ∷ [])) ∷ (‵ (flft κ q) ⊛ ‵ ftrue) ∷ []) ∵ says ! h $ nothing ! $ move ! (1 ∷ 0 ∷ []) $ fjoin ! $ move !
       (1 ∷ 0 ∷ []) $ frame ! $ done !
 
-  take-said : (r : Reader) (t : Taken) → ent 𝓤 (ensured 𝓤 H A take.ended (take.clauses 𝓤 H A mem run) (κ, tt) (r, tt) tt t) (fact 𝓤 (Took r t))
-  take-said r t = exE 𝓤 _ (λ ws. snd∗ 𝓤 (sem 𝓤 H A (lasts take.ended (κ, tt) (r, tt) ws)) (fact 𝓤 (Took r t)))
-
-  pub read-said : (n : ℕ) (r : Reader) (t : Taken) → Stands s n r
+  -- the two walks show what `take` says, so that a promise which its code does not keep is refused at its own walk first
+  pub read-said : (n : ℕ) (r : Reader) (t : Taken)
+      → ent 𝓤 (ensured 𝓤 H A take.ended (take.clauses 𝓤 H A mem run) (κ, tt) (r, tt) tt t) (fact 𝓤 (Took r t)) → Stands s n r
       → ent 𝓤 (ensured 𝓤 H A take.ended (take.clauses 𝓤 H A mem run) (κ, tt) (r, tt) tt t) (fact 𝓤 (Read s n t))
-  read-said n r t e = via 𝓤 (fact 𝓤 (Took r t)) (take-said r t) (fact-mono 𝓤 (Took r t) (Read s n t) (read s n r e t))
+  read-said n r t said e = via 𝓤 (fact 𝓤 (Took r t)) said (fact-mono 𝓤 (Took r t) (Read s n t) (read s n r e t))
 
   -- what a `Taken` owns says its machine value, which is well formed, and gives what its reader owns
   abbrev pub Lies : Taken → Val → Type 0
