@@ -66,7 +66,7 @@ fn set_listed(bytes: &[u8], from: usize, count: u16, shadow: &mut [u64], map: &m
     }
 }
 
-// The exclusion bits of the listed frames, into a vector. Question 4 has shown what is required.
+// The exclusion bits of the listed frames, into a vector. `from` is where the reader of the sizes stopped; question 4 has shown what else is required.
 fn gather(bytes: &[u8], from: usize, count: u16, vector: &mut [u8])
     requires { ⌜ (from ≡ 8) × (8 + 4 * count ≤ length (now bytes)) ⌝ }
     ensures { λ _. ⌜ now (vector .exit) ≡ withEach (numbersAt (now (bytes .entry)) (8 + 2 * count) count) (now (vector .entry)) ⌝ }
@@ -120,7 +120,8 @@ fn set_vector(bytes: &[u8], sizes: Sizes, exclusion: &mut [u8])
     copy_front(&buffer, exclusion);
 }
 
-// Question 3 has bounded the entries by sixteen, the array's length, and question 4 has put the pages inside the record.
+// The entry pages, from where the reader of the sizes stopped. Question 3 has bounded the entries by sixteen, the array's length, and question 4 has
+// put the pages inside the record.
 fn entry_pages(bytes: &[u8], from: usize, entry_count: u16) -> [u64; ENTRY_PAGES]
     requires { ⌜ (from ≡ 8) × («entry_count» ≤ 16) × (8 + 2 * «entry_count» ≤ length (now bytes)) ⌝ }
     ensures { λ r. ⌜ r ≡ entryTable (now (bytes .entry)) «entry_count» ⌝ }
