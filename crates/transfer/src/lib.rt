@@ -40,11 +40,15 @@ fn device_write_refusal(
     requires { ⌜ (lib.ListN.length (now exclusion) ≡ vectorBytes frames) × (frames ≤ 4096) ⌝ }
     ensures { λ r. ⌜ r ≡ firstNo (deviceWriteQuestions (transferView listed frames (now (exclusion .entry))) listed window device address length) ⌝ }
 {
+    // The device is looked at first, so that each of both questions has a branch of its own; 8 is answered before 18 all the same.
+    if listed as u64 <= device {
+        if !limits::device_length(length) {
+            return 8;
+        }
+        return 18;
+    }
     if !limits::device_length(length) {
         return 8;
-    }
-    if listed as u64 <= device {
-        return 18;
     }
     if !limits::transfer_exists(address, length, frames) {
         return 9;
