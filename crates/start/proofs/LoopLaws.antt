@@ -1,5 +1,5 @@
 -- Laws of the start's loops, a step and the end of each: a table filled, bytes copied, places set, frames excluded, entry pages read.
-use Prim.Native.Nat.{ℕ, suc, _+_, _-_, _*_, _≤_, _<_}
+use Prim.Native.Nat.{ℕ, suc, _+_, _-_, _*_, _/_, _≤_, _<_}
 use mathlib.Core.Bool.{Bool, true, false, cond}
 use mathlib.Core.List.{List, _∷_, _++_, append-nil}
 use mathlib.Core.Path.{_≡_, refl, sym, ap, _∙_}
@@ -71,6 +71,13 @@ module _ (bytes : List ℕ) (pageAt left page : ℕ) (read : page ≡ numberAt b
           rw made
           (rw (numbers-front bytes pageAt left page pageAfter read moved more, numbers-front bytes frameAt left frame frameAfter frameRead frameMoved more)
           at e)
+
+-- A frame below 4,096 has a byte in the buffer, and what is left of the frames is below it too.
+pub frame-inside : (bytes : List ℕ) (at left frame : ℕ) (m n : ℕ) → frame ≡ numberAt bytes at → 0 < left → allBelow 4096 (numbersAt bytes at left) ≡ true
+    → m ≡ n → n ≡ 512 → frame / 8 < m
+frame-inside bytes at left frame m n read more h e d =
+    let below : frame < 4096 = allBelow-head 4096 frame _ (rw (numbers-front bytes at left frame (at + 2) read refl more) at h) in
+    omega arith
 
 pub listed-end : (bytes : List ℕ) (at left : ℕ) (values t whole : List ℕ) → left ≤ 0 → storedEach (numbersAt bytes at left) values t ≡ whole → t ≡ whole
 unfolding storedEach

@@ -82,16 +82,12 @@ module _ (given : Givens) (bytes : List ℕ) (l : Lengths) (question : ℕ) (ask
   long : length bytes ≡ 8 + 4 * policyOf bytes .count
   long = record-length given bytes (policyOf bytes) 0 (sym (start-record given bytes (policyOf bytes) l none)) refl
 
-  pub pages-ready : (count place : ℕ) → count ≡ numberAt bytes 4 → place ≡ 8
+  pub tables-ready : (count place : ℕ) → count ≡ numberAt bytes 4 → place ≡ 8
       → (count ≡ numberAt bytes 4) × (place ≡ 8) × (length bytes ≡ 8 + 4 * policyOf bytes .count) × (l .shadow ≡ policyOf bytes .pages)
-      × (l .map ≡ policyOf bytes .pages)
+      × (l .map ≡ policyOf bytes .pages) × (l .exclusion ≡ vectorBytes (policyOf bytes .frames)) × (policyOf bytes .frames ≤ 4096)
       × (allBelow (policyOf bytes .pages) (policyOf bytes .listedPages) ≡ true) × (allBelow 4096 (policyOf bytes .listedFrames) ≡ true)
-  pages-ready count place eN eA = (eN, eA, long, fitting .shadow, fitting .map, passed .pages-below, frames-small)
-
-  pub vector-ready : (count place : ℕ) → count ≡ numberAt bytes 4 → place ≡ 8
-      → (count ≡ numberAt bytes 4) × (place ≡ 8) × (length bytes ≡ 8 + 4 * policyOf bytes .count) × (l .exclusion ≡ vectorBytes (policyOf bytes .frames))
-      × (policyOf bytes .frames ≤ 4096) × (allBelow 4096 (policyOf bytes .listedFrames) ≡ true)
-  vector-ready count place eN eA = (eN, eA, long, fitting .exclusion, passed .frames-high, frames-small)
+  tables-ready count place eN eA =
+      (eN, eA, long, fitting .shadow, fitting .map, fitting .exclusion, passed .frames-high, passed .pages-below, frames-small)
 
   pub answer-ready : (count entries place : ℕ) → count ≡ numberAt bytes 4 → entries ≡ numberAt bytes 6 → place ≡ 8
       → (pages ≡ numberAt bytes 0) × (frames ≡ numberAt bytes 2) × (count ≡ numberAt bytes 4) × (entries ≡ numberAt bytes 6) × (place ≡ 8)

@@ -106,6 +106,9 @@ module _ (bytes : List ℕ) (count : ℕ) (read : count ≡ numberAt bytes 4) wh
       → allBelow (length t) (numbersAt bytes 8 count) ≡ true
   pages-inside t t₀ e l h = rw (pages-are, e, l) h
 
+  pub frames-inside : allBelow 4096 (policyOf bytes .listedFrames) ≡ true → allBelow 4096 (numbersAt bytes (8 + 2 * count) count) ≡ true
+  frames-inside h = rw frames-are h
+
   pub shadow-is : (t t′ : List ℕ) (n : ℕ) → n ≡ policyOf bytes .pages → allBelow 4096 (policyOf bytes .listedFrames) ≡ true → t ≡ replicate n 0
       → t′ ≡ storedEach (numbersAt bytes 8 count) (approvedEach (numbersAt bytes (8 + 2 * count) count)) t → t′ ≡ startTables (policyOf bytes) .shadow
   unfolding startTables approvalFor

@@ -40,15 +40,24 @@ fn clear_map(map: &mut [u16])
     }
 }
 
-// The listed places of both tables, by a reader of the pages, from where that of the sizes stopped, and one of the frames behind them. Question 4
-// has put every number inside the record and question 5 every listed page inside the tables, so no index is tested again.
-fn set_listed(bytes: &[u8], from: usize, count: u16, shadow: &mut [u64], map: &mut [u16])
+// The listed places of both tables and the exclusion bits of the listed frames, in one loop: by a reader of the pages, from where that of the sizes
+// stopped, and one of the frames behind them. Question 4 has put every number inside the record, question 5 every listed page inside the tables, and
+// questions 2 and 6 every listed frame inside a vector of 4,096 bits, so no index is tested again.
+fn set_listed(
+    bytes: &[u8],
+    from: usize,
+    count: u16,
+    shadow: &mut [u64],
+    map: &mut [u16],
+    vector: &mut [u8],
+)
     requires { ⌜ (from ≡ 8) × (8 + 4 * count ≤ length (now bytes)) × (allBelow (length (now shadow)) (numbersAt (now bytes) 8 count) ≡ true)
-        × (length (now map) ≡ length (now shadow)) ⌝ }
+        × (length (now map) ≡ length (now shadow)) × (allBelow 4096 (numbersAt (now bytes) (8 + 2 * count) count) ≡ true) × (length (now vector) ≡ 512) ⌝ }
     ensures { λ _. ⌜ (now (shadow .exit) ≡ storedEach (numbersAt (now (bytes .entry)) 8 count)
         (approvedEach (numbersAt (now (bytes .entry)) (8 + 2 * count) count)) (now (shadow .entry)))
         × (now (map .exit) ≡ storedEach (numbersAt (now (bytes .entry)) 8 count)
-        (numbersAt (now (bytes .entry)) (8 + 2 * count) count) (now (map .entry))) ⌝ }
+        (numbersAt (now (bytes .entry)) (8 + 2 * count) count) (now (map .entry)))
+        × (now (vector .exit) ≡ withEach (numbersAt (now (bytes .entry)) (8 + 2 * count) count) (now (vector .entry))) ⌝ }
 {
     let mut page_at = from;
     let mut frame_at = from + 2 * count as usize;
@@ -60,23 +69,9 @@ fn set_listed(bytes: &[u8], from: usize, count: u16, shadow: &mut [u64], map: &m
         let frame = named.number;
         shadow[page] = shadow_entry::approved(false, frame);
         map[page] = frame;
+        bitmap::set_bit_within(vector, frame as u64);
         page_at = listed.at;
         frame_at = named.at;
-        left -= 1;
-    }
-}
-
-// The exclusion bits of the listed frames, into a vector. `from` is where the reader of the sizes stopped; question 4 has shown what else is required.
-fn gather(bytes: &[u8], from: usize, count: u16, vector: &mut [u8])
-    requires { ⌜ (from ≡ 8) × (8 + 4 * count ≤ length (now bytes)) ⌝ }
-    ensures { λ _. ⌜ now (vector .exit) ≡ withEach (numbersAt (now (bytes .entry)) (8 + 2 * count) count) (now (vector .entry)) ⌝ }
-{
-    let mut at = from + 2 * count as usize;
-    let mut left = count;
-    while 0 < left {
-        let frame = policy::next_number(bytes, at);
-        bitmap::set_bit(vector, frame.number as u64);
-        at = frame.at;
         left -= 1;
     }
 }
@@ -93,30 +88,22 @@ fn copy_front(from: &[u8], to: &mut [u8])
     }
 }
 
-// Shadow table and map. Questions 4 to 7 have shown what is required, of the sizes that were read.
-fn set_pages(bytes: &[u8], sizes: Sizes, shadow: &mut [u64], map: &mut [u16])
+// The three tables. The exclusion bits are gathered in a buffer with room for 4,096 frames, and copied. Questions 2 and 4 to 7 have shown what is required,
+// of the sizes that were read.
+fn set_tables(bytes: &[u8], sizes: Sizes, shadow: &mut [u64], map: &mut [u16], exclusion: &mut [u8])
     requires { ⌜ (sizes .count ≡ numberAt (now bytes) 4) × (sizes .at ≡ 8) × (length (now bytes) ≡ 8 + 4 * policyOf (now bytes) .count)
         × (length (now shadow) ≡ policyOf (now bytes) .pages) × (length (now map) ≡ policyOf (now bytes) .pages)
+        × (length (now exclusion) ≡ vectorBytes (policyOf (now bytes) .frames)) × (policyOf (now bytes) .frames ≤ 4096)
         × (allBelow (policyOf (now bytes) .pages) (policyOf (now bytes) .listedPages) ≡ true)
         × (allBelow 4096 (policyOf (now bytes) .listedFrames) ≡ true) ⌝ }
     ensures { λ _. ⌜ (now (shadow .exit) ≡ startTables (policyOf (now (bytes .entry))) .shadow)
-        × (now (map .exit) ≡ startTables (policyOf (now (bytes .entry))) .map) ⌝ }
+        × (now (map .exit) ≡ startTables (policyOf (now (bytes .entry))) .map)
+        × (now (exclusion .exit) ≡ startTables (policyOf (now (bytes .entry))) .exclusion) ⌝ }
 {
     clear_shadow(shadow);
     clear_map(map);
-    set_listed(bytes, sizes.at, sizes.count, shadow, map);
-}
-
-// The exclusion vector. The bits are gathered in a buffer with room for 4,096 frames, and copied.
-// Questions 2, 4, 6 and 7 have shown what is required.
-fn set_vector(bytes: &[u8], sizes: Sizes, exclusion: &mut [u8])
-    requires { ⌜ (sizes .count ≡ numberAt (now bytes) 4) × (sizes .at ≡ 8) × (length (now bytes) ≡ 8 + 4 * policyOf (now bytes) .count)
-        × (length (now exclusion) ≡ vectorBytes (policyOf (now bytes) .frames))
-        × (policyOf (now bytes) .frames ≤ 4096) × (allBelow 4096 (policyOf (now bytes) .listedFrames) ≡ true) ⌝ }
-    ensures { λ _. ⌜ now (exclusion .exit) ≡ startTables (policyOf (now (bytes .entry))) .exclusion ⌝ }
-{
     let mut buffer = [0u8; VECTOR_BYTES];
-    gather(bytes, sizes.at, sizes.count, &mut buffer);
+    set_listed(bytes, sizes.at, sizes.count, shadow, map, &mut buffer);
     copy_front(&buffer, exclusion);
 }
 
@@ -204,7 +191,6 @@ pub fn start(
     ) {
         return refused_start(7);
     }
-    set_pages(bytes, sizes, shadow, map);
-    set_vector(bytes, sizes, exclusion);
+    set_tables(bytes, sizes, shadow, map, exclusion);
     accepted_start(bytes, sizes, devices)
 }
