@@ -24,16 +24,16 @@ use Rattle.start.specs.Start.{refusedStart, acceptedStart, entryTable, w
 use Rattle.start.proofs.TablesSet.{entries-are, first-is, each-length}
 
 -- The answer of an accepted start, made of the numbers that were read.
-pub accepted-is : (given : Givens) (bytes : List ℕ) (count entries pages frames first devices : ℕ) (entry : List ℕ) → count ≡ numberAt bytes 4
-    → entries ≡ numberAt bytes 6
-    → entry ≡ entryTable bytes entries → pages ≡ numberAt bytes 0 → frames ≡ numberAt bytes 2 → first ≡ getD entry 0 0
+pub accepted-is : (given : Givens) (bytes : List ℕ) (count entries pages frames place first devices : ℕ) (entry : List ℕ) → count ≡ numberAt bytes 4
+    → entries ≡ numberAt bytes 6 → entry ≡ entryTable bytes entries → pages ≡ numberAt bytes 0 → frames ≡ numberAt bytes 2 → place ≡ 8
+    → first ≡ numberAt bytes place
     → policyOf bytes .entryCount ≤ policyOf bytes .count → 1 ≤ policyOf bytes .entryCount → devices ≡ given .devices
     → _≡_ {A = Called}
     (record { answer = Done count entries; state = record { pages = pages; frames = frames; «entry_count» = entries; «entry_pages» = entry; mode = Kernel first; devices = devices; pending = Nothing } })
     (acceptedStart given bytes)
 unfolding acceptedStart startState policyOf
-accepted-is given bytes count entries pages frames first devices entry n e t v f p listed some d =
-    let running : first ≡ getD (policyOf bytes .listedPages) 0 0 = p ∙ (rw t refl ∙ first-is bytes entries e some listed) in
+accepted-is given bytes count entries pages frames place first devices entry n e t v f eight p listed some d =
+    let running : first ≡ getD (policyOf bytes .listedPages) 0 0 = (rw eight at p) ∙ first-is bytes (omega arith) in
     rw (running, t, entries-are bytes entries e listed, n, e, v, f, d) refl
 
 -- The buffer is as long as every vector, whatever it began with.

@@ -142,9 +142,7 @@ entries-are bytes entries e h = rw e (table-same 16 _ _ (λ i below. at i (ltb i
         rw t (sym (getD-numbersAt bytes 8 (numberAt bytes 4) i (omega arith)))
     at i false t = rw t refl
 
--- The first of the entry pages read is the first listed page, where there is one.
-pub first-is : (bytes : List ℕ) (entries : ℕ) → entries ≡ numberAt bytes 6 → 1 ≤ policyOf bytes .entryCount → policyOf bytes .entryCount ≤ policyOf bytes .count
-    → getD (entryTable bytes entries) 0 0 ≡ getD (policyOf bytes .listedPages) 0 0
-unfolding policyOf entryTable
-first-is bytes entries e some listed =
-    getD-table 16 _ 0 0 (omega arith) ∙ (rw (lt-ltb 0 entries (omega arith)) (sym (getD-numbersAt bytes 8 (numberAt bytes 4) 0 (omega arith))))
+-- The first listed page is the number behind the sizes.
+pub first-is : (bytes : List ℕ) → 1 ≤ policyOf bytes .count → numberAt bytes 8 ≡ getD (policyOf bytes .listedPages) 0 0
+unfolding policyOf
+first-is bytes h = sym (getD-numbersAt bytes 8 (numberAt bytes 4) 0 h)

@@ -152,6 +152,7 @@ fn accepted_start(bytes: &[u8], sizes: Sizes, devices: u64) -> Called
     ensures { λ r. ⌜ r ≡ acceptedStart (givenOf devices) (now (bytes .entry)) ⌝ }
 {
     let entry_count = sizes.entry_count;
+    let first = policy::next_number(bytes, sizes.at);
     let pages = entry_pages(bytes, sizes.at, entry_count);
     Called {
         answer: Answer::Done(sizes.count as u64, entry_count as u64),
@@ -160,7 +161,7 @@ fn accepted_start(bytes: &[u8], sizes: Sizes, devices: u64) -> Called
             frames: sizes.frames as u64,
             entry_count: entry_count as u64,
             entry_pages: pages,
-            mode: Mode::Kernel(pages[0]),
+            mode: Mode::Kernel(first.number as u64),
             devices,
             pending: Pending::Nothing,
         },

@@ -1,3 +1,4 @@
+-- The state is made of the sizes, the first page behind them and the entry pages.
 use Rattle.model.specs.Policy.{policyOf}
 use Rattle.start.proofs.StartLaws.{accepted-is}
 use borrow.Author.Needs.{needs}
@@ -14,5 +15,5 @@ returns c = search (needs, accepted-is)
 pub accepted-start-spec : {M : Type 1} → statement M
 accepted-start-spec =
     tie.close
-    (tie.spec entry-pages-requires (λ c. search needs) (λ c. search needs) (λ c. search needs) (λ c. search needs)
-    (λ c. search needs) (λ c. search needs) returns)
+    (tie.spec (λ c κs. search needs) entry-pages-requires (λ c. search needs) (λ c. search needs) (λ c. search needs)
+    (λ c. search needs) (λ c. search needs) (λ c. search needs) returns)

@@ -1,3 +1,4 @@
+-- The listed places and bits, and then the copy of the buffer.
 use borrow.Author.Needs.{needs}
 use Rattle.start.proofs.StartLaws.{buffer-room}
 use Rattle.start.proofs.TablesSet.{numbers-inside, pages-inside, frames-inside, shadow-is, map-is, vector-is}

@@ -1,3 +1,4 @@
+-- Refused by the record, refused by question 7, or accepted: every need is of the sizes that were read.
 use borrow.Author.Needs.{needs}
 use Rattle.model.specs.Questions.{lengths}
 use Rattle.start.proofs.StartLaws.{sizes-there, tables-ready, answer-ready, record-refuses, lengths-refuse, start-accepts}
