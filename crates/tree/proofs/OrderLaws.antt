@@ -8,6 +8,7 @@ use lib.Dec.{ltb}
 use lib.ListN.{length}
 use borrow.Author.Tests.{eq-eqb, ne-eqb, lt-leb, ltb-true, not-false}
 use Rattle.model.specs.Basics.{both, within}
+use Rattle.model.specs.Bits.{takenApart}
 use Rattle.model.specs.declared.Answer.{Answer}
 use Rattle.model.specs.declared.Answer.the-variants.{Done, Refused}
 use Rattle.model.specs.Tree.{Tree, treeOf, tablesIn, treeInOrder, flatAt, readsAt}
@@ -48,6 +49,17 @@ module _ (words : List ℕ) (root depth : ℕ) where
     unfolding treeInOrder tablesIn
     root-in = ltb-true root (length words / 512) (both-second _ _ (both-second _ _ fits))
 
+    -- By the number that its depth is.
+    pub third-left : (depth ≡ 1 → ⊥) → (depth ≡ 2 → ⊥) → depth ≡ 3
+    third-left not-1 not-2 = omega (arith, depth-least, depth-most, not-1, not-2)
+
+    pub order-at : (d : ℕ) → depth ≡ d → treeInOrder (treeOf words root d) ≡ true
+    order-at d same = rw (← same) fits
+
+    pub apart-at : (page d r : ℕ) → depth ≡ d → takenApart r ≡ takenApart (flatAt (treeOf words root d) page)
+        → takenApart r ≡ takenApart (flatAt (treeOf words root depth) page)
+    apart-at page d r same apart = rw same apart
+
 -- The walk as a call: refused with 7, with 17, and accepted.
 module _ (fit : Bool) (tree : Tree) (page : ℕ) where
   pub walk-7 : not fit ≡ true → replyOf (Refused 7) ≡ walkReply fit tree page
@@ -67,13 +79,10 @@ module _ (fit : Bool) (tree : Tree) (page : ℕ) where
 -- A tree in order, by the number that its depth is.
 module _ (words : List ℕ) (root depth : ℕ) (r : Bool) (asked : r ≡ treeInOrder (treeOf words root depth)) (passes : not r ≡ false) where
   pub third-depth : (depth ≡ 1 → ⊥) → (depth ≡ 2 → ⊥) → depth ≡ 3
-  third-depth not-1 not-2 =
-      let least : 1 ≤ depth = depth-least words root depth (sym asked ∙ not-false r passes) in
-      let most : depth ≤ 3 = depth-most words root depth (sym asked ∙ not-false r passes) in
-      omega (arith, least, most, not-1, not-2)
+  third-depth = third-left words root depth (sym asked ∙ not-false r passes)
 
   pub order-by : (d : ℕ) → depth ≡ d → treeInOrder (treeOf words root d) ≡ true
-  order-by d same = rw (← same) (sym asked ∙ not-false r passes)
+  order-by = order-at words root depth (sym asked ∙ not-false r passes)
 
   pub walk-by : (fit : Bool) (page d : ℕ) → not fit ≡ false → depth ≡ d → (a : Answer)
       → a ≡ Done (flatAt (treeOf words root d) page) (readsAt (treeOf words root d) page) → replyOf a ≡ walkReply fit (treeOf words root depth) page

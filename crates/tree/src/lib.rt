@@ -238,7 +238,7 @@ fn walk_from(
 }
 
 // An entry that is taken apart as the flat entry of a page is: a synchronisation asks no more. It asks for a tree that question 17 has let pass.
-pub fn word_of(words: &[u64], root: u64, depth: u64, page: u64) -> u64
+fn word_at(words: &[u64], root: u64, depth: u64, page: u64) -> u64
     requires { ⌜ treeInOrder (treeOf (now words) root depth) ≡ true ⌝ }
     ensures { λ r. ⌜ takenApart r ≡ takenApart (flatAt (treeOf (now (words .entry)) root depth) page) ⌝ }
 {
@@ -246,6 +246,20 @@ pub fn word_of(words: &[u64], root: u64, depth: u64, page: u64) -> u64
         return 0;
     }
     walk_from(&words, page, depth as u32, EVERY_BIT, 0, root, 0)
+}
+
+// The same, by the number that the depth is: each depth then has straight code of its own, and the compiler makes no call of it.
+pub fn word_of(words: &[u64], root: u64, depth: u64, page: u64) -> u64
+    requires { ⌜ treeInOrder (treeOf (now words) root depth) ≡ true ⌝ }
+    ensures { λ r. ⌜ takenApart r ≡ takenApart (flatAt (treeOf (now (words .entry)) root depth) page) ⌝ }
+{
+    if depth == 1 {
+        return word_at(words, root, 1, page);
+    }
+    if depth == 2 {
+        return word_at(words, root, 2, page);
+    }
+    word_at(words, root, 3, page)
 }
 
 // The walk of a page in a tree that question 17 has let pass.

@@ -1,32 +1,28 @@
--- 0 for a page with too many bits, or the word of the walk from the root.
-use native.Mathlib.Omega.{arith}
-use Rattle.tree.proofs.OrderLaws.{depth-least, depth-most}
-use Rattle.tree.proofs.DownLaws.{none-apart, word-apart}
+-- The word by the number that the depth is.
+use Rattle.tree.proofs.OrderLaws.{third-left, order-at, apart-at}
+use borrow.Author.Needs.{needs}
 use Rattle.tree.proofs.word_of.Statement.{statement}
 use Rattle.tree.proofs.word_of.Tie as tie
 
-reaches-requires : tie.Need-reaches-requires
-reaches-requires c κs = depth-most _ _ _ (c .before .pre)
+word-at-requires : tie.Need-word-at-requires
+word-at-requires c κs = search (needs, order-at)
 
 returns : tie.Need-returns
-returns c = none-apart _ _ _ _ (depth-most _ _ _ (c .before .before .before .pre)) _ (c .before .reaches .ensures) (c .if1 .taken)
+returns c = search (needs, apart-at)
 
-cast-walk-from : tie.Need-cast-walk-from
-cast-walk-from c = omega (arith, depth-most _ _ _ (c .before .before .before .before .pre))
-
-walk-from-requires : tie.Need-walk-from-requires
-walk-from-requires c κs = (
-  depth-least _ _ _ (c .before .before .before .before .pre),
-  omega
-      (arith, depth-most _ _ _ (c .before .before .before .before .pre)),
-  omega arith,
-)
+word-at-requires-2 : tie.Need-word-at-requires-2
+word-at-requires-2 c κs = search (needs, order-at)
 
 returns-2 : tie.Need-returns-2
-returns-2 c = word-apart _ _ _ _ (depth-most _ _ _ (c .before .before .before .before .before .pre)) _ (c .before .before .before .reaches .ensures)
-    (c .before .before .if1 .left) _ (c .walk-from .ensures)
+returns-2 c = search (needs, apart-at)
+
+word-at-requires-3 : tie.Need-word-at-requires-3
+word-at-requires-3 c κs = search (needs, order-at, third-left)
+
+returns-3 : tie.Need-returns-3
+returns-3 c = search (needs, apart-at, third-left)
 
 pub word-of-spec : {M : Type 1} → statement M
 word-of-spec =
     tie.close
-    (tie.spec reaches-requires returns cast-walk-from walk-from-requires returns-2)
+    (tie.spec word-at-requires returns word-at-requires-2 returns-2 word-at-requires-3 returns-3)
