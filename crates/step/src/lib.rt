@@ -21,7 +21,8 @@ struct Slot {
     approval: u16,
 }
 
-// Whether the pending frame has its bit in the vector, as one that was asked for has (K6), or is none below F, as 65535 is.
+// Whether the pending frame has its bit in the vector, as one that was asked for has (K6), or is none below F, as 65535 is. The vector has a bit for each frame
+// below F, as question 7 has settled.
 pub fn is_marked(frames: u64, pending: u64, exclusion: &[u8]) -> bool
     requires { ⌜ length (now exclusion) ≡ vectorBytes frames ⌝ }
     ensures { λ r. ⌜ r ≡ isMarked frames pending (now (exclusion .entry)) ⌝ }
@@ -33,8 +34,8 @@ pub fn is_marked(frames: u64, pending: u64, exclusion: &[u8]) -> bool
 }
 
 // Steps 3 to 5 on a valid kernel entry with this frame, of a page that has no number in the map, with the pending frame, or 65535, which no frame below F
-// is (K6). The vector has a bit for each frame below F, and F is in its range, as question 7 has settled. Where the pending frame is known to be marked, a frame without its bit is
-// not compared with it.
+// is (K6). The vector has a bit for each frame below F, and F is in its range, as question 7 has settled. Where the pending frame is known to be marked, a
+// frame without its bit is not compared with it.
 fn unapproved(
     marked: bool,
     user: bool,
@@ -110,7 +111,7 @@ pub struct Counts {
     pub joined: u64,
 }
 
-// Counts a value that changed. It compiles without a branch.
+// Counts a value that changed, without a branch. There is room for one more: no more are counted than pages.
 fn counted(old: u64, new: u64, changed: u64) -> u64
     requires { ⌜ changed < 2 ^ 63 ⌝ }
     ensures { λ r. ⌜ (r ≡ changed + differs old new) × (r ≤ changed + 1) ⌝ }
