@@ -26,11 +26,10 @@
  * guard_refusal). Its two numbers go to the numbers run, a run of GUARD_NUMBERS words: 0 and 0 where it is refused.
  * A refused call changes nothing else: the state run, every table, a list of devices and a buffer stay as they were.
  *
- * The state run and the numbers run are part of question 7. A state run that has not GUARD_STATE_WORDS words, a V, F, e, running
- * page or number of devices in it that is out of its range, at whichever of its 64 bits, a mode word that is neither
- * GUARD_MODE_KERNEL nor GUARD_MODE_USER, a pending word that is neither 0 nor 1, with 1 there a pending page that is not below V or
- * a pending frame that is not below F, or a numbers run that has not GUARD_NUMBERS words gives 7. So does a state run of an older version, which has fewer words. A numbers
- * run of another length is not written.
+ * The state run and the numbers run are part of question 7. These give 7: a state run that has not GUARD_STATE_WORDS words, as one
+ * of an older version; a V, F, e, running page or number of devices out of its range, compared with all its 64 bits; a mode word that
+ * is neither GUARD_MODE_KERNEL nor GUARD_MODE_USER; a pending word that is neither 0 nor 1; with 1 there, a pending page that is not
+ * below V or a pending frame that is not below F; a numbers run that has not GUARD_NUMBERS words, which is not written.
  */
 #ifndef GUARD_H
 #define GUARD_H
@@ -72,9 +71,10 @@ static uint64_t (*const guard_boundary)(void) = guard_boundary_1;
 
 /*
  * The layout of a state run. Each number has a word of its own, which is read whole: none is cut. An entry page that is not below V
- * gives 9 where it is entered. The pending page and frame mean nothing where none is pending. guard_start writes all words; guard_enter and guard_leave write
- * GUARD_STATE_MODE and GUARD_STATE_RUNNING alone; guard_fetch writes GUARD_STATE_RUNNING alone; guard_ask, guard_commit and
- * guard_drop write the three words of what is pending alone; the other calls write none. A later version appends its fields.
+ * gives 9 where it is entered. The pending page and frame mean nothing where none is pending. guard_start writes all words;
+ * guard_enter and guard_leave write GUARD_STATE_MODE and GUARD_STATE_RUNNING alone; guard_fetch writes GUARD_STATE_RUNNING alone;
+ * guard_ask, guard_commit and guard_drop write the three words of what is pending alone; the other calls write none. A later version
+ * appends its fields.
  */
 #define GUARD_STATE_WORDS 25
 #define GUARD_STATE_PAGES 0          /* V, the number of virtual pages, 1 to 2048 */

@@ -28,7 +28,7 @@ pub fn test_bit(exclusion: &[u8], frame: u64) -> bool
     }
 }
 
-// The bit of a frame that has a byte in the vector set, as `test_bit_within` reads it.
+// Sets the bit of a frame without testing the length: the caller has settled that the vector has a byte for it.
 pub fn set_bit_within(exclusion: &mut [u8], frame: u64)
     requires { ⌜ frame / 8 < length (now exclusion) ⌝ }
     ensures { λ _. ⌜ now (exclusion .exit) ≡ withBit true (now (exclusion .entry)) frame ⌝ }

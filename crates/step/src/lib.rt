@@ -171,7 +171,7 @@ pub fn sync_by(
     Counts { changed, joined }
 }
 
-// The same of one page, where nothing is known of the pending frame.
+// The same where nothing is known of the pending frame. It asks for the same, but for the mark.
 pub fn sync_at(
     user: bool,
     frames: u64,

@@ -54,7 +54,7 @@ fn sync_pages(
 }
 
 // Every page of parts of one length, in rising order: of a whole flat table, of a part of it that begins anywhere, and of the table of a tree of depth 1 (K4).
-// In a guard the pending frame is marked, or none is, and each mode has a loop for that.
+// In a guard the pending frame is marked, or none is, and each mode has a loop for that. Question 7 has settled the lengths, and that F is in its range.
 pub fn sync_flat(
     user: bool,
     frames: u64,

@@ -248,7 +248,7 @@ fn word_at(words: &[u64], root: u64, depth: u64, page: u64) -> u64
     walk_from(&words, page, depth as u32, EVERY_BIT, 0, root, 0)
 }
 
-// The same, by the number that the depth is: each depth then has straight code of its own, and the compiler makes no call of it.
+// The same, by the number that the depth is: each depth then has straight code of its own, and the compiler makes no call of it. It asks for the same tree.
 pub fn word_of(words: &[u64], root: u64, depth: u64, page: u64) -> u64
     requires { ⌜ treeInOrder (treeOf (now words) root depth) ≡ true ⌝ }
     ensures { λ r. ⌜ takenApart r ≡ takenApart (flatAt (treeOf (now (words .entry)) root depth) page) ⌝ }
