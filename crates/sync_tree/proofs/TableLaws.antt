@@ -12,29 +12,14 @@ use borrow.Author.Tests.{lt-ltb, ltb-true, eqb-true, leb-true}
 use Rattle.model.specs.declared.Entry.{Entry}
 use Rattle.model.specs.declared.Entry.the-variants.{Absent, Present}
 use Rattle.model.specs.Basics.{both, either, bit, flag}
-use Rattle.model.specs.Bits.{present, reserved, valid, takenApart, fieldsOf, writable, userBit, writeThrough, cacheDisable, noExecute, frameOf}
+use Rattle.model.specs.Bits.{present, valid, takenApart, fieldsOf, writable, userBit, writeThrough, cacheDisable, noExecute, frameOf}
 use Rattle.model.specs.Tree.{Tree, treeOf, tablesIn, treeInOrder, placeAbove, Rights, allRights, gathered, flatEntry, Walk, meeting, onward, walkFrom, walkOf, flatAt}
 use Rattle.model.specs.Sync.{Rules, Slot, Sweep, sweepFrom, entryIn, step, stepFrom}
-use Rattle.laws.proofs.BitLaws.{bit-is, bits-below, taken-apart, present-valid, valid-parts, lowest, lowest-lt, lowest-of}
+use Rattle.laws.proofs.BitLaws.{bit-is, taken-apart, present-valid, valid-parts, lowest, lowest-lt, lowest-of}
 use Rattle.laws.proofs.QuestionLaws.{both-second}
 use Rattle.laws.proofs.VectorLaws.{flag-weight, flag-small, flag-bit}
+use Rattle.tree.proofs.BitLaws.{apart-by-bits}
 use Rattle.sync_tree.proofs.SourceLaws.{step-same}
-
--- Two entries with the same bits 0 to 4, 52 to 62 and 63 and frame are taken apart alike.
-apart-same : (x y : ℕ) → x % 2 ^ 5 ≡ y % 2 ^ 5 → x / 2 ^ 12 % 2 ^ 40 ≡ y / 2 ^ 12 % 2 ^ 40 → x / 2 ^ 52 % 2 ^ 11 ≡ y / 2 ^ 52 % 2 ^ 11
-    → bit 63 x ≡ bit 63 y → takenApart x ≡ takenApart y
-unfolding takenApart valid present reserved fieldsOf writable userBit writeThrough cacheDisable noExecute frameOf
-apart-same x y low frame high top =
-    rw (
-      bits-below 5 x y low 0 (omega arith),
-      bits-below 5 x y low 1 (omega arith),
-      bits-below 5 x y low 2 (omega arith),
-      bits-below 5 x y low 3 (omega arith),
-      bits-below 5 x y low 4 (omega arith),
-      frame,
-      high,
-      top,
-    )
 
 -- The digits of a flat entry.
 flat-digits : (r f t : ℕ) → r < 2 ^ 5 → f < 2 ^ 40 → t ≤ 1
@@ -57,7 +42,7 @@ alone-present entry there =
     let flat : ℕ = lowest (fieldsOf entry) + frameOf entry * 2 ^ 12 + flag (bit 63 entry) 63 in
     let same : flat ≡ lowest (fieldsOf entry) + frameOf entry * 2 ^ 12 + t * 2 ^ 63 = rw (flag-weight (bit 63 entry) 63) in
     let d = flat-digits (lowest (fieldsOf entry)) (frameOf entry) t (lowest-lt (fieldsOf entry)) (omega arith) (flag-small (bit 63 entry)) in
-    apart-same flat entry (rw (← same) at (d .0) ∙ sym low) (rw (← same) at (d .1)) (rw (← same) at (d .2) ∙ sym (parts .1))
+    apart-by-bits flat entry (rw (← same) at (d .0) ∙ sym low) (rw (← same) at (d .1)) (rw (← same) at (d .2) ∙ sym (parts .1))
     (bit-is 63 flat (bit 63 entry) (rw (← same) at (d .3)))
 
 alone-apart : (entry : ℕ) → takenApart (flat-alone (takenApart entry)) ≡ takenApart entry

@@ -159,11 +159,10 @@ unfolding bit
 bit-63 x y e = ap (λ (d : ℕ). eqb (d % 2) 1) e
 
 -- Two entries with the same bits 0 to 4, 52 to 63 and frame are taken apart alike.
-pub apart-same : (x y : ℕ) → x % 2 ^ 5 ≡ y % 2 ^ 5 → x / 2 ^ 12 % 2 ^ 40 ≡ y / 2 ^ 12 % 2 ^ 40 → x / 2 ^ 52 % 2 ^ 11 ≡ y / 2 ^ 52 % 2 ^ 11
-    → x / 2 ^ 63 ≡ y / 2 ^ 63 → takenApart x ≡ takenApart y
+pub apart-by-bits : (x y : ℕ) → x % 2 ^ 5 ≡ y % 2 ^ 5 → x / 2 ^ 12 % 2 ^ 40 ≡ y / 2 ^ 12 % 2 ^ 40 → x / 2 ^ 52 % 2 ^ 11 ≡ y / 2 ^ 52 % 2 ^ 11
+    → bit 63 x ≡ bit 63 y → takenApart x ≡ takenApart y
 unfolding takenApart valid present reserved fieldsOf writable userBit writeThrough cacheDisable noExecute frameOf
-apart-same x y low frame high top =
-    let top-bit : bit 63 x ≡ bit 63 y = bit-63 x y top in
+apart-by-bits x y low frame high top =
     rw (
       bits-below 5 x y low 0 (omega arith),
       bits-below 5 x y low 1 (omega arith),
@@ -172,8 +171,12 @@ apart-same x y low frame high top =
       bits-below 5 x y low 4 (omega arith),
       frame,
       high,
-      top-bit,
+      top,
     )
+
+pub apart-same : (x y : ℕ) → x % 2 ^ 5 ≡ y % 2 ^ 5 → x / 2 ^ 12 % 2 ^ 40 ≡ y / 2 ^ 12 % 2 ^ 40 → x / 2 ^ 52 % 2 ^ 11 ≡ y / 2 ^ 52 % 2 ^ 11
+    → x / 2 ^ 63 ≡ y / 2 ^ 63 → takenApart x ≡ takenApart y
+apart-same x y low frame high top = apart-by-bits x y low frame high (bit-63 x y top)
 
 -- What stands below bit 63, and what from bit 3 on, of a number.
 module _ (x : ℕ) where

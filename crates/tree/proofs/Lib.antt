@@ -1,6 +1,6 @@
--- Laws of this crate's proofs.
+-- Laws of this crate's proofs, and what those of `sync_tree` cite.
 mod OrderLaws
-mod BitLaws
+pub mod BitLaws
 mod WordLaws
 mod WalkLaws
 mod DownLaws
