@@ -18,7 +18,8 @@ use Rattle.claim.proofs.KindLaws.{Changing, keeps, asks, commits, drops
 use Rattle.claim.specs.OnePage.{reachedIn, seenBy, settled}
 use Rattle.claim.specs.Claim.{Safe, coveredBy}
 use Rattle.claim.specs.Terms.{Term, pendingTerm, Terms, firstTerms, termAfter, termsAfter, inTerm, isCommitted, protected}
-use Rattle.claim.specs.Committing.{Accepts, guardAfter, EachAccepted, Misses, Avoids, Undropped, NoDrop, CommittedKept}
+use Rattle.claim.specs.Lists.{Accepts, guardAfter, EachAccepted}
+use Rattle.claim.specs.Committing.{Misses, Avoids, Undropped, NoDrop, CommittedKept}
 use Rattle.laws.proofs.QuestionLaws.{settle-accepted, settle-refused, settle-number, either-second}
 use Rattle.laws.proofs.CallLaws.{effects}
 use Rattle.laws.proofs.AcceptedLaws.{ask-free}

@@ -9,19 +9,8 @@ use Rattle.model.specs.Guard.{Tables, Guard}
 use Rattle.model.specs.Policy.{Givens}
 use Rattle.model.specs.Bits.{frameOf}
 use Rattle.model.specs.Calls.{startOf, Call, ask, commit, answer}
+use Rattle.claim.specs.Lists.{Accepts, guardAfter, EachAccepted}
 use Rattle.claim.specs.CallKinds.{Touch, untouched, fetched, written, transferred, touchOf, TermChange, unchanged, begun, confirmed, ended, termChangeOf}
-
--- The guard accepts a call; the guard after a list of calls; and what holds of each accepted call of a list, with the guard that it reaches.
-abbrev pub Accepts : Guard → Call → Type 0
-Accepts g call = (answer g call) .reply .number ≡ 0
-
-unfoldable pub guardAfter : Guard → List Call → Guard
-guardAfter g [] = g
-guardAfter g (call ∷ calls) = guardAfter ((answer g call) .guard) calls
-
-abbrev pub EachAccepted : (Guard → Call → Type 0) → Guard → List Call → Type 0
-EachAccepted holds g [] = Unit {0}
-EachAccepted holds g (call ∷ calls) = (Accepts g call → holds g call) × EachAccepted holds ((answer g call) .guard) calls
 
 -- A write or a transfer covers no byte of frame f. A write's byte lies in the frame of its page's shadow entry, a transfer's in that of its address.
 abbrev pub Misses : ℕ → Guard → Touch → Type 0

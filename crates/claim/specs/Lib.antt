@@ -3,4 +3,5 @@ pub mod CallKinds
 pub mod OnePage
 pub mod Terms
 pub mod Claim
+pub mod Lists
 pub mod Committing

@@ -1,0 +1,19 @@
+-- The guard along a list of calls: "Each call gets these as the last one returned or left them."
+use mathlib.Core.List.{List, [], _∷_}
+use mathlib.Core.Path.{_≡_}
+use Rattle.model.specs.Guard.{Guard}
+use Rattle.model.specs.Calls.{Call, answer}
+
+-- The guard accepts a call.
+abbrev pub Accepts : Guard → Call → Type 0
+Accepts g call = (answer g call) .reply .number ≡ 0
+
+-- The guard after a list of calls.
+unfoldable pub guardAfter : Guard → List Call → Guard
+guardAfter g [] = g
+guardAfter g (call ∷ calls) = guardAfter ((answer g call) .guard) calls
+
+-- What holds of each accepted call of a list, with the guard that it reaches.
+abbrev pub EachAccepted : (Guard → Call → Type 0) → Guard → List Call → Type 0
+EachAccepted holds g [] = Unit {0}
+EachAccepted holds g (call ∷ calls) = (Accepts g call → holds g call) × EachAccepted holds ((answer g call) .guard) calls
