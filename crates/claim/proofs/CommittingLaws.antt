@@ -24,7 +24,7 @@ use Rattle.laws.proofs.QuestionLaws.{settle-accepted, settle-refused, settle-nu
 use Rattle.laws.proofs.CallLaws.{effects}
 use Rattle.laws.proofs.AcceptedLaws.{ask-free}
 use Rattle.claim.proofs.TermLaws.{commit-in, commit-code, drop-code, committed-in}
-use Rattle.claim.proofs.Invariant.{Invariant, pageOf, answered}
+use Rattle.claim.proofs.Invariant.{Invariant, pageOf, excluded-is, answered}
 use Rattle.claim.proofs.CommuteLaws.{kept}
 use Rattle.claim.proofs.SafeLaws.{safe}
 use Rattle.claim.proofs.StartLaws.{start-kept}
@@ -113,7 +113,7 @@ module _ (policy : Policy) (f : ℕ) where
   asked-other terms g h page frame p passed = by (eqb f frame) refl
     where
       free : protected policy terms frame ≡ false
-      free = sym (h .excluded frame) ∙ ask-free (seenBy policy (pageOf g) (reachedIn g)) page frame passed
+      free = sym (excluded-is policy terms g h frame) ∙ ask-free (seenBy policy (pageOf g) (reachedIn g)) page frame passed
 
       by : (b : Bool) → eqb f frame ≡ b → Lasts (cond b pendingTerm (terms f))
       by true e = absurd (true≢false (sym (open-protected terms (committed-in (terms f) p)) ∙ (rw (← (eqb-true f frame e)) at free)))

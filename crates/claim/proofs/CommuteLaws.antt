@@ -15,7 +15,7 @@ use Rattle.model.specs.declared.Mode.{Mode}
 use Rattle.model.specs.declared.Mode.the-variants.{Kernel, User}
 use Rattle.model.specs.Basics.{bit, both, either}
 use Rattle.model.specs.Bits.{present}
-use Rattle.model.specs.Guard.{none, Tables, withShadow, withMap, Guard, guardOf, hasBit, withBit, inUser, running, modeOf, isPending, pendingFrame, isAsked}
+use Rattle.model.specs.Guard.{none, Tables, withShadow, withMap, Guard, guardOf, hasBit, vectorOf, withBit, inUser, running, modeOf, isPending, pendingFrame, isAsked}
 use Rattle.model.specs.Guard.{inMode, withPending}
 use Rattle.model.specs.Policy.{Policy, named}
 use Rattle.model.specs.Tree.{flatAt}
@@ -36,10 +36,10 @@ use Rattle.laws.proofs.SweepLaws.{sweep-shadow-length, sweep-map-length, sweep-
 use Rattle.laws.proofs.SwitchLaws.{length-switched, switched-at}
 use Rattle.laws.proofs.AcceptedLaws.{syncPage-page, syncPageTree-page, fetch-page, enter-page, leave-page, ask-page, ask-frame, ask-first, ask-free}
 use Rattle.laws.proofs.AcceptedLaws.{commit-pending, drop-pending}
-use Rattle.laws.proofs.VectorLaws.{byte-below, withBit-length, hasBit-withBit}
+use Rattle.laws.proofs.VectorLaws.{byte-below, hasBit-withBit, withBit-vectorOf, vectorOf-same}
 use Rattle.claim.proofs.TermLaws.{isWaiting, awaited, commit-in, commit-over, commit-code, drop-over, drop-in, drop-out, drop-code, term-code, code-term}
-use Rattle.claim.proofs.TermLaws.{term-named, awaited-none, awaited-is, awaited-other, awaited-below, pending-below, asked-below, waiting-in}
-use Rattle.claim.proofs.Invariant.{Invariant, pageOf}
+use Rattle.claim.proofs.TermLaws.{term-named, awaited-none, awaited-is, awaited-other, pending-below, asked-below, waiting-in, drop-less}
+use Rattle.claim.proofs.Invariant.{Invariant, pageOf, exclusion-length, excluded-is, code-below}
 
 module _ (policy : Policy) (terms : Terms) (g : Guard) (h : Invariant policy terms g) where
   -- A synchronised page is as its one-page guard is told, if the tables have the step's slot at it.
@@ -116,7 +116,7 @@ module _ (policy : Policy) (terms : Terms) (g : Guard) (h : Invariant policy ter
   bit-put : (b : Bool) (frame : ℕ) → frame < policy .frames → (f : ℕ)
       → hasBit (withBit b (g .tables .exclusion) frame) f ≡ excludedWith b frame (hasBit (g .tables .exclusion)) f
   unfolding excludedWith
-  bit-put b frame small = hasBit-withBit b (g .tables .exclusion) frame (rw (h .exclusionLength) (byte-below (policy .frames) frame small))
+  bit-put b frame small = hasBit-withBit b (g .tables .exclusion) frame (rw (exclusion-length policy terms g h) (byte-below (policy .frames) frame small))
 
   bit-commutes : (b : Bool) (frame : ℕ) (pending : Pending) (p : ℕ) → frame < policy .frames
       → withPair (pageOf g p) (excludedWith b frame (hasBit (g .tables .exclusion))) (pendingFrame pending) (isAsked pending p)
@@ -190,7 +190,7 @@ module _ (policy : Policy) (terms : Terms) (g : Guard) (h : Invariant policy ter
 
   joins-code : (f : ℕ) → hasBit (g .tables .exclusion) f ≡ true → eqb f (pendingFrame (g .state .pending)) ≡ false → code policy terms f ≡ true
   unfolding code protected
-  joins-code f e other = term-code (named policy f) (terms f) (sym (h .excluded f) ∙ e) (h .waiting f ∙ awaited-other (g .state .pending) f other)
+  joins-code f e other = term-code (named policy f) (terms f) (sym (excluded-is policy terms g h f) ∙ e) (h .waiting f ∙ awaited-other (g .state .pending) f other)
 
   good-with : (code′ : ℕ → Bool) → ((f : ℕ) → code policy terms f ≡ true → code′ f ≡ true) → ((f : ℕ) → code′ f ≡ true → f < policy .frames)
       → (call : Call) → settled policy (pageOf g) (reachedIn g) call ≡ 0 → ((p : ℕ) → Allows code′ (pageOf g p) (news policy p call))
@@ -202,7 +202,7 @@ module _ (policy : Policy) (terms : Terms) (g : Guard) (h : Invariant policy ter
 
   good-after : (call : Call) → settled policy (pageOf g) (reachedIn g) call ≡ 0 → ((p : ℕ) → Allows (code policy terms) (pageOf g p) (news policy p call))
       → (p : ℕ) → Good (code policy terms) (pageOf ((effectOf g call) .guard) p)
-  good-after = good-with (code policy terms) (λ f e. e) (h .below)
+  good-after = good-with (code policy terms) (λ f e. e) (code-below policy terms g h)
 
   allows-sync : (page : Page) (b : Bool) (k : ℕ) → Allows (code policy terms) page (cond b (synchronised k) nothing)
   allows-sync page true k = tt
@@ -230,23 +230,22 @@ module _ (policy : Policy) (terms : Terms) (g : Guard) (h : Invariant policy ter
         fits = mode-fits (g .state) mode (h .fits) (rw (h .pages) runs);
         shadowLength = shadowLength;
         mapLength = mapLength;
-        exclusionLength = h .exclusionLength;
-        excluded = h .excluded;
+        exclusion = h .exclusion;
+        below = h .below;
         waiting = h .waiting;
         unnamed = h .unnamed;
-        below = h .below;
         good = good;
       }
 
   -- And by another pair, or none, with tables of the same lengths, if what is said of frames holds with the terms then.
   kept-pair : (terms′ : Terms) (pending : Pending) (t : Tables) → pendingInRange (policy .pages) (policy .frames) pending ≡ true
-      → length (t .shadow) ≡ length (g .tables .shadow) → length (t .map) ≡ length (g .tables .map) → length (t .exclusion) ≡ length (g .tables .exclusion)
-      → ((f : ℕ) → hasBit (t .exclusion) f ≡ protected policy terms′ f) → ((f : ℕ) → isWaiting (terms′ f) ≡ awaited pending f)
-      → ((f : ℕ) → isWaiting (terms′ f) ≡ true → named policy f ≡ false) → ((f : ℕ) → code policy terms′ f ≡ true → f < policy .frames)
+      → length (t .shadow) ≡ length (g .tables .shadow) → length (t .map) ≡ length (g .tables .map)
+      → t .exclusion ≡ vectorOf (policy .frames) (protected policy terms′) → ((f : ℕ) → protected policy terms′ f ≡ true → f < policy .frames)
+      → ((f : ℕ) → isWaiting (terms′ f) ≡ awaited pending f) → ((f : ℕ) → isWaiting (terms′ f) ≡ true → named policy f ≡ false)
       → let after : Guard = guardOf (withPending (g .state) pending) t in
       ((p : ℕ) → Good (code policy terms′) (pageOf after p)) → Invariant policy terms′ after
   unfolding withPending
-  kept-pair terms′ pending t fits shadowLength mapLength exclusionLength excluded waiting unnamed below good =
+  kept-pair terms′ pending t fits shadowLength mapLength exclusion below waiting unnamed good =
       record {
         pages = h .pages;
         frames = h .frames;
@@ -255,11 +254,10 @@ module _ (policy : Policy) (terms : Terms) (g : Guard) (h : Invariant policy ter
         fits = pending-fits (g .state) pending (h .fits) (rw (h .pages, h .frames) fits);
         shadowLength = shadowLength ∙ h .shadowLength;
         mapLength = mapLength ∙ h .mapLength;
-        exclusionLength = exclusionLength ∙ h .exclusionLength;
-        excluded = excluded;
+        exclusion = exclusion;
+        below = below;
         waiting = waiting;
         unnamed = unnamed;
-        below = below;
         good = good;
       }
 
@@ -279,20 +277,19 @@ module _ (policy : Policy) (terms : Terms) (g : Guard) (h : Invariant policy ter
       kept-with (g .state .mode) _ _ now-runs (sweep-shadow-length _ 0 (g .tables .shadow) (g .tables .map) ∙ h .shadowLength)
       (sweep-map-length _ 0 (g .tables .shadow) (g .tables .map) ∙ h .mapLength) good
 
-  -- The pending frame is protected, and every protected frame is below F.
+  -- The pending frame is protected.
   pending-protected : isPending (g .state .pending) ≡ true → protected policy terms (pendingFrame (g .state .pending)) ≡ true
   unfolding protected
   pending-protected there =
       let frame : ℕ = pendingFrame (g .state .pending) in
       either-second (named policy frame) (waiting-in (terms frame) (h .waiting frame ∙ awaited-is (g .state .pending) frame there ∙ eq-eqb frame frame refl))
 
-  protected-below : (f : ℕ) → protected policy terms f ≡ true → f < policy .frames
-  unfolding protected code
-  protected-below f e = by (isWaiting (terms f)) refl
-    where
-      by : (b : Bool) → isWaiting (terms f) ≡ b → f < policy .frames
-      by true w = awaited-below (policy .pages) (policy .frames) (g .state .pending) pair-fits f (sym (h .waiting f) ∙ w)
-      by false w = h .below f (term-code (named policy f) (terms f) e w)
+  -- A frame's bit set or cleared in the exclusion vector, if that is what becomes of the protected frames.
+  vector-put : (b : Bool) (frame : ℕ) (terms′ : Terms) → frame < policy .frames
+      → ((f : ℕ) → cond (eqb f frame) b (protected policy terms f) ≡ protected policy terms′ f)
+      → withBit b (g .tables .exclusion) frame ≡ vectorOf (policy .frames) (protected policy terms′)
+  vector-put b frame terms′ small same =
+      rw (h .exclusion) (withBit-vectorOf b (policy .frames) (protected policy terms) frame small ∙ vectorOf-same (policy .frames) _ _ same)
 
   -- Every accepted call keeps what always holds.
   pub kept : (call : Call) → settled policy (pageOf g) (reachedIn g) call ≡ 0 → Invariant policy (termsAfter 0 call terms) ((effectOf g call) .guard)
@@ -317,25 +314,30 @@ module _ (policy : Policy) (terms : Terms) (g : Guard) (h : Invariant policy ter
       (h .mapLength) (good-after (leave page) passed (λ p. tt))
   kept (deviceWrite devices device address size) passed = h
   kept (ask page frame) passed =
-      kept-pair (termsAfter 0 (ask page frame) terms) (Pair page frame) _ pair-in refl refl
-      (withBit-length true (g .tables .exclusion) frame) excluded waiting unnamed below
-      (good-with _ more below (ask page frame) passed (λ p. tt))
+      kept-pair after (Pair page frame) _ pair-in refl refl (vector-put true frame after small protects) below waiting unnamed
+      (good-with _ more (λ f c. below f (code-term (named policy f) (after f) c)) (ask page frame) passed (λ p. tt))
     where
       v : View
       v = seenBy policy (pageOf g) (reachedIn g)
 
+      after : Terms
+      after = termsAfter 0 (ask page frame) terms
+
+      small : frame < policy .frames
+      small = ask-frame v page frame passed
+
       pair-in : pendingInRange (policy .pages) (policy .frames) (Pair page frame) ≡ true
-      pair-in = both-yes (lt-ltb page (policy .pages) (ask-page v page frame passed)) (lt-ltb frame (policy .frames) (ask-frame v page frame passed))
+      pair-in = both-yes (lt-ltb page (policy .pages) (ask-page v page frame passed)) (lt-ltb frame (policy .frames) small)
 
       free : protected policy terms frame ≡ false
-      free = sym (h .excluded frame) ∙ ask-free v page frame passed
+      free = sym (excluded-is policy terms g h frame) ∙ ask-free v page frame passed
 
-      excluded : (f : ℕ) → hasBit (withBit true (g .tables .exclusion) frame) f ≡ protected policy (termsAfter 0 (ask page frame) terms) f
-      excluded f = bit-put true frame (ask-frame v page frame passed) f ∙ by (eqb f frame) refl
+      protects : (f : ℕ) → cond (eqb f frame) true (protected policy terms f) ≡ either (named policy f) (inTerm (cond (eqb f frame) pendingTerm (terms f)))
+      protects f = by (eqb f frame)
         where
-          by : (b : Bool) → eqb f frame ≡ b → cond b true (hasBit (g .tables .exclusion) f) ≡ either (named policy f) (inTerm (cond b pendingTerm (terms f)))
-          by true e = sym (either-second (named policy f) refl)
-          by false e = h .excluded f
+          by : (b : Bool) → cond b true (protected policy terms f) ≡ either (named policy f) (inTerm (cond b pendingTerm (terms f)))
+          by true = sym (either-second (named policy f) refl)
+          by false = refl
 
       waiting : (f : ℕ) → isWaiting (cond (eqb f frame) pendingTerm (terms f)) ≡ eqb f frame
       waiting f = by (eqb f frame)
@@ -348,57 +350,65 @@ module _ (policy : Policy) (terms : Terms) (g : Guard) (h : Invariant policy ter
       unnamed f w =
           rw (eqb-true f frame (sym (waiting f) ∙ w)) (term-named (named policy frame) (terms frame) free)
 
-      below : (f : ℕ) → code policy (termsAfter 0 (ask page frame) terms) f ≡ true → f < policy .frames
+      below : (f : ℕ) → protected policy after f ≡ true → f < policy .frames
       below f = by (eqb f frame) refl
         where
-          by : (b : Bool) → eqb f frame ≡ b → either (named policy f) (isCommitted (cond b pendingTerm (terms f))) ≡ true → f < policy .frames
-          by true e c = rw (eqb-true f frame e) (ask-frame v page frame passed)
+          by : (b : Bool) → eqb f frame ≡ b → either (named policy f) (inTerm (cond b pendingTerm (terms f))) ≡ true → f < policy .frames
+          by true e c = rw (eqb-true f frame e) small
           by false e c = h .below f c
 
-      more : (f : ℕ) → code policy terms f ≡ true → code policy (termsAfter 0 (ask page frame) terms) f ≡ true
+      more : (f : ℕ) → code policy terms f ≡ true → code policy after f ≡ true
       more f = by (eqb f frame) refl
         where
           by : (b : Bool) → eqb f frame ≡ b → code policy terms f ≡ true → either (named policy f) (isCommitted (cond b pendingTerm (terms f))) ≡ true
           by true e c = absurd (true≢false (sym (rw (eqb-true f frame e) at (code-term (named policy f) (terms f) c)) ∙ free))
           by false e c = c
   kept commit passed =
-      kept-pair (termsAfter 0 commit terms) Nothing _ refl (sweep-shadow-length _ 0 (g .tables .shadow) (g .tables .map))
-      (sweep-map-length _ 0 (g .tables .shadow) (g .tables .map)) refl
-      (λ f. h .excluded f ∙ sym (ap (either (named policy f)) (commit-in (terms f)))) (λ f. commit-over (terms f))
-      (λ f w. absurd (true≢false (sym w ∙ commit-over (terms f)))) below
-      (good-with _ more below commit passed (λ p. now-code))
+      kept-pair after Nothing _ refl (sweep-shadow-length _ 0 (g .tables .shadow) (g .tables .map)) (sweep-map-length _ 0 (g .tables .shadow) (g .tables .map))
+      (h .exclusion ∙ vectorOf-same (policy .frames) _ _ (λ f. sym (protects f))) (λ f c. h .below f (sym (protects f) ∙ c)) (λ f. commit-over (terms f))
+      (λ f w. absurd (true≢false (sym w ∙ commit-over (terms f))))
+      (good-with _ more (λ f c. h .below f (sym (code-is f) ∙ c)) commit passed (λ p. now-code))
     where
-      code-is : (f : ℕ) → code policy (termsAfter 0 commit terms) f ≡ protected policy terms f
+      after : Terms
+      after = termsAfter 0 commit terms
+
+      protects : (f : ℕ) → protected policy after f ≡ protected policy terms f
+      protects f = ap (either (named policy f)) (commit-in (terms f))
+
+      code-is : (f : ℕ) → code policy after f ≡ protected policy terms f
       code-is f = ap (either (named policy f)) (commit-code (terms f))
 
-      below : (f : ℕ) → code policy (termsAfter 0 commit terms) f ≡ true → f < policy .frames
-      below f c = protected-below f (sym (code-is f) ∙ c)
-
-      more : (f : ℕ) → code policy terms f ≡ true → code policy (termsAfter 0 commit terms) f ≡ true
+      more : (f : ℕ) → code policy terms f ≡ true → code policy after f ≡ true
       more f c = code-is f ∙ code-term (named policy f) (terms f) c
 
       there : isPending (g .state .pending) ≡ true
       there = commit-pending (seenBy policy (pageOf g) (reachedIn g)) passed
 
-      now-code : code policy (termsAfter 0 commit terms) (pendingFrame (g .state .pending)) ≡ true
+      now-code : code policy after (pendingFrame (g .state .pending)) ≡ true
       now-code = code-is _ ∙ pending-protected there
   kept drop passed =
-      kept-pair (termsAfter 0 drop terms) Nothing _ refl refl refl (withBit-length false (g .tables .exclusion) frame) excluded (λ f. drop-over (terms f))
-      (λ f w. absurd (true≢false (sym w ∙ drop-over (terms f)))) (λ f c. h .below f (sym (code-is f) ∙ c))
-      (good-with _ (λ f c. code-is f ∙ c) (λ f c. h .below f (sym (code-is f) ∙ c)) drop passed (λ p. tt))
+      kept-pair after Nothing _ refl refl refl (vector-put false frame after (pending-small there) protects) below (λ f. drop-over (terms f))
+      (λ f w. absurd (true≢false (sym w ∙ drop-over (terms f))))
+      (good-with _ (λ f c. code-is f ∙ c) (λ f c. code-below policy terms g h f (sym (code-is f) ∙ c)) drop passed (λ p. tt))
     where
+      after : Terms
+      after = termsAfter 0 drop terms
+
       frame : ℕ
       frame = pendingFrame (g .state .pending)
 
       there : isPending (g .state .pending) ≡ true
       there = drop-pending (seenBy policy (pageOf g) (reachedIn g)) passed
 
-      code-is : (f : ℕ) → code policy (termsAfter 0 drop terms) f ≡ code policy terms f
+      code-is : (f : ℕ) → code policy after f ≡ code policy terms f
       code-is f = ap (either (named policy f)) (drop-code (terms f))
 
-      excluded : (f : ℕ) → hasBit (withBit false (g .tables .exclusion) frame) f ≡ protected policy (termsAfter 0 drop terms) f
-      excluded f = bit-put false frame (pending-small there) f ∙ by (eqb f frame) (h .waiting f ∙ awaited-is (g .state .pending) f there)
+      protects : (f : ℕ) → cond (eqb f frame) false (protected policy terms f) ≡ either (named policy f) (inTerm (afterDrop (terms f)))
+      protects f = by (eqb f frame) (h .waiting f ∙ awaited-is (g .state .pending) f there)
         where
-          by : (b : Bool) → isWaiting (terms f) ≡ b → cond b false (hasBit (g .tables .exclusion) f) ≡ either (named policy f) (inTerm (afterDrop (terms f)))
+          by : (b : Bool) → isWaiting (terms f) ≡ b → cond b false (protected policy terms f) ≡ either (named policy f) (inTerm (afterDrop (terms f)))
           by true w = sym (rw (h .unnamed f w) (drop-out (terms f) w))
-          by false w = h .excluded f ∙ sym (ap (either (named policy f)) (drop-in (terms f) w))
+          by false w = sym (ap (either (named policy f)) (drop-in (terms f) w))
+
+      below : (f : ℕ) → protected policy after f ≡ true → f < policy .frames
+      below f c = h .below f (drop-less (named policy f) (terms f) c)

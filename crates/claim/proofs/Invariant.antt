@@ -5,13 +5,14 @@ use mathlib.Core.Bool.{true, false}
 use mathlib.Core.Path.{_≡_, sym, ap, _∙_}
 use lib.ListN.{length, getD}
 use borrow.Author.Tests.{eq-eqb}
-use Rattle.model.specs.Guard.{none, Guard, vectorBytes, hasBit, inUser, pendingFrame, isAsked}
+use Rattle.model.specs.Guard.{none, Guard, vectorBytes, hasBit, vectorOf, inUser, pendingFrame, isAsked}
 use Rattle.model.specs.Policy.{Policy, named, entryPages}
 use Rattle.model.specs.Questions.{View, firstNo, seen, stateInOrder}
 use Rattle.model.specs.Calls.{settle, refusedOf, broughtBy, Call, questionsOf, effectOf, answer}
 use Rattle.claim.specs.OnePage.{Page, reachedIn, seenBy, settled}
 use Rattle.claim.specs.Terms.{Terms, protected, code}
-use Rattle.claim.proofs.TermLaws.{isWaiting, awaited}
+use Rattle.claim.proofs.TermLaws.{isWaiting, awaited, code-term}
+use Rattle.laws.proofs.VectorLaws.{vectorOf-length, vectorOf-bit, vectorOf-same}
 use Rattle.claim.proofs.PageLaws.{Good}
 
 -- The one-page guard of a page, as the tables show it: in the proof only. Beyond V it reads 0 and 65535.
@@ -38,18 +39,31 @@ pub record Invariant (policy : Policy) (terms : Terms) (g : Guard) : Type 0 wher
   -- the tables have their lengths
   pub shadowLength : length (g .tables .shadow) ≡ policy .pages
   pub mapLength : length (g .tables .map) ≡ policy .pages
-  pub exclusionLength : length (g .tables .exclusion) ≡ vectorBytes (policy .frames)
-  -- the excluded frames are the protected ones: the policy's, the committed ones and the pending one
-  pub excluded : (f : ℕ) → hasBit (g .tables .exclusion) f ≡ protected policy terms f
+  -- the excluded frames are the protected ones, the policy's, the committed ones and the pending one, and they are below F
+  pub exclusion : g .tables .exclusion ≡ vectorOf (policy .frames) (protected policy terms)
+  pub below : (f : ℕ) → protected policy terms f ≡ true → f < policy .frames
   -- the frame whose term is pending is the state's pending frame, and none of the policy's
   pub waiting : (f : ℕ) → isWaiting (terms f) ≡ awaited (g .state .pending) f
   pub unnamed : (f : ℕ) → isWaiting (terms f) ≡ true → named policy f ≡ false
-  -- the frames of code are below F
-  pub below : (f : ℕ) → code policy terms f ≡ true → f < policy .frames
   -- every page is good
   pub good : (p : ℕ) → Good (code policy terms) (pageOf g p)
 
 module _ (policy : Policy) (terms : Terms) (g : Guard) (h : Invariant policy terms g) where
+  -- The exclusion vector: its length, a frame's bit, and that it is made of its own bits.
+  pub exclusion-length : length (g .tables .exclusion) ≡ vectorBytes (policy .frames)
+  exclusion-length = rw (h .exclusion) (vectorOf-length (policy .frames) (protected policy terms))
+
+  pub excluded-is : (f : ℕ) → hasBit (g .tables .exclusion) f ≡ protected policy terms f
+  excluded-is f = rw (h .exclusion) (vectorOf-bit (policy .frames) (protected policy terms) (h .below) f)
+
+  pub exclusion-whole : g .tables .exclusion ≡ vectorOf (policy .frames) (hasBit (g .tables .exclusion))
+  exclusion-whole = h .exclusion ∙ vectorOf-same (policy .frames) _ _ (λ f. sym (excluded-is f))
+
+  -- The frames of code are protected, so they are below F.
+  pub code-below : (f : ℕ) → code policy terms f ≡ true → f < policy .frames
+  unfolding code protected
+  code-below f c = h .below f (code-term (named policy f) (terms f) c)
+
   -- The questions see the same in the tables as in the one-page guards.
   same-view : seen g ≡ seenBy policy (pageOf g) (reachedIn g)
   same-view i =
@@ -67,7 +81,7 @@ module _ (policy : Policy) (terms : Terms) (g : Guard) (h : Invariant policy ter
         stateFits = h .fits i;
         shadowFits = (eq-eqb (length (g .tables .shadow)) (g .state .pages) (h .shadowLength ∙ sym (h .pages))) i;
         mapFits = (eq-eqb (length (g .tables .map)) (g .state .pages) (h .mapLength ∙ sym (h .pages))) i;
-        exclusionFits = (eq-eqb (length (g .tables .exclusion)) (vectorBytes (g .state .frames)) (h .exclusionLength ∙ sym (ap vectorBytes (h .frames)))) i;
+        exclusionFits = (eq-eqb (length (g .tables .exclusion)) (vectorBytes (g .state .frames)) (exclusion-length ∙ sym (ap vectorBytes (h .frames)))) i;
       }
 
   -- The guard's outcome, by the number that the one-page guards settle.

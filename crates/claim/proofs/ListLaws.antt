@@ -13,7 +13,7 @@ use Rattle.claim.specs.Claim.{Agree, Always, Claim}
 use Rattle.claim.specs.Terms.{Terms, firstTerms, termsAfter}
 use Rattle.laws.proofs.QuestionLaws.{settle-accepted, settle-refused}
 use Rattle.laws.proofs.CallLaws.{effects}
-use Rattle.claim.proofs.Invariant.{Invariant, pageOf, answered}
+use Rattle.claim.proofs.Invariant.{Invariant, pageOf, exclusion-whole, answered}
 use Rattle.claim.proofs.CommuteLaws.{commutes, kept}
 use Rattle.claim.proofs.SafeLaws.{safe}
 use Rattle.claim.proofs.StartLaws.{first-pages, start-kept}
@@ -29,10 +29,10 @@ agree policy terms g h =
     record {
       shadowLength = h .shadowLength;
       mapLength = h .mapLength;
-      exclusionLength = h .exclusionLength;
       mode = λ p l. refl;
       entry = λ p l. refl;
       approval = λ p l. refl;
+      exclusion = λ p l. exclusion-whole policy terms g h;
     }
 
 -- What always holds gives the whole of the claim, for any list.

@@ -82,7 +82,7 @@ stepped-good policy code page k most below excluded h =
     (λ e. good-approved code page (page .approval) (h .approval e) (omega (arith, below (page .approval) (h .approval e))))
     (λ p l e. good-ordinary code page (inspected (fieldsOf k)) (page .approval) (omega arith) (h .approval))
     (λ l o e. good-approved code page (frameOf k) (excluded (frameOf k) e o) (omega arith))
-    (λ p l e. good-ordinary code page (fieldsOf k) (page .approval) (omega arith) (h .approval))
+    (λ p l o e. good-ordinary code page (fieldsOf k) (page .approval) (omega arith) (h .approval))
 
 -- In kernel mode the rule for bit 63 clears it for an approved mark only.
 clear-marked : (entry : ℕ) → noExecuteIn false entry ≡ false → approvedMark entry ≡ true

@@ -12,18 +12,18 @@ use Rattle.model.specs.Sizes.{pageBytes, lastByte, lastPage}
 use Rattle.model.specs.Guard.{Guard, hasBit}
 use Rattle.model.specs.Policy.{Policy}
 use Rattle.model.specs.Bits.{frameOf}
-use Rattle.model.specs.Devices.{deviceAt}
+use Rattle.model.specs.Devices.{deviceOf, deviceAt, inWindow}
 use Rattle.model.specs.Questions.{free}
 use Rattle.model.specs.Calls.{Call, fetch, write, deviceWrite, questionsOf, effectOf}
 use Rattle.claim.specs.CallKinds.{touchOf}
 use Rattle.claim.specs.OnePage.{reachedIn, seenBy, settled}
 use Rattle.claim.specs.Claim.{Clear, coveredBy, FetchSafe, WriteSafe, DeviceWriteSafe, Safe}
 use Rattle.claim.specs.Terms.{Terms, code}
-use Rattle.laws.proofs.QuestionLaws.{both-first, both-second}
+use Rattle.laws.proofs.QuestionLaws.{both-first, both-second, within-low, within-high}
 use Rattle.claim.proofs.PageLaws.{good-code}
 use Rattle.laws.proofs.AcceptedLaws.{fetch-there, fetch-executable, write-free, deviceWrite-free, deviceWrite-windowed}
 use Rattle.claim.proofs.KindLaws.{Touching, touchless, fetches, writes, transfers, kinds}
-use Rattle.claim.proofs.Invariant.{Invariant, pageOf}
+use Rattle.claim.proofs.Invariant.{Invariant, pageOf, excluded-is}
 
 module _ (policy : Policy) (terms : Terms) (g : Guard) (h : Invariant policy terms g) where
   -- Any byte of a frame that question 13 lets pass is clear.
@@ -35,7 +35,7 @@ module _ (policy : Policy) (terms : Terms) (g : Guard) (h : Invariant policy ter
         below = omega arith;
         unprotected =
             let bit : Bool = hasBit (g .tables .exclusion) f in
-            rw e (sym (h .excluded f) ∙ not-true bit (both-second (ltb f (policy .frames)) (not bit) passed));
+            rw e (sym (excluded-is policy terms g h f) ∙ not-true bit (both-second (ltb f (policy .frames)) (not bit) passed));
       }
 
   -- Every accepted call is safe: by what it touches.
@@ -66,14 +66,18 @@ module _ (policy : Policy) (terms : Terms) (g : Guard) (h : Invariant policy ter
 
   transfer-safe : (devices : List Device) (device address size : ℕ)
       → settled policy (pageOf g) (reachedIn g) (deviceWrite devices device address size) ≡ 0
-      → DeviceWriteSafe policy terms (deviceAt devices device) address size
-  unfolding settled questionsOf
+      → DeviceWriteSafe policy terms (getD devices device (deviceOf 1 0)) address size
+  unfolding settled questionsOf deviceAt inWindow
   transfer-safe devices device address size passed =
       let v = seenBy policy (pageOf g) (reachedIn g) in
-      let window : Device = deviceAt devices device in
+      let window : Device = getD devices device (deviceOf 1 0) in
       record {
         bytes = λ a l m. free-clear (a / pageBytes) a (deviceWrite-free v (length devices) window device address size passed a l m) refl;
-        windowed = λ a l m. deviceWrite-windowed v (length devices) window device address size passed a l m;
+        windowed = λ a l m.
+            let inside = deviceWrite-windowed v (length devices) window device address size passed a l m in (
+              within-low (window .first) (window .last) (a / pageBytes) inside,
+              within-high (window .first) (window .last) (a / pageBytes) inside,
+            );
       }
 
   pub safe : (call : Call) → settled policy (pageOf g) (reachedIn g) call ≡ 0

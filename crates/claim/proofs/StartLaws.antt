@@ -22,7 +22,7 @@ use Rattle.laws.proofs.StateLaws.{state-whole}
 use Rattle.laws.proofs.TableLaws.{length-table, past-no, table-read}
 use Rattle.laws.proofs.PolicyLaws.{Passed, start-passed, start-given, length-numbersAt, allBelow-getD, allBelow-member, member-here, member-there}
 use Rattle.laws.proofs.PolicyLaws.{member-later, frameFor-unlisted, frameFor-member}
-use Rattle.laws.proofs.VectorLaws.{vectorOf-length, vectorOf-bit}
+use Rattle.laws.proofs.VectorLaws.{vectorOf-bit, vectorOf-same}
 use Rattle.claim.proofs.PageLaws.{Good, good-absent, good-approved}
 use Rattle.claim.proofs.TermLaws.{isWaiting, awaited}
 use Rattle.claim.proofs.Invariant.{Invariant, pageOf}
@@ -206,10 +206,9 @@ module _ (given : Givens) (bytes : List ℕ) (l : Lengths) (accepted : firstNo (
         fits = start-fits;
         shadowLength = length-table (policy .pages) (λ p. firstEntry (approvalFor policy p));
         mapLength = length-table (policy .pages) (approvalFor policy);
-        exclusionLength = vectorOf-length (policy .frames) (named policy);
-        excluded = λ f. vectorOf-bit (policy .frames) (named policy) (named-below) f ∙ sym (protected-first f);
+        exclusion = vectorOf-same (policy .frames) _ _ (λ f. sym (protected-first f));
+        below = λ f e. named-below f (sym (protected-first f) ∙ e);
         waiting = λ f. refl;
         unnamed = λ f e. absurd (false≢true e);
-        below = λ f e. named-below f (rw code-first at e);
         good = λ p. rw code-first (subst (λ (ps : ℕ → Page). Good (named policy) (ps p)) (sym first-pages) (first-good p));
       }

@@ -80,6 +80,14 @@ code-term false noTerm p = p
 code-term false pendingTerm p = refl
 code-term false committedTerm p = refl
 
+-- A frame that is named or in a term after a drop was so before.
+pub drop-less : (named : Bool) (t : Term) → either named (inTerm (afterDrop t)) ≡ true → either named (inTerm t) ≡ true
+unfolding either inTerm afterDrop
+drop-less true t p = refl
+drop-less false noTerm p = p
+drop-less false pendingTerm p = refl
+drop-less false committedTerm p = refl
+
 -- One that is not pending is committed or named, and one in no term is neither.
 pub term-named : (named : Bool) (t : Term) → either named (inTerm t) ≡ false → named ≡ false
 unfolding either

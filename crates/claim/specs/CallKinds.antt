@@ -1,11 +1,13 @@
 -- The calls of demand 3's list by what they do, each classified once: what an allowed call touches, and what an accepted call does to the terms of
 -- frames. What holds of calls goes by these kinds, so that a call that does neither has one clause in each of the two functions.
 use Prim.Native.Nat.{ℕ}
+use lib.ListN.{getD}
 use Rattle.model.specs.declared.Device.{Device}
-use Rattle.model.specs.Devices.{deviceAt}
+use Rattle.model.specs.Devices.{deviceOf}
 use Rattle.model.specs.Calls.{Call, syncPage, syncAll, syncPageTree, syncAllTree, fetch, write, enter, leave, deviceWrite, ask, commit, drop}
 
--- A fetch touches its page, a write the bytes from an address on, and a device write those of memory, by its device's record in the list (K5).
+-- A fetch touches its page, a write the bytes from an address on, and a device write those of memory, by the record at its device's place in the list (K5).
+-- That is read off the list, and not by the guard's own lookup; past the list's end stands a window that no frame lies in.
 pub data Touch : Type 0 where
   untouched : Touch
   fetched : (page : ℕ) → Touch
@@ -21,7 +23,7 @@ touchOf (fetch page) = fetched page
 touchOf (write address size) = written address size
 touchOf (enter index) = untouched
 touchOf (leave page) = untouched
-touchOf (deviceWrite devices device address size) = transferred (deviceAt devices device) address size
+touchOf (deviceWrite devices device address size) = transferred (getD devices device (deviceOf 1 0)) address size
 touchOf (ask page frame) = untouched
 touchOf commit = untouched
 touchOf drop = untouched

@@ -7,24 +7,24 @@ use lib.ListN.{length, getD}
 use lib.Dec.{eqb}
 use Rattle.model.specs.declared.Device.{Device}
 use Rattle.model.specs.Sizes.{pageBytes}
-use Rattle.model.specs.Guard.{none, Tables, Guard, vectorBytes, inUser}
+use Rattle.model.specs.Guard.{none, Tables, Guard, vectorOf, inUser}
 use Rattle.model.specs.Policy.{Givens, Policy, policyOf}
 use Rattle.model.specs.Bits.{frameOf}
-use Rattle.model.specs.Devices.{inWindow}
 use Rattle.model.specs.Calls.{Reply, Outcome, startOf, Call, answer}
 use Rattle.claim.specs.CallKinds.{Touch, untouched, fetched, written, transferred, touchOf}
 use Rattle.claim.specs.OnePage.{Page, firstPage, reachedIn, settled, pagesAfter}
 use Rattle.claim.specs.Terms.{Terms, firstTerms, termsAfter, protected, code}
 
 -- After the start and after every call: the tables have their lengths, "the state agrees on kernel or user", and each page's shadow entry
--- and approval equal those of its one-page guard. Every page below V has its own place, so that no default of getD is compared.
+-- and approval equal those of its one-page guard. Every page below V has its own place, so that no default of getD is compared. The exclusion vector has
+-- the bits of the frames that each one-page guard holds excluded, and no others: its bytes are those of `vectorOf`, spare bits included.
 pub record Agree (policy : Policy) (g : Guard) (ps : ℕ → Page) : Type 0 where
   pub shadowLength : length (g .tables .shadow) ≡ policy .pages
   pub mapLength : length (g .tables .map) ≡ policy .pages
-  pub exclusionLength : length (g .tables .exclusion) ≡ vectorBytes (policy .frames)
   pub mode : (p : ℕ) → p < policy .pages → inUser (g .state .mode) ≡ (ps p) .user
   pub entry : (p : ℕ) → p < policy .pages → getD (g .tables .shadow) p 0 ≡ (ps p) .entry
   pub approval : (p : ℕ) → p < policy .pages → getD (g .tables .map) p none ≡ (ps p) .approval
+  pub exclusion : (p : ℕ) → p < policy .pages → g .tables .exclusion ≡ vectorOf (policy .frames) ((ps p) .excluded)
 
 -- "Frame f is the 4,096 bytes from f × 4,096; memory beyond the last frame begins at F × 4,096." Byte x of memory lies in no frame that is protected as
 -- the terms stand, and not beyond the last frame.
@@ -53,7 +53,7 @@ pub record WriteSafe (policy : Policy) (terms : Terms) (ps : ℕ → Page) (addr
 -- "An allowed device write covers its bytes at their own addresses." Each lies in its device's window too, by the list that reaches the call (K5).
 pub record DeviceWriteSafe (policy : Policy) (terms : Terms) (window : Device) (address size : ℕ) : Type 0 where
   pub bytes : (a : ℕ) → address ≤ a → a < address + size → Clear policy terms a
-  pub windowed : (a : ℕ) → address ≤ a → a < address + size → inWindow window (a / pageBytes) ≡ true
+  pub windowed : (a : ℕ) → address ≤ a → a < address + size → (window .first ≤ a / pageBytes) × (a / pageBytes ≤ window .last)
 
 -- What an allowed call reads and covers, by what it touches and by the one-page guards as they are at the call.
 abbrev pub Safe : Policy → Terms → (ℕ → Page) → Touch → Reply → Type 0

@@ -52,7 +52,7 @@ step-carries rules entry approval k l h =
     (λ e. mapped k _ low h (rules .user) approval)
     (λ p m e. plain k _ low h (rules .user) (inspected (fieldsOf entry)) (inspected-keeps (rules .user) (fieldsOf entry) k l h ∙ ordinary-carries (rules .user) entry k p h))
     (λ m o e. mapped k _ low h (rules .user) (frameOf entry))
-    (λ p m o. plain k _ low h (rules .user) (fieldsOf entry) (ordinary-carries (rules .user) entry k p h))
+    (λ p m o e. plain k _ low h (rules .user) (fieldsOf entry) (ordinary-carries (rules .user) entry k p h))
 
 -- Bit 1: a pending frame clears it.
 pub step-writes : StepWrites
@@ -65,4 +65,4 @@ step-writes rules entry approval =
     (λ e. mapped 1 _ low h (rules .user) approval)
     (λ p m e. plain 1 _ low h (rules .user) (inspected (fieldsOf entry)) (rw e (writable-ordinary (rules .user) (inspected (fieldsOf entry)))))
     (λ m o e. mapped 1 _ low h (rules .user) (frameOf entry))
-    (λ p m o. plain 1 _ low h (rules .user) (fieldsOf entry) (rw o (ordinary-carries (rules .user) entry 1 p h)))
+    (λ p m o e. plain 1 _ low h (rules .user) (fieldsOf entry) (rw o (ordinary-carries (rules .user) entry 1 p h)))

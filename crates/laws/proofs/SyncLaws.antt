@@ -24,7 +24,8 @@ pub step-cases : (P : Slot → Type 0) (rules : Rules) (k a : ℕ)
     → (valid k ≡ true → frameOf k < rules .frames → eqb (frameOf k) (rules .pending) ≡ true → P (slot (ordinary (rules .user) (inspected (fieldsOf k))) a))
     → (frameOf k < rules .frames → eqb (frameOf k) (rules .pending) ≡ false → rules .excluded (frameOf k) ≡ true
     → P (slot (approved (rules .user) (frameOf k)) (frameOf k)))
-    → (valid k ≡ true → frameOf k < rules .frames → eqb (frameOf k) (rules .pending) ≡ false → P (slot (ordinary (rules .user) (fieldsOf k)) a))
+    → (valid k ≡ true → frameOf k < rules .frames → eqb (frameOf k) (rules .pending) ≡ false → rules .excluded (frameOf k) ≡ false
+    → P (slot (ordinary (rules .user) (fieldsOf k)) a))
     → P (step rules k a)
 unfolding step fieldsOf stepOf
 step-cases P rules k a absent mapped waits joins plain = by (taken-apart k)
@@ -38,4 +39,4 @@ step-cases P rules k a absent mapped waits joins plain = by (taken-apart k)
         let below : frameOf k < rules .frames = leb-false (rules .frames) (frameOf k) e in
         let there-valid : valid k ≡ true = present-valid k (fieldsOf k) there in
         cond-cases P (eqb (frameOf k) (rules .pending)) (waits there-valid below) (λ other.
-        cond-cases P (rules .excluded (frameOf k)) (joins below other) (λ e. plain there-valid below other)))))
+        cond-cases P (rules .excluded (frameOf k)) (joins below other) (plain there-valid below other)))))

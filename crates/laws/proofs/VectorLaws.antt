@@ -11,7 +11,7 @@ use lib.Seq.{getD-set-same, getD-set-other, ext-getD}
 use borrow.Author.Tests.{eq-eqb, ne-eqb, eqb-true, eqb-false}
 use Rattle.model.specs.Basics.{bit, flag}
 use Rattle.model.specs.Guard.{vectorBytes, hasBit, byteOf, vectorOf, withBit}
-use Rattle.laws.proofs.TableLaws.{length-table, getD-table, past-no, table-read}
+use Rattle.laws.proofs.TableLaws.{length-table, getD-table, table-same, past-no, table-read}
 
 -- What holds of 0 to 7 holds of every number below 8.
 pub below8 : (P : ℕ → Type 0) → P 0 → P 1 → P 2 → P 3 → P 4 → P 5 → P 6 → P 7 → (j : ℕ) → j < 8 → P j
@@ -183,6 +183,11 @@ withBit-vectorOf b frames h f l =
         let q : i ≡ f / 8 → ⊥ = eqb-false i (f / 8) e in
         rw (getD-set-other v (f / 8) i (byteOf new) 0 q, vectorOf-byte frames h i 0 c, vectorOf-byte frames both i 0 c)
         (byteOf-ext (λ j. h (i * 8 + j)) (λ j. both (i * 8 + j)) (λ j. bit-other i j q))
+
+-- Two vectors are the same where the tests of their frames are.
+pub vectorOf-same : (frames : ℕ) (test test′ : ℕ → Bool) → ((f : ℕ) → test f ≡ test′ f) → vectorOf frames test ≡ vectorOf frames test′
+unfolding vectorOf
+vectorOf-same frames test test′ same = table-same (vectorBytes frames) _ _ (λ i l. byteOf-ext _ _ (λ j c. same (i * 8 + j)))
 
 -- A vector has the bits of just the frames that a test holds of, also past F, if it holds of none there.
 pub vectorOf-bit : (frames : ℕ) (test : ℕ → Bool) → ((f : ℕ) → test f ≡ true → f < frames) → (f : ℕ) → hasBit (vectorOf frames test) f ≡ test f
