@@ -1,92 +1,70 @@
--- K6: a frame that is committed was protected from its ask on, and stays so.
-use Prim.Native.Nat.{ℕ, zero, suc, _*_, _+_, _/_, _%_}
-use mathlib.Core.Bool.{Bool, true, false, cond, true≢false}
-use mathlib.Core.List.{List, [], _∷_, _++_}
-use mathlib.Core.Path.{_≡_, refl, sym, ap, _∙_}
-use lib.Dec.{eqb}
-use lib.ListN.{getD}
-use borrow.Author.Tests.{eqb-true, eq-eqb}
+-- K6, from the claim alone: a frame that is committed was protected from its ask on, and stays so.
+use Prim.Native.Nat.{ℕ, zero, suc, _+_, _-_, _*_, _/_, _%_, _≤_, _<_}
+use mathlib.Core.Bool.{Bool, true, false, not, cond, true≢false}
+use mathlib.Core.List.{List, [], _∷_, _++_, append-nil, append-assoc}
+use mathlib.Core.Path.{_≡_, refl, sym, ap, subst, _∙_}
+use lib.Dec.{ltb, eqb}
+use lib.ListN.{length, getD}
+use borrow.Author.Tests.{lt-ltb, eq-eqb, eqb-true}
 use native.Mathlib.Omega.{arith}
-use Rattle.model.specs.Sizes.{pageBytes}
-use Rattle.model.specs.Guard.{Guard}
-use Rattle.model.specs.Policy.{Policy, policyOf, named, startGuard}
+use Rattle.model.specs.declared.Device.{Device}
+use Rattle.model.specs.Basics.{both, everyFrom}
+use Rattle.model.specs.Sizes.{pageBytes, devicesInRange, lastByte, lastPage, touched}
+use Rattle.model.specs.Guard.{Tables, Guard}
+use Rattle.model.specs.Policy.{Givens, Policy, policyOf, named, startState, startGuard}
 use Rattle.model.specs.Bits.{frameOf}
-use Rattle.model.specs.Questions.{firstNo, lengthsOf, startQuestions}
-use Rattle.model.specs.Calls.{Outcome, settle, refusedOf, broughtBy, startOf, Call, ask, commit, questionsOf, effectOf, answer}
-use Rattle.claim.specs.CallKinds.{Touch, untouched, fetched, written, transferred, touchOf, TermChange, unchanged, begun, confirmed, ended, termChangeOf}
-use Rattle.claim.proofs.KindLaws.{Changing, keeps, asks, commits, drops, kinds}
+use Rattle.model.specs.Devices.{deviceOf, deviceAt, inWindow}
+use Rattle.model.specs.Questions.{View, firstNo, givensInRange, lengthsOf, inOrder, free, everyTouched, deviceWriteQuestions}
+use Rattle.model.specs.Calls.{settle, startOf, Call, fetch, write, deviceWrite, ask, commit, drop, questionsOf, answer}
+use Rattle.laws.specs.Windows.{DevicesKept}
+use Rattle.claim.specs.CallKinds.{touchOf, termChangeOf}
 use Rattle.claim.specs.OnePage.{reachedIn, seenBy, settled}
-use Rattle.claim.specs.Claim.{Safe, coveredBy}
 use Rattle.claim.specs.Terms.{Term, pendingTerm, Terms, firstTerms, termAfter, termsAfter, inTerm, isCommitted, protected}
-use Rattle.claim.specs.Lists.{Accepts, guardAfter, EachAccepted}
-use Rattle.claim.specs.Committing.{Misses, Avoids, Undropped, NoDrop, CommittedKept}
-use Rattle.laws.proofs.QuestionLaws.{settle-accepted, settle-refused, settle-number, either-second}
-use Rattle.laws.proofs.CallLaws.{effects}
-use Rattle.laws.proofs.AcceptedLaws.{ask-free}
+use Rattle.claim.specs.Claim.{Claim}
+use Rattle.claim.specs.Lists.{Accepts, guardAfter, termsAlong, EachAccepted}
+use Rattle.claim.specs.Committing.{Misses, Avoids, NoDrop, CommittedKept, CommittedMissed}
+use Rattle.laws.proofs.QuestionLaws.{both-yes, within-low, within-yes, firstNo-yes, either-second}
+use Rattle.laws.proofs.AcceptedLaws.{ask-frame, ask-free}
+use Rattle.laws.proofs.CallLaws.{none-left}
+use Rattle.laws.proofs.DeviceLaws.{devices-kept}
+use Rattle.laws.proofs.PolicyLaws.{start-given}
+use Rattle.claim.proofs.KindLaws.{Touching, touchless, fetches, writes, transfers, Changing, keeps, asks, commits, drops, kinds}
 use Rattle.claim.proofs.TermLaws.{commit-in, commit-code, drop-code, committed-in}
-use Rattle.claim.proofs.Invariant.{Invariant, pageOf, excluded-is, answered}
-use Rattle.claim.proofs.CommuteLaws.{kept}
-use Rattle.claim.proofs.SafeLaws.{safe}
-use Rattle.claim.proofs.StartLaws.{start-kept}
+use Rattle.claim.proofs.StartLaws.{start-settled, start-guard}
+use Rattle.claim.proofs.AlongLaws.{guard-snoc, guard-append, terms-snoc, at, termsAt, pagesAt, numbered, settles, transfer-is-safe, written-clear}
 
-module _ (policy : Policy) (terms : Terms) (g : Guard) (h : Invariant policy terms g) (call : Call) where
-  -- The guard's number is the settled one.
-  number-settled : (answer g call) .reply .number ≡ settled policy (pageOf g) (reachedIn g) call
-  number-settled =
-      ap (λ (o : Outcome). o .reply .number) (answered policy terms g h call)
-      ∙ settle-number (λ (o : Outcome). o .reply .number) (settled policy (pageOf g) (reachedIn g) call) (effectOf g call) (refusedOf g (broughtBy call))
-      (effects g call .number) (λ k. refl)
+-- A list of devices with one record throughout.
+many : ℕ → Device → List Device
+many zero d = []
+many (suc n) d = d ∷ many n d
 
-  accepted-settled : Accepts g call → settled policy (pageOf g) (reachedIn g) call ≡ 0
-  accepted-settled e = sym number-settled ∙ e
+many-length : (n : ℕ) (d : Device) → length (many n d) ≡ n
+unfolding many
+many-length zero d = refl
+many-length (suc n) d = ap suc (many-length n d)
 
-  accepted-guard : Accepts g call → (answer g call) .guard ≡ (effectOf g call) .guard
-  accepted-guard e =
-      ap (λ (o : Outcome). o .guard) (answered policy terms g h call ∙ settle-accepted (effectOf g call) (refusedOf g (broughtBy call)) (accepted-settled e))
+many-first : (n : ℕ) (d other : Device) → 1 ≤ n → getD (many n d) 0 other ≡ d
+unfolding many
+many-first zero d other some = absurd (omega arith)
+many-first (suc n) d other some = refl
 
-  -- After a call, refused or accepted.
-  pub step-kept : Invariant policy (termsAfter ((answer g call) .reply .number) call terms) ((answer g call) .guard)
-  unfolding termsAfter settle
-  step-kept = by ((answer g call) .reply .number) refl
-    where
-      by : (n : ℕ) → (answer g call) .reply .number ≡ n → Invariant policy (termsAfter n call terms) ((answer g call) .guard)
-      by zero e = rw (accepted-guard e) (kept policy terms g h call (accepted-settled e))
-      by (suc n) e =
-          let guard : (answer g call) .guard ≡ g =
-          ap (λ (o : Outcome). o .guard)
-          (answered policy terms g h call ∙ settle-refused n (effectOf g call) (refusedOf g (broughtBy call)) (sym number-settled ∙ e)) in
-          rw guard h
+-- A test of one number alone.
+every-one : (test : ℕ → Bool) (first count : ℕ) → count ≡ 1 → test first ≡ true → everyFrom test first count ≡ true
+unfolding everyFrom
+every-one test first count e p = rw e (both-yes p refl)
 
-  -- A protected frame: an allowed write or transfer covers no byte of it.
-  avoids : (f : ℕ) → protected policy terms f ≡ true → Accepts g call → Avoids f g call
-  unfolding coveredBy
-  avoids f is e = by (touchOf call) (safe policy terms g h call (accepted-settled e))
-    where
-      other : (x : ℕ) → protected policy terms (x / pageBytes) ≡ false → x / pageBytes ≡ f → ⊥
-      other x clear same = true≢false (sym is ∙ (rw same at clear))
+-- No call changes the number of devices.
+devices-along : (calls : List Call) (g : Guard) → guardAfter g calls .state .devices ≡ g .state .devices
+unfolding guardAfter DevicesKept
+devices-along [] g = refl
+devices-along (call ∷ calls) g = devices-along calls ((answer g call) .guard) ∙ devices-kept g call
 
-      by : (touch : Touch) → Safe policy terms (pageOf g) touch ((effectOf g call) .reply) → Misses f g touch
-      by untouched s = tt
-      by (fetched page) s = tt
-      by (written address size) s =
-          λ a l m same.
-          let frame : ℕ = frameOf (getD (g .tables .shadow) (a / pageBytes) 0) in
-          let here : (frame * pageBytes + a % pageBytes) / pageBytes ≡ frame = omega arith in
-          other (frame * pageBytes + a % pageBytes) (s .bytes a l m .unprotected) (here ∙ same)
-      by (transferred window address size) s = λ a l m same. other a (s .bytes a l m .unprotected) same
-
--- A term goes on at every accepted call that is no drop.
-asked-in : (b : Bool) (t : Term) → inTerm t ≡ true → inTerm (cond b pendingTerm t) ≡ true
-unfolding inTerm
-asked-in true t p = refl
-asked-in false t p = p
-
-goes-on : (change : TermChange) (f : ℕ) (t : Term) → Undropped change → inTerm t ≡ true → inTerm (termAfter change f t) ≡ true
-unfolding termAfter
-goes-on unchanged f t undropped p = p
-goes-on (begun frame) f t undropped p = asked-in (eqb f frame) t p
-goes-on confirmed f t undropped p = commit-in t ∙ p
-goes-on ended f t undropped p = absurd undropped
+-- What holds of each accepted call of two lists, one after the other.
+each-append : (P : Guard → Call → Type 0) (g : Guard) (xs ys : List Call) → EachAccepted P g xs → EachAccepted P (guardAfter g xs) ys
+    → EachAccepted P g (xs ++ ys)
+unfolding guardAfter
+each-append P g [] ys a b = b
+each-append P g (x ∷ xs) ys a b = (a .0, each-append P ((answer g x) .guard) xs ys (a .1) b)
 
 -- A refused call changes no term, so it is enough to look at an accepted one.
 after-call : (P : Term → Type 0) (n : ℕ) (call : Call) (terms : Terms) (f : ℕ) → P (terms f) → (n ≡ 0 → P (termAfter (termChangeOf call) f (terms f)))
@@ -95,105 +73,224 @@ unfolding termsAfter settle
 after-call P zero call terms f before accepted = accepted refl
 after-call P (suc n) call terms f before accepted = before
 
-module _ (policy : Policy) (f : ℕ) where
-  abbrev Open : Term → Type 0
-  Open t = inTerm t ≡ true
+-- A term goes on at every accepted call that is no drop.
+asked-in : (b : Bool) (t : Term) → inTerm t ≡ true → inTerm (cond b pendingTerm t) ≡ true
+unfolding inTerm
+asked-in true t p = refl
+asked-in false t p = p
 
-  abbrev Lasts : Term → Type 0
-  Lasts t = isCommitted t ≡ true
+goes-on : (call : Call) (f : ℕ) (t : Term) → (call ≡ drop → ⊥) → inTerm t ≡ true → inTerm (termAfter (termChangeOf call) f t) ≡ true
+unfolding termAfter termChangeOf
+goes-on call f t undropped p = by (kinds call .1)
+  where
+    by : Changing call → inTerm (termAfter (termChangeOf call) f t) ≡ true
+    by (keeps e) = rw e p
+    by (asks page frame e) = rw e (asked-in (eqb f frame) t p)
+    by (commits e) = rw e (commit-in t ∙ p)
+    by (drops e) = absurd (undropped e)
 
-  open-protected : (terms : Terms) → Open (terms f) → protected policy terms f ≡ true
-  unfolding protected
-  open-protected terms p = either-second (named policy f) p
+module _ (claimed : Claim) (given : Givens) (bytes : List ℕ) (t : Tables) (accepted : (startOf given bytes t) .reply .number ≡ 0) where
+  abbrev policy : Policy
+  policy = policyOf bytes
 
-  -- A committed frame stays so: an ask for it is refused, since it is excluded.
-  asked-other : (terms : Terms) (g : Guard) → Invariant policy terms g → (page frame : ℕ) → Lasts (terms f)
-      → settled policy (pageOf g) (reachedIn g) (ask page frame) ≡ 0 → Lasts (cond (eqb f frame) pendingTerm (terms f))
+  abbrev start : Guard
+  start = (startOf given bytes t) .guard
+
+  -- The guard and the terms after a list.
+  abbrev now : List Call → Guard
+  now = at claimed given bytes t accepted
+
+  abbrev termsNow : List Call → Terms
+  termsNow = termsAt claimed given bytes t accepted
+
+  some-device : (calls : List Call) → 1 ≤ now calls .state .devices
+  unfolding startGuard startState givensInRange devicesInRange
+  some-device calls =
+      rw (devices-along calls start, start-guard given bytes t accepted)
+      (within-low 1 64 (given .devices) (start-given given bytes policy (lengthsOf t) (start-settled given bytes t accepted)))
+
+  -- A frame below F that no one-page guard excludes may be written to by a device that has it for a window, so that it is not protected.
+  module _ (calls : List Call) (f : ℕ) (small : f < policy .frames) where
+    abbrev v : View
+    v = seenBy policy (pagesAt claimed given bytes t accepted calls) (reachedIn (now calls))
+
+    abbrev devices : List Device
+    devices = many (now calls .state .devices) (deviceOf f f)
+
+    abbrev transfer : Call
+    transfer = deviceWrite devices 0 (f * pageBytes) 1
+
+    its-window : getD devices 0 (deviceOf 1 0) ≡ deviceOf f f
+    its-window = many-first (now calls .state .devices) (deviceOf f f) (deviceOf 1 0) (some-device calls)
+
+    its-frame : f * pageBytes / pageBytes ≡ f
+    its-frame = omega arith
+
+    touches-one : (test : ℕ → Bool) → test f ≡ true → everyTouched test (f * pageBytes) 1 ≡ true
+    unfolding everyTouched touched lastPage lastByte
+    touches-one test p = every-one test (f * pageBytes / pageBytes) _ (omega arith) (rw its-frame p)
+
+    passes : v .excluded f ≡ false → settled policy (pagesAt claimed given bytes t accepted calls) (reachedIn (now calls)) transfer ≡ 0
+    unfolding settled questionsOf deviceWriteQuestions inOrder both deviceAt inWindow lastPage lastByte free
+    passes clear =
+        firstNo-yes 7 _ (rw (eq-eqb (length devices) (now calls .state .devices) (many-length _ _)) refl)
+        ∙ firstNo-yes 8 _ (within-yes 1 1048576 1 (omega arith) (omega arith))
+        ∙ firstNo-yes 18 _ (lt-ltb 0 (length devices) (rw many-length (some-device calls)))
+        ∙ firstNo-yes 9 _ (lt-ltb (f * pageBytes + 1 - 1) (policy .frames * pageBytes) (omega arith))
+        ∙ firstNo-yes 19 _ (rw its-window (both-yes (within-yes f f _ (omega arith) (omega arith)) (within-yes f f _ (omega arith) (omega arith))))
+        ∙ firstNo-yes 13 _ (touches-one (free v) (both-yes (lt-ltb f (policy .frames) small) (rw clear refl)))
+        ∙ sym none-left
+
+    free-unprotected : v .excluded f ≡ false → protected policy (termsNow calls) f ≡ false
+    free-unprotected clear =
+        rw its-frame at
+        (transfer-is-safe claimed given bytes t accepted calls devices 0 (f * pageBytes) 1 (numbered claimed given bytes t accepted calls transfer ∙ passes clear)
+        .bytes (f * pageBytes) (omega arith) (omega arith) .unprotected)
+
+  -- So an ask for a protected frame is refused.
+  ask-unprotected : (calls : List Call) (page frame : ℕ) → Accepts (now calls) (ask page frame) → protected policy (termsNow calls) frame ≡ false
   unfolding settled questionsOf
-  asked-other terms g h page frame p passed = by (eqb f frame) refl
-    where
-      free : protected policy terms frame ≡ false
-      free = sym (excluded-is policy terms g h frame) ∙ ask-free (seenBy policy (pageOf g) (reachedIn g)) page frame passed
+  ask-unprotected calls page frame e =
+      let view : View = seenBy policy (pagesAt claimed given bytes t accepted calls) (reachedIn (now calls)) in
+      let passed : settled policy (pagesAt claimed given bytes t accepted calls) (reachedIn (now calls)) (ask page frame) ≡ 0 =
+      settles claimed given bytes t accepted calls (ask page frame) e in
+      free-unprotected calls frame (ask-frame view page frame passed) (ask-free view page frame passed)
 
-      by : (b : Bool) → eqb f frame ≡ b → Lasts (cond b pendingTerm (terms f))
-      by true e = absurd (true≢false (sym (open-protected terms (committed-in (terms f) p)) ∙ (rw (← (eqb-true f frame e)) at free)))
-      by false e = p
+  -- A protected frame: an allowed write or transfer covers no byte of it.
+  module _ (calls : List Call) (f : ℕ) (is : protected policy (termsNow calls) f ≡ true) where
+    other : (x : ℕ) → protected policy (termsNow calls) x ≡ false → x ≡ f → ⊥
+    other x clear same = true≢false (sym is ∙ (rw same at clear))
 
-  lasts : (terms : Terms) (g : Guard) → Invariant policy terms g → (call : Call) → Lasts (terms f)
-      → settled policy (pageOf g) (reachedIn g) call ≡ 0 → Lasts (termAfter (termChangeOf call) f (terms f))
-  unfolding termAfter termChangeOf
-  lasts terms g h call p passed = by (kinds call .1)
-    where
-      by : Changing call → Lasts (termAfter (termChangeOf call) f (terms f))
-      by (keeps e) = rw e p
-      by (asks page frame e) = rw e (asked-other terms g h page frame p (rw e at passed))
-      by (commits e) = rw e (commit-code (terms f) ∙ committed-in (terms f) p)
-      by (drops e) = rw e (drop-code (terms f) ∙ p)
+    avoids : (call : Call) → Accepts (now calls) call → Avoids f (now calls) call
+    unfolding touchOf
+    avoids call e = by (kinds call .0)
+      where
+        by : Touching call → Avoids f (now calls) call
+        by (touchless is) = rw is tt
+        by (fetches page is) = rw is tt
+        by (writes address size is) =
+            rw is (λ a l m same. other _ (written-clear claimed given bytes t accepted calls address size (rw is at e) a l m .1) same)
+        by (transfers devices device address size is) =
+            rw is (λ a l m same. other _ (transfer-is-safe claimed given bytes t accepted calls devices device address size (rw is at e) .bytes a l m .unprotected) same)
 
-  -- From its commit on.
-  for-good : (calls : List Call) (terms : Terms) (g : Guard) → Invariant policy terms g → Lasts (terms f) → EachAccepted (Avoids f) g calls
-  for-good [] terms g h p = tt
-  for-good (call ∷ calls) terms g h p = (
-    avoids policy terms g h call f (open-protected terms (committed-in (terms f) p)),
-    for-good calls _ ((answer g call) .guard) (step-kept policy terms g h call)
-        (after-call Lasts ((answer g call) .reply .number) call terms f p (λ e. lasts terms g h call p (accepted-settled policy terms g h call e))),
-  )
+  module _ (f : ℕ) where
+    abbrev Open : Term → Type 0
+    Open t = inTerm t ≡ true
 
-  -- From its ask to its commit.
-  until : (calls rest : List Call) (terms : Terms) (g : Guard) → Invariant policy terms g → Open (terms f) → EachAccepted NoDrop g calls
-      → ((terms′ : Terms) → Invariant policy terms′ (guardAfter g calls) → Open (terms′ f) → EachAccepted (Avoids f) (guardAfter g calls) rest)
-      → EachAccepted (Avoids f) g (calls ++ rest)
-  unfolding guardAfter
-  until [] rest terms g h p undropped then = then terms h p
-  until (call ∷ calls) rest terms g h p undropped then = (
-    avoids policy terms g h call f (open-protected terms p),
-    until calls rest _ ((answer g call) .guard) (step-kept policy terms g h call)
-        (after-call Open ((answer g call) .reply .number) call terms f p (λ e. goes-on (termChangeOf call) f (terms f) (undropped .0 e) p)) (undropped .1) then,
-  )
+    abbrev Lasts : Term → Type 0
+    Lasts t = isCommitted t ≡ true
 
--- The terms after a list of calls.
-along : (policy : Policy) (calls : List Call) (terms : Terms) (g : Guard) → Invariant policy terms g → (P : Guard → Type 0)
-    → ((terms′ : Terms) → Invariant policy terms′ (guardAfter g calls) → P (guardAfter g calls)) → P (guardAfter g calls)
-unfolding guardAfter
-along policy [] terms g h P then = then terms h
-along policy (call ∷ calls) terms g h P then = along policy calls _ ((answer g call) .guard) (step-kept policy terms g h call) P then
+    open-protected : (terms : Terms) → Open (terms f) → protected policy terms f ≡ true
+    unfolding protected
+    open-protected terms p = either-second (named policy f) p
 
--- The ask and the commit, each at its place.
-from-ask : (policy : Policy) (terms : Terms) (g : Guard) → Invariant policy terms g → (page frame : ℕ) (between after : List Call) → Accepts g (ask page frame)
-    → let asked : Guard = (answer g (ask page frame)) .guard in
-    EachAccepted NoDrop asked between → Accepts (guardAfter asked between) commit → EachAccepted (Avoids frame) asked (between ++ (commit ∷ after))
+    -- The term after a call more.
+    term-next : (P : Term → Type 0) (calls : List Call) (call : Call) → P (termsNow calls f)
+        → (Accepts (now calls) call → P (termAfter (termChangeOf call) f (termsNow calls f))) → P (termsNow (calls ++ (call ∷ [])) f)
+    term-next P calls call before then =
+        rw (terms-snoc start firstTerms calls call) (after-call P ((answer (now calls) call) .reply .number) call (termsNow calls) f before then)
+
+    -- A committed frame stays so: an ask for it is refused.
+    lasts : (calls : List Call) (call : Call) → Lasts (termsNow calls f) → Accepts (now calls) call → Lasts (termAfter (termChangeOf call) f (termsNow calls f))
+    unfolding termAfter termChangeOf
+    lasts calls call p e = by (kinds call .1)
+      where
+        asked-other : (page frame : ℕ) → Accepts (now calls) (ask page frame) → (b : Bool) → eqb f frame ≡ b → Lasts (cond b pendingTerm (termsNow calls f))
+        asked-other page frame e true same =
+            let free : protected policy (termsNow calls) f ≡ false = rw (← (eqb-true f frame same)) at (ask-unprotected calls page frame e) in
+            absurd (true≢false (sym (open-protected (termsNow calls) (committed-in (termsNow calls f) p)) ∙ free))
+        asked-other page frame e false same = p
+
+        by : Changing call → Lasts (termAfter (termChangeOf call) f (termsNow calls f))
+        by (keeps is) = rw is p
+        by (asks page frame is) = rw is (asked-other page frame (rw is at e) (eqb f frame) refl)
+        by (commits is) = rw is (commit-code (termsNow calls f) ∙ committed-in (termsNow calls f) p)
+        by (drops is) = rw is (drop-code (termsNow calls f) ∙ p)
+
+    -- From its commit on.
+    for-good : (rest calls : List Call) → Lasts (termsNow calls f) → EachAccepted (Avoids f) (now calls) rest
+    for-good [] calls p = tt
+    for-good (call ∷ rest) calls p = (
+      avoids calls f (open-protected (termsNow calls) (committed-in (termsNow calls f) p)) call,
+      subst (λ (g : Guard). EachAccepted (Avoids f) g rest) (guard-snoc start calls call)
+          (for-good rest (calls ++ (call ∷ [])) (term-next Lasts calls call p (lasts calls call p))),
+    )
+
+    -- From its ask to its commit.
+    until : (rest calls : List Call) → Open (termsNow calls f) → EachAccepted NoDrop (now calls) rest
+        → EachAccepted (Avoids f) (now calls) rest × Open (termsNow (calls ++ rest) f)
+    until [] calls p undropped = (tt, rw append-nil p)
+    until (call ∷ rest) calls p undropped =
+        let next = until rest (calls ++ (call ∷ [])) (term-next Open calls call p (λ e. goes-on call f (termsNow calls f) (undropped .0 e) p))
+        (rw (guard-snoc start calls call) (undropped .1)) in (
+          (avoids calls f (open-protected (termsNow calls) p) call, rw (guard-snoc start calls call) at (next .0)),
+          rw append-assoc at (next .1),
+        )
+
+pub committed-kept : Claim → CommittedKept
 unfolding termsAfter settle termAfter termChangeOf touchOf inTerm
-from-ask policy terms g h page frame between after asking undropped committing =
-    until policy frame between (commit ∷ after) _ _ (step-kept policy terms g h (ask page frame)) opened undropped (λ terms′ h′ p. (
-      (λ _. tt),
-      for-good policy frame after _ _ (step-kept policy terms′ _ h′ commit) (lasting terms′ p),
-    ))
+committed-kept claimed given bytes t before between after page frame accepted asking undropped committing =
+    each-append (Avoids frame) asked between (commit ∷ after) (rw there at (kept .0)) ((λ _. tt), then)
   where
-    opened : inTerm (termsAfter ((answer g (ask page frame)) .reply .number) (ask page frame) terms frame) ≡ true
-    opened = rw (asking, eq-eqb frame frame refl) refl
+    start : Guard
+    start = (startOf given bytes t) .guard
 
-    lasting : (terms′ : Terms) → inTerm (terms′ frame) ≡ true
-        → isCommitted (termsAfter ((answer (guardAfter ((answer g (ask page frame)) .guard) between) commit) .reply .number) commit terms′ frame) ≡ true
-    lasting terms′ p = rw committing (commit-code (terms′ frame) ∙ p)
+    asked : Guard
+    asked = (answer (guardAfter start before) (ask page frame)) .guard
 
-pub committed-kept : CommittedKept
-unfolding startOf
-committed-kept given bytes t before between after page frame accepted =
-    by-number (firstNo (startQuestions given bytes (policyOf bytes) (lengthsOf t))) refl
+    -- The calls up to the ask, up to the commit, and with it.
+    one : List Call
+    one = before ++ (ask page frame ∷ [])
+
+    two : List Call
+    two = one ++ between
+
+    three : List Call
+    three = two ++ (commit ∷ [])
+
+    there : guardAfter start one ≡ asked
+    there = guard-snoc start before (ask page frame)
+
+    there-two : guardAfter start two ≡ guardAfter asked between
+    there-two = guard-append start one between ∙ ap (λ (g : Guard). guardAfter g between) there
+
+    opened : inTerm (termsAlong start firstTerms one frame) ≡ true
+    opened = rw (terms-snoc start firstTerms before (ask page frame), asking, eq-eqb frame frame refl) refl
+
+    kept : EachAccepted (Avoids frame) (guardAfter start one) between × (inTerm (termsAlong start firstTerms two frame) ≡ true)
+    kept = until claimed given bytes t accepted frame between one opened (rw there undropped)
+
+    lasting : isCommitted (termsAlong start firstTerms three frame) ≡ true
+    lasting = rw (terms-snoc start firstTerms two commit, there-two, committing) (commit-code (termsAlong start firstTerms two frame) ∙ kept .1)
+
+    then : EachAccepted (Avoids frame) ((answer (guardAfter asked between) commit) .guard) after
+    then = rw (← there-two, ← (guard-snoc start two commit)) (for-good claimed given bytes t accepted frame after three lasting)
+
+-- No accepted drop at any place of a list.
+no-drops : (g : Guard) (calls : List Call) → ((xs ys : List Call) → calls ≡ xs ++ (drop ∷ ys) → Accepts (guardAfter g xs) drop → ⊥) → EachAccepted NoDrop g calls
+unfolding guardAfter
+no-drops g [] none = tt
+no-drops g (call ∷ calls) none = (
+  (λ e same. none [] calls (ap (λ (c : Call). c ∷ calls) same) (rw same at e)),
+  no-drops ((answer g call) .guard) calls (λ xs ys split e. none (call ∷ xs) ys (ap (λ (l : List Call). call ∷ l) split) e),
+)
+
+-- What holds of each accepted call holds of the one at a place.
+each-at : (P : Guard → Call → Type 0) (g : Guard) (xs ys : List Call) (call : Call) → EachAccepted P g (xs ++ (call ∷ ys)) → Accepts (guardAfter g xs) call
+    → P (guardAfter g xs) call
+unfolding guardAfter
+each-at P g [] ys call each e = each .0 e
+each-at P g (x ∷ xs) ys call each e = each-at P ((answer g x) .guard) xs ys call (each .1) e
+
+pub committed-missed : CommittedKept → CommittedMissed
+unfolding touchOf
+committed-missed kept given bytes t before between after page frame accepted asking none committing xs ys = (
+  (λ address size split e. each-at (Avoids frame) asked xs ys (write address size) (rw split at all) e),
+  (λ devices device address size split e. each-at (Avoids frame) asked xs ys (deviceWrite devices device address size) (rw split at all) e),
+)
   where
-    by-number : (n : ℕ) → firstNo (startQuestions given bytes (policyOf bytes) (lengthsOf t)) ≡ n
-        → let reached : Guard = guardAfter ((startOf given bytes t) .guard) before in
-        let asked : Guard = (answer reached (ask page frame)) .guard in
-        Accepts reached (ask page frame) → EachAccepted NoDrop asked between → Accepts (guardAfter asked between) commit
-        → EachAccepted (Avoids frame) asked (between ++ (commit ∷ after))
-    by-number zero e =
-        let guard : (startOf given bytes t) .guard ≡ startGuard given (policyOf bytes) = ap (λ (o : Outcome). o .guard) (settle-accepted _ _ e) in
-        along (policyOf bytes) before firstTerms ((startOf given bytes t) .guard) (rw guard (start-kept given bytes (lengthsOf t) e))
-        (λ (g : Guard).
-        Accepts g (ask page frame) → EachAccepted NoDrop ((answer g (ask page frame)) .guard) between
-        → Accepts (guardAfter ((answer g (ask page frame)) .guard) between) commit
-        → EachAccepted (Avoids frame) ((answer g (ask page frame)) .guard) (between ++ (commit ∷ after)))
-        (λ terms h. from-ask (policyOf bytes) terms _ h page frame between after)
-    by-number (suc n) e =
-        let number : (startOf given bytes t) .reply .number ≡ suc n = ap (λ (o : Outcome). o .reply .number) (settle-refused n _ _ e) in
-        absurd (omega arith)
+    asked : Guard
+    asked = (answer (guardAfter ((startOf given bytes t) .guard) before) (ask page frame)) .guard
+
+    all : EachAccepted (Avoids frame) asked (between ++ (commit ∷ after))
+    all = kept given bytes t before between after page frame accepted asking (no-drops asked between none) committing

@@ -4,7 +4,7 @@ use mathlib.Core.List.{List}
 use mathlib.Core.Path.{_≡_, refl}
 use Rattle.model.specs.declared.Device.{Device}
 use Rattle.model.specs.Calls.{Call, syncPage, syncAll, syncPageTree, syncAllTree, fetch, write, enter, leave, deviceWrite, ask, commit, drop}
-use Rattle.claim.specs.CallKinds.{untouched, touchOf, unchanged, confirmed, ended, termChangeOf}
+use Rattle.claim.specs.CallKinds.{untouched, touchOf, unchanged, termChangeOf}
 
 pub data Touching (call : Call) : Type 0 where
   touchless : touchOf call ≡ untouched → Touching call
@@ -15,8 +15,8 @@ pub data Touching (call : Call) : Type 0 where
 pub data Changing (call : Call) : Type 0 where
   keeps : termChangeOf call ≡ unchanged → Changing call
   asks : (page frame : ℕ) → call ≡ ask page frame → Changing call
-  commits : termChangeOf call ≡ confirmed → Changing call
-  drops : termChangeOf call ≡ ended → Changing call
+  commits : call ≡ commit → Changing call
+  drops : call ≡ drop → Changing call
 
 pub kinds : (call : Call) → Touching call × Changing call
 unfolding touchOf termChangeOf

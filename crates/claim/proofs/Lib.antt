@@ -7,4 +7,7 @@ pub mod CommuteLaws
 pub mod SafeLaws
 pub mod StartLaws
 pub mod ListLaws
+pub mod AlongLaws
+pub mod HistoryLaws
 mod CommittingLaws
+mod ConsequenceLaws

@@ -1,13 +1,13 @@
 -- Demand 3: the claim about the whole list, by induction on it. One call at a time, refused or accepted, and then the rest.
 use Prim.Native.Nat.{ℕ, zero, suc}
 use mathlib.Core.List.{List, [], _∷_}
-use mathlib.Core.Path.{_≡_, refl, sym, ap, fun-ext, _∙_}
+use mathlib.Core.Path.{_≡_, refl, sym, fun-ext, _∙_}
 use native.Mathlib.Omega.{arith}
 use borrow.Author.Tests.{ne-eqb}
 use Rattle.model.specs.Guard.{Guard}
 use Rattle.model.specs.Policy.{Policy, policyOf, startGuard}
 use Rattle.model.specs.Questions.{firstNo, lengthsOf, startQuestions}
-use Rattle.model.specs.Calls.{settle, Outcome, refusedOf, broughtBy, startOf, Call, effectOf, answer}
+use Rattle.model.specs.Calls.{settle, refusedOf, broughtBy, Call, effectOf, answer}
 use Rattle.claim.specs.OnePage.{firstPage, reachedIn, settled, pagesAfter}
 use Rattle.claim.specs.Claim.{Agree, Always, Claim}
 use Rattle.claim.specs.Terms.{Terms, firstTerms, termsAfter}
@@ -16,7 +16,7 @@ use Rattle.laws.proofs.CallLaws.{effects}
 use Rattle.claim.proofs.Invariant.{Invariant, pageOf, exclusion-whole, answered}
 use Rattle.claim.proofs.CommuteLaws.{commutes, kept}
 use Rattle.claim.proofs.SafeLaws.{safe}
-use Rattle.claim.proofs.StartLaws.{first-pages, start-kept}
+use Rattle.claim.proofs.StartLaws.{start-settled, start-guard, first-pages, start-kept}
 
 -- A refused call changes no term.
 terms-refused : (n : ℕ) (call : Call) (terms : Terms) → termsAfter (suc n) call terms ≡ terms
@@ -70,18 +70,9 @@ always policy (call ∷ calls) terms g h = by-number (settled policy (pageOf g) 
           rw (outcome, pages, e, terms-refused) (rest terms g h),
         )
 
--- The start is settled first: a refused one has a number, and the list of an accepted one begins with what always holds.
+-- The list of an accepted start begins with what always holds.
 pub claim : Claim
-unfolding startOf
-claim given bytes t calls accepted = by-number (firstNo (startQuestions given bytes (policyOf bytes) (lengthsOf t))) refl
-  where
-    by-number : (n : ℕ) → firstNo (startQuestions given bytes (policyOf bytes) (lengthsOf t)) ≡ n
-        → Always (policyOf bytes) firstTerms ((startOf given bytes t) .guard) (firstPage (policyOf bytes)) calls
-    by-number zero e =
-        let guard : (startOf given bytes t) .guard ≡ startGuard given (policyOf bytes) = ap (λ (o : Outcome). o .guard) (settle-accepted _ _ e) in
-        rw (guard, ← (first-pages given bytes (lengthsOf t) e))
-        (always (policyOf bytes) calls firstTerms (startGuard given (policyOf bytes))
-        (start-kept given bytes (lengthsOf t) e))
-    by-number (suc n) e =
-        let number : (startOf given bytes t) .reply .number ≡ suc n = ap (λ (o : Outcome). o .reply .number) (settle-refused n _ _ e) in
-        absurd (omega arith)
+claim given bytes t calls accepted =
+    let passed : firstNo (startQuestions given bytes (policyOf bytes) (lengthsOf t)) ≡ 0 = start-settled given bytes t accepted in
+    rw (start-guard given bytes t accepted, ← (first-pages given bytes (lengthsOf t) passed))
+    (always (policyOf bytes) calls firstTerms (startGuard given (policyOf bytes)) (start-kept given bytes (lengthsOf t) passed))

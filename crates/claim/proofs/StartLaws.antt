@@ -3,7 +3,7 @@ use Prim.Native.Nat.{ℕ, suc, _≤_, _<_}
 use mathlib.Core.Bool.{Bool, true, false, cond, true≢false, false≢true}
 use mathlib.Core.List.{List, [], _∷_}
 use mathlib.Core.Logic.{_⊎_, inl, inr}
-use mathlib.Core.Path.{_≡_, refl, sym, subst, fun-ext, _∙_}
+use mathlib.Core.Path.{_≡_, refl, sym, ap, subst, fun-ext, _∙_}
 use lib.Dec.{leb, ltb, eqb}
 use lib.ListN.{length, getD}
 use native.Mathlib.Nat.{suc-inj}
@@ -11,13 +11,14 @@ use native.Mathlib.Omega.{arith}
 use borrow.Author.Tests.{leb-true, eqb-true, ne-eqb}
 use Rattle.model.specs.Basics.{both, either, table, member}
 use Rattle.model.specs.Sizes.{pagesInRange, framesInRange}
-use Rattle.model.specs.Guard.{none, inUser, running, pendingFrame, isAsked}
+use Rattle.model.specs.Guard.{none, Tables, inUser, running, pendingFrame, isAsked}
 use Rattle.model.specs.Policy.{Givens, Policy, policyOf, frameFor, approvalFor, named, firstEntry, startState, startTables, startGuard}
 use Rattle.model.specs.Bits.{approved}
-use Rattle.model.specs.Questions.{firstNo, pendingInRange, stateInOrder, givensInRange, Lengths, startQuestions, rising}
+use Rattle.model.specs.Questions.{firstNo, pendingInRange, stateInOrder, givensInRange, Lengths, lengthsOf, startQuestions, rising}
+use Rattle.model.specs.Calls.{Outcome, startOf}
 use Rattle.claim.specs.OnePage.{Page, indexIn, firstPage}
 use Rattle.claim.specs.Terms.{firstTerms, inTerm, isCommitted, protected, code}
-use Rattle.laws.proofs.QuestionLaws.{both-first, both-second, within-yes}
+use Rattle.laws.proofs.QuestionLaws.{both-first, both-second, within-yes, settle-accepted, settle-number}
 use Rattle.laws.proofs.StateLaws.{state-whole}
 use Rattle.laws.proofs.TableLaws.{length-table, past-no, table-read}
 use Rattle.laws.proofs.PolicyLaws.{Passed, start-passed, start-given, length-numbersAt, allBelow-getD, allBelow-member, member-here, member-there}
@@ -69,6 +70,17 @@ frameFor-own pages least (p ∷ ps) (f ∷ fs) page other same up there =
         → frameFor ps fs page (cond (eqb page p) f other) ≡ getD (f ∷ fs) (cond (eqb page p) 0 (suc (indexIn page ps))) 0
     at true e rest = rw e (frameFor-unlisted ps fs page f (rising-unlisted pages (suc p) ps page later (omega (arith, eqb-true page p e))))
     at false e rest = rw e (rest (sym (member-there page p ps e) ∙ there))
+
+-- A start with no number passed its questions, and leaves the guard that the policy sets.
+module _ (given : Givens) (bytes : List ℕ) (t : Tables) (accepted : (startOf given bytes t) .reply .number ≡ 0) where
+  pub start-settled : firstNo (startQuestions given bytes (policyOf bytes) (lengthsOf t)) ≡ 0
+  unfolding startOf
+  start-settled =
+      sym (settle-number (λ (o : Outcome). o .reply .number) (firstNo (startQuestions given bytes (policyOf bytes) (lengthsOf t))) _ _ refl (λ k. refl)) ∙ accepted
+
+  pub start-guard : (startOf given bytes t) .guard ≡ startGuard given (policyOf bytes)
+  unfolding startOf
+  start-guard = ap (λ (o : Outcome). o .guard) (settle-accepted _ _ start-settled)
 
 module _ (given : Givens) (bytes : List ℕ) (l : Lengths) (accepted : firstNo (startQuestions given bytes (policyOf bytes) l) ≡ 0) where
   abbrev policy : Policy

@@ -5,3 +5,4 @@ pub mod Terms
 pub mod Claim
 pub mod Lists
 pub mod Committing
+pub mod Consequences

@@ -3,6 +3,7 @@ use mathlib.Core.List.{List, [], _∷_}
 use mathlib.Core.Path.{_≡_}
 use Rattle.model.specs.Guard.{Guard}
 use Rattle.model.specs.Calls.{Call, answer}
+use Rattle.claim.specs.Terms.{Terms, termsAfter}
 
 -- The guard accepts a call.
 abbrev pub Accepts : Guard → Call → Type 0
@@ -12,6 +13,11 @@ Accepts g call = (answer g call) .reply .number ≡ 0
 unfoldable pub guardAfter : Guard → List Call → Guard
 guardAfter g [] = g
 guardAfter g (call ∷ calls) = guardAfter ((answer g call) .guard) calls
+
+-- The terms of frames after it.
+unfoldable pub termsAlong : Guard → Terms → List Call → Terms
+termsAlong g terms [] = terms
+termsAlong g terms (call ∷ calls) = termsAlong ((answer g call) .guard) (termsAfter ((answer g call) .reply .number) call terms) calls
 
 -- What holds of each accepted call of a list, with the guard that it reaches.
 abbrev pub EachAccepted : (Guard → Call → Type 0) → Guard → List Call → Type 0

@@ -13,4 +13,4 @@ pub mod SwitchLaws
 pub mod TreeLaws
 pub mod SyncLaws
 mod CacheLaws
-mod DeviceLaws
+pub mod DeviceLaws
