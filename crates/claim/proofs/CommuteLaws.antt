@@ -109,7 +109,7 @@ module _ (policy : Policy) (terms : Terms) (g : Guard) (h : Invariant policy ter
   pair-fits : pendingInRange (policy .pages) (policy .frames) (g .state .pending) ≡ true
   pair-fits = rw (h .pages, h .frames) at (state-parts (g .state) (h .fits) .pending)
 
-  pending-small : isPending (g .state .pending) ≡ true → pendingFrame (g .state .pending) < policy .frames
+  pub pending-small : isPending (g .state .pending) ≡ true → pendingFrame (g .state .pending) < policy .frames
   pending-small = pending-below (policy .pages) (policy .frames) (g .state .pending) pair-fits
 
   -- A frame below F has a bit, and a frame's bit set or cleared is told as that frame excluded, or not.
@@ -185,7 +185,7 @@ module _ (policy : Policy) (terms : Terms) (g : Guard) (h : Invariant policy ter
       bit-commutes false (pendingFrame (g .state .pending)) Nothing p (pending-small (drop-pending (seenBy policy (pageOf g) (reachedIn g)) passed))
 
   -- Every page stays good, where there is as much code as before and the pending frame is code after a commit.
-  most : policy .frames ≤ 4096
+  pub most : policy .frames ≤ 4096
   most = rw (h .frames) at (frames-few (g .state) (h .fits))
 
   joins-code : (f : ℕ) → hasBit (g .tables .exclusion) f ≡ true → eqb f (pendingFrame (g .state .pending)) ≡ false → code policy terms f ≡ true

@@ -11,3 +11,4 @@ pub mod AlongLaws
 pub mod HistoryLaws
 mod CommittingLaws
 mod ConsequenceLaws
+mod InstalledLaws

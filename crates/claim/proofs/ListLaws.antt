@@ -11,6 +11,7 @@ use Rattle.model.specs.Calls.{settle, refusedOf, broughtBy, Call, effectOf, ans
 use Rattle.claim.specs.OnePage.{firstPage, reachedIn, settled, pagesAfter}
 use Rattle.claim.specs.Claim.{Agree, Always, Claim}
 use Rattle.claim.specs.Terms.{Terms, firstTerms, termsAfter}
+use Rattle.claim.specs.Lists.{guardAfter, termsAlong}
 use Rattle.laws.proofs.QuestionLaws.{settle-accepted, settle-refused}
 use Rattle.laws.proofs.CallLaws.{effects}
 use Rattle.claim.proofs.Invariant.{Invariant, pageOf, exclusion-whole, answered}
@@ -69,6 +70,30 @@ always policy (call ∷ calls) terms g h = by-number (settled policy (pageOf g) 
           (λ z. absurd (omega arith)),
           rw (outcome, pages, e, terms-refused) (rest terms g h),
         )
+
+-- What always holds, with anything besides that every accepted call keeps, holds after every list.
+pub kept-along : (policy : Policy) (P : Terms → Guard → Type 0)
+    → ((terms : Terms) (g : Guard) → Invariant policy terms g → P terms g → (call : Call) → settled policy (pageOf g) (reachedIn g) call ≡ 0
+    → P (termsAfter 0 call terms) ((effectOf g call) .guard))
+    → (calls : List Call) (terms : Terms) (g : Guard) → Invariant policy terms g → P terms g
+    → Invariant policy (termsAlong g terms calls) (guardAfter g calls) × P (termsAlong g terms calls) (guardAfter g calls)
+unfolding guardAfter termsAlong
+kept-along policy P keeps [] terms g h p = (h, p)
+kept-along policy P keeps (call ∷ calls) terms g h p =
+    let after = by-number (settled policy (pageOf g) (reachedIn g) call) refl in
+    kept-along policy P keeps calls (termsAfter ((answer g call) .reply .number) call terms) ((answer g call) .guard) (after .0) (after .1)
+  where
+    by-number : (n : ℕ) → settled policy (pageOf g) (reachedIn g) call ≡ n
+        → Invariant policy (termsAfter ((answer g call) .reply .number) call terms) ((answer g call) .guard)
+        × P (termsAfter ((answer g call) .reply .number) call terms) ((answer g call) .guard)
+    by-number zero e =
+        let outcome : answer g call ≡ effectOf g call =
+        answered policy terms g h call ∙ settle-accepted (effectOf g call) (refusedOf g (broughtBy call)) e in
+        rw (outcome, effects g call .number) (kept policy terms g h call e, keeps terms g h p call e)
+    by-number (suc n) e =
+        let outcome : answer g call ≡ refusedOf g (broughtBy call) (suc n) =
+        answered policy terms g h call ∙ settle-refused n (effectOf g call) (refusedOf g (broughtBy call)) e in
+        rw (outcome, terms-refused) (h, p)
 
 -- The list of an accepted start begins with what always holds.
 pub claim : Claim

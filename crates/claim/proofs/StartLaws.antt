@@ -151,6 +151,9 @@ module _ (given : Givens) (bytes : List ℕ) (l : Lengths) (accepted : firstNo (
   own-small : (p : ℕ) → listed p ≡ true → ownFrame p < 4096
   own-small p e = rw (← (frame-own p e)) (listed-small p e)
 
+  pub own-below : (p : ℕ) → listed p ≡ true → ownFrame p < policy .frames
+  own-below p e = named-below (ownFrame p) (own-named p e)
+
   first-entry : (p : ℕ) (b : Bool) → listed p ≡ b → firstEntry (approvalFor policy p) ≡ cond b (approved false (ownFrame p)) 0
   unfolding firstEntry
   first-entry p true e = rw (first-approval p true e, ne-eqb (ownFrame p) none (λ k. omega (arith, own-small p e)))

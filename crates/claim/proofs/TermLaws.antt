@@ -88,6 +88,14 @@ drop-less false noTerm p = p
 drop-less false pendingTerm p = refl
 drop-less false committedTerm p = refl
 
+-- And one that is neither before is neither after.
+pub drop-none : (named : Bool) (t : Term) → either named (inTerm t) ≡ false → either named (inTerm (afterDrop t)) ≡ false
+unfolding either inTerm afterDrop
+drop-none true t p = p
+drop-none false noTerm p = refl
+drop-none false pendingTerm p = refl
+drop-none false committedTerm p = p
+
 -- One that is not pending is committed or named, and one in no term is neither.
 pub term-named : (named : Bool) (t : Term) → either named (inTerm t) ≡ false → named ≡ false
 unfolding either

@@ -9,22 +9,14 @@ use lib.Dec.{eqb}
 use lib.ListN.{length, getD}
 use Rattle.model.specs.declared.Device.{Device}
 use Rattle.model.specs.Sizes.{pageBytes}
-use Rattle.model.specs.Guard.{none, Tables, Guard, vectorBytes, vectorOf, inUser}
-use Rattle.model.specs.Policy.{Givens, Policy, policyOf, named}
+use Rattle.model.specs.Guard.{none, Guard, vectorBytes, vectorOf, inUser}
+use Rattle.model.specs.Policy.{Policy, named}
 use Rattle.model.specs.Bits.{frameOf}
 use Rattle.model.specs.Devices.{deviceOf}
-use Rattle.model.specs.Calls.{Reply, settle, startOf, Call, fetch, write, deviceWrite, ask, commit, answer}
+use Rattle.model.specs.Calls.{Reply, settle, Call, fetch, write, deviceWrite, ask, commit, answer}
 use Rattle.claim.specs.OnePage.{Page, News, firstPage, told, news, reachedIn, settled}
-use Rattle.claim.specs.Lists.{Accepts, guardAfter, EachAccepted}
+use Rattle.claim.specs.Lists.{Accepts, guardAfter, EachAccepted, AfterEvery}
 use Rattle.claim.specs.Committing.{NoDrop}
-
--- What holds of every accepted start, with its policy and guard, and every list of calls, with the guard after it.
-abbrev pub AfterEvery : (Policy → Guard → List Call → Guard → Type 0) → Type 0
-AfterEvery holds =
-    (given : Givens) (bytes : List ℕ) (t : Tables) (calls : List Call) →
-    (startOf given bytes t) .reply .number ≡ 0 →
-    let start : Guard = (startOf given bytes t) .guard in
-    holds (policyOf bytes) start calls (guardAfter start calls)
 
 -- A list commits a frame: an ask for it is accepted, and later a commit, with no accepted drop between them.
 pub record Committed (frame : ℕ) (g : Guard) (calls : List Call) : Type 0 where

@@ -6,3 +6,4 @@ pub mod Claim
 pub mod Lists
 pub mod Committing
 pub mod Consequences
+pub mod Installed

@@ -1,8 +1,10 @@
 -- The guard along a list of calls: "Each call gets these as the last one returned or left them."
+use Prim.Native.Nat.{ℕ}
 use mathlib.Core.List.{List, [], _∷_}
 use mathlib.Core.Path.{_≡_}
-use Rattle.model.specs.Guard.{Guard}
-use Rattle.model.specs.Calls.{Call, answer}
+use Rattle.model.specs.Guard.{Tables, Guard}
+use Rattle.model.specs.Policy.{Givens, Policy, policyOf}
+use Rattle.model.specs.Calls.{startOf, Call, answer}
 use Rattle.claim.specs.Terms.{Terms, termsAfter}
 
 -- The guard accepts a call.
@@ -23,3 +25,11 @@ termsAlong g terms (call ∷ calls) = termsAlong ((answer g call) .guard) (terms
 abbrev pub EachAccepted : (Guard → Call → Type 0) → Guard → List Call → Type 0
 EachAccepted holds g [] = Unit {0}
 EachAccepted holds g (call ∷ calls) = (Accepts g call → holds g call) × EachAccepted holds ((answer g call) .guard) calls
+
+-- What holds of every accepted start, with its policy and guard, and every list of calls, with the guard after it.
+abbrev pub AfterEvery : (Policy → Guard → List Call → Guard → Type 0) → Type 0
+AfterEvery holds =
+    (given : Givens) (bytes : List ℕ) (t : Tables) (calls : List Call) →
+    (startOf given bytes t) .reply .number ≡ 0 →
+    let start : Guard = (startOf given bytes t) .guard in
+    holds (policyOf bytes) start calls (guardAfter start calls)

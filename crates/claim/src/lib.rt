@@ -4,6 +4,7 @@ ghost use Rattle.claim.specs.Claim.{Claim};
 ghost use Rattle.claim.specs.Committing.{CommittedKept, CommittedMissed};
 ghost use Rattle.claim.specs.Consequences.{FetchReadsCode, WriteMissesPolicy, WriteAnswersFrames, TransferMissesPolicy, TransferInWindow};
 ghost use Rattle.claim.specs.Consequences.{PageIsFold, ModeIsFold, LengthsKept, ExclusionIsFold, NumberIsSettled, RefusedLeaves};
+ghost use Rattle.claim.specs.Installed.{Installed, SpareBitsZero};
 
 // Demand 3: one claim about every list of calls after an accepted start.
 pub fn every_list()
@@ -40,4 +41,9 @@ pub fn numbers_are_settled()
 // Document 02, K6: "No write or transfer allowed from its ask onward covers a byte of a committed frame."
 pub fn committed_kept()
     ensures { λ _. ⌜ CommittedKept × CommittedMissed ⌝ }
+{}
+
+// What the shadow table lets a processor do after every list of calls, asked or not, and that the exclusion vector's spare bits stay 0.
+pub fn installed()
+    ensures { λ _. ⌜ Installed × SpareBitsZero ⌝ }
 {}

@@ -6,17 +6,18 @@ use mathlib.Core.Path.{_≡_, refl}
 use lib.Dec.{ltb, eqb}
 use native.Mathlib.Omega.{arith}
 use borrow.Author.Tests.{ltb-true, not-true}
-use Rattle.model.specs.Basics.{both, either}
+use Rattle.model.specs.Basics.{both, either, everyFrom}
 use Rattle.model.specs.Guard.{none, isPending}
 use Rattle.model.specs.Sizes.{pageBytes, lastByte, lastPage}
 use Rattle.model.specs.Bits.{present, noExecute, frameOf}
 use Rattle.model.specs.declared.Device.{Device}
 use Rattle.model.specs.Tree.{Tree}
 use Rattle.model.specs.Devices.{inWindow}
+use Rattle.model.specs.Approvals.{mapsWritable}
 use Rattle.model.specs.Questions.{View, firstNo, syncPageQuestions, syncPageTreeQuestions, fetchPermitted, fetchQuestions, free, everyTouched, writeQuestions}
 use Rattle.model.specs.Questions.{enterQuestions, leaveQuestions, deviceWriteQuestions, askQuestions, commitQuestions, dropQuestions}
 use Rattle.laws.proofs.QuestionLaws.{asked, numbered, all-yes, both-first, both-second, within-low, within-high, within-yes}
-use Rattle.laws.proofs.TouchLaws.{touched-at}
+use Rattle.laws.proofs.TouchLaws.{every-at, touched-at}
 
 -- A test of every page (or frame) that an access touches holds of that of each of its bytes.
 every-byte : (test : ℕ → Bool) (address length a : ℕ) → everyTouched test address length ≡ true → address ≤ a → a < address + length
@@ -125,6 +126,14 @@ module _ (v : View) where
 
     pub ask-free : v .excluded frame ≡ false
     ask-free = not-true _ (both-second (eqb (v .approval page) none) _ (both-second (not (isPending (v .pending))) _ ask-20))
+
+    -- 21: no present shadow entry maps its frame writable.
+    ask-21 : everyFrom (λ p. not (mapsWritable frame (v .shadow p))) 0 (v .pages) ≡ true
+    unfolding askQuestions asked numbered both either
+    ask-21 = both-first _ _ (all-yes 21 (askQuestions v page frame) refl h)
+
+    pub ask-unmapped : (p : ℕ) → p < v .pages → mapsWritable frame (v .shadow p) ≡ false
+    ask-unmapped p below = not-true _ (every-at (λ p. not (mapsWritable frame (v .shadow p))) 0 (v .pages) p ask-21 (omega arith) (omega arith))
 
   -- Of a commit and a drop: something is pending.
   pub commit-pending : firstNo (commitQuestions v) ≡ 0 → isPending (v .pending) ≡ true

@@ -12,7 +12,8 @@ use Rattle.model.specs.declared.Entry.{Entry}
 use Rattle.model.specs.declared.Entry.the-variants.{Absent, Present}
 use Rattle.model.specs.declared.Fields.{Fields}
 use Rattle.model.specs.Basics.{bit, flag}
-use Rattle.model.specs.Bits.{present, writable, userBit, writeThrough, cacheDisable, noExecute, frameOf, approvedMark, approvedNoExecute, approved, fieldsOf}
+use Rattle.model.specs.Bits.{present, writable, userBit, writeThrough, cacheDisable, noExecute, frameOf, kernelNoExecute, approvedMark}
+use Rattle.model.specs.Bits.{approvedNoExecute, approved, fieldsOf}
 use Rattle.model.specs.Bits.{reserved, valid, takenApart, ordinaryNoExecute, ordinary, inspected}
 use Rattle.model.specs.Switch.{noExecuteIn, switched}
 use Rattle.laws.specs.Cache.{OrdinaryCarries, SwitchKeeps}
@@ -106,6 +107,10 @@ valid-parts entry p =
 
 -- An approved entry: "bits 0 and 10, the frame; bit 63 set in user mode only".
 module _ (user : Bool) (f : ℕ) where
+  pub present-approved : present (approved user f) ≡ true
+  unfolding present approved approvedNoExecute
+  present-approved = bit-on 0 (approved user f) (omega (arith, flag-is user 63))
+
   pub approvedMark-approved : approvedMark (approved user f) ≡ true
   unfolding approvedMark approved approvedNoExecute
   approvedMark-approved = bit-on 10 (approved user f) (omega (arith, flag-is user 63))
@@ -113,6 +118,10 @@ module _ (user : Bool) (f : ℕ) where
   pub frameOf-approved : f < 2 ^ 40 → frameOf (approved user f) ≡ f
   unfolding frameOf approved approvedNoExecute
   frameOf-approved h = omega (arith, flag-is user 63)
+
+  pub noExecute-approved : f < 2 ^ 40 → noExecute (approved user f) ≡ user
+  unfolding noExecute approved approvedNoExecute
+  noExecute-approved h = bit-flag user (2 ^ 0 + 2 ^ 10 + f * 2 ^ 12) (omega arith)
 
   pub approved-none : (k : ℕ) → 1 ≤ k → k < 10 → bit k (approved user f) ≡ false
   unfolding approved approvedNoExecute
@@ -144,6 +153,12 @@ module _ (r f : ℕ) (n d : Bool) where
   whole-10 : r < 2 ^ 5 → bit 10 whole ≡ false
   whole-10 h = bit-off 10 whole (omega (arith, flag-is n 9, flag-is d 63))
 
+  whole-9 : r < 2 ^ 5 → bit 9 whole ≡ n
+  whole-9 h = bit-is 9 whole n (omega (arith, flag-weight n 9, flag-small n, flag-is d 63))
+
+  whole-frame : r < 2 ^ 5 → f < 2 ^ 40 → whole / 2 ^ 12 % 2 ^ 40 ≡ f
+  whole-frame h k = omega (arith, flag-is n 9, flag-is d 63)
+
   whole-63 : r < 2 ^ 5 → f < 2 ^ 40 → bit 63 whole ≡ d
   whole-63 h k = bit-flag d (r + flag n 9 + f * 2 ^ 12) (omega (arith, flag-is n 9))
 
@@ -160,6 +175,14 @@ module _ (user : Bool) (x : Fields) where
   pub noExecute-ordinary : x .frame < 2 ^ 40 → noExecute (ordinary user x) ≡ ordinaryNoExecute user (x .«no_execute») (x .user)
   unfolding noExecute ordinary
   noExecute-ordinary h = whole-63 (lowest x) (x .frame) _ _ (lowest-lt x) h
+
+  pub kernelNoExecute-ordinary : kernelNoExecute (ordinary user x) ≡ x .«no_execute»
+  unfolding kernelNoExecute ordinary
+  kernelNoExecute-ordinary = whole-9 (lowest x) (x .frame) _ _ (lowest-lt x)
+
+  pub frameOf-ordinary : x .frame < 2 ^ 40 → frameOf (ordinary user x) ≡ x .frame
+  unfolding frameOf ordinary
+  frameOf-ordinary h = whole-frame (lowest x) (x .frame) _ _ (lowest-lt x) h
 
   -- Bits 0 to 4, each by its field.
   ordinary-digits : (k : ℕ) (b : Bool) → ordinary user x % 2 ^ 5 / 2 ^ k % 2 ≡ flag b 0 → k < 5 → bit k (ordinary user x) ≡ b
@@ -178,6 +201,13 @@ module _ (user : Bool) (x : Fields) where
   writable-ordinary =
       ordinary-digits 1 (x .writable)
       (omega (arith, ordinary-low, flag-is (x .writable) 1, flag-is (x .user) 2, flag-is (x .«write_through») 3, flag-is (x .«cache_disable») 4)) (omega arith)
+
+  pub userBit-ordinary : userBit (ordinary user x) ≡ x .user
+  unfolding userBit
+  userBit-ordinary =
+      let above : ordinary user x % 2 ^ 5 / 2 ^ 2 ≡ flag (x .user) 0 + 2 * (flag (x .«write_through») 0 + 2 * flag (x .«cache_disable») 0) =
+      omega (arith, ordinary-low, flag-is (x .writable) 1, flag-is (x .user) 2, flag-is (x .«write_through») 3, flag-is (x .«cache_disable») 4) in
+      ordinary-digits 2 (x .user) (omega (arith, flag-small (x .user))) (omega arith)
 
 -- K6: an entry whose frame is pending has bits 2 to 4 as it would have them else.
 same-digit : (k a b : ℕ) → a / 2 ^ k % 2 ≡ b / 2 ^ k % 2 → bit k a ≡ bit k b
@@ -227,6 +257,10 @@ frameOf-switched user entry = at (present entry) _
     at : (b c : Bool) → cond b (entry % 2 ^ 63 + flag c 63) entry / 2 ^ 12 % 2 ^ 40 ≡ entry / 2 ^ 12 % 2 ^ 40
     at true c = omega (arith, flag-is c 63)
     at false c = refl
+
+pub switched-absent : (user : Bool) (entry : ℕ) → present entry ≡ false → switched user entry ≡ entry
+unfolding switched
+switched-absent user entry e = rw e refl
 
 pub noExecute-switched : (user : Bool) (entry : ℕ) → present entry ≡ true → noExecute (switched user entry) ≡ noExecuteIn user entry
 unfolding noExecute switched
