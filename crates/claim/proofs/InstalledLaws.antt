@@ -19,12 +19,12 @@ use Rattle.model.specs.Approvals.{maps, mapsWritable, committedSlot}
 use Rattle.model.specs.Tree.{flatAt}
 use Rattle.model.specs.Questions.{firstNo, Lengths, startQuestions, lengthsOf}
 use Rattle.model.specs.Calls.{startOf, Call, syncPage, syncAll, syncPageTree, syncAllTree, fetch, write, enter, leave, deviceWrite, ask, commit, drop}
-use Rattle.model.specs.Calls.{settle, questionsOf, effectOf}
+use Rattle.model.specs.Calls.{settle, questionsOf}
 use Rattle.claim.specs.CallKinds.{termChangeOf}
 use Rattle.claim.specs.OnePage.{Page, withSlot, withPair, News, synchronised, entered, exited, asked, committed, dropped, nothing, indexIn, firstPage, switchedPage}
-use Rattle.claim.specs.OnePage.{stepped, askedPage, committedPage, droppedPage, told, newsOfOne, newsOfAll, news, reachedIn, seenBy, settled}
+use Rattle.claim.specs.OnePage.{stepped, askedPage, committedPage, droppedPage, told, newsOfOne, newsOfAll, news, reachedIn, seenBy, settled, pagesAfter}
 use Rattle.claim.specs.Terms.{Terms, firstTerms, pendingTerm, termAfter, termsAfter, inTerm, protected, code}
-use Rattle.claim.specs.Lists.{guardAfter, termsAlong}
+use Rattle.claim.specs.Lists.{outcomeOf, guardAfter, termsAlong}
 use Rattle.claim.specs.Installed.{Harmless, Installed, SpareBitsZero}
 use Rattle.laws.proofs.QuestionLaws.{both-yes}
 use Rattle.laws.proofs.TableLaws.{past-no}
@@ -38,7 +38,7 @@ use Rattle.claim.proofs.KindLaws.{Changing, keeps, asks, commits, drops
 use Rattle.claim.proofs.TermLaws.{commit-in, drop-none}
 use Rattle.claim.proofs.PageLaws.{good-code}
 use Rattle.claim.proofs.Invariant.{Invariant, pageOf, excluded-is, code-below}
-use Rattle.claim.proofs.CommuteLaws.{commutes, most, pending-small}
+use Rattle.claim.proofs.CommuteLaws.{most, pending-small}
 use Rattle.claim.proofs.StartLaws.{start-settled, start-guard, first-pages, start-kept, own-below}
 use Rattle.claim.proofs.ListLaws.{kept-along}
 
@@ -252,14 +252,19 @@ module _ (policy : Policy) (terms : Terms) (g : Guard) (h : Invariant policy ter
         by (commits e) = λ there w q. rw (e, commit-in) (rw e at q)
         by (drops e) = λ there w q. rw e (drop-none (named policy _) (terms _) (rw e at q))
 
-  -- An accepted call keeps every page so.
-  tame-after : AllTame policy terms g → (call : Call) → settled policy (pageOf g) (reachedIn g) call ≡ 0
-      → AllTame policy (termsAfter 0 call terms) ((effectOf g call) .guard)
-  tame-after tame call passed p =
-      subst (Tame (policy .frames) (protected policy (termsAfter 0 call terms))) (commutes policy terms g h call passed p)
-      (tame-guarded (policy .frames) guarded (protected policy (termsAfter 0 call terms)) (pageThen p call) (still p call passed)
+  -- What the one-page guards make of an accepted call, and so the guard, whose tables show them.
+  page-tame : AllTame policy terms g → (call : Call) → settled policy (pageOf g) (reachedIn g) call ≡ 0 → (p : ℕ)
+      → Tame (policy .frames) (protected policy (termsAfter 0 call terms)) (pagesAfter policy 0 call (pageOf g) p)
+  unfolding pagesAfter settle
+  page-tame tame call passed p =
+      tame-guarded (policy .frames) guarded (protected policy (termsAfter 0 call terms)) (pageThen p call) (still p call passed)
       (told-tame policy guarded (pageOf g p) (news policy p call) (most policy terms g h) (λ e. code-below policy terms g h _ (h .good p .approval e))
-      (needs call passed p) (tame p)))
+      (needs call passed p) (tame p))
+
+  tame-after : AllTame policy terms g → (call : Call) → settled policy (pageOf g) (reachedIn g) call ≡ 0
+      → pagesAfter policy 0 call (pageOf g) ≡ pageOf (outcomeOf g call .guard) → AllTame policy (termsAfter 0 call terms) (outcomeOf g call .guard)
+  tame-after tame call passed pages p =
+      subst (λ (ps : ℕ → Page). Tame (policy .frames) (protected policy (termsAfter 0 call terms)) (ps p)) pages (page-tame tame call passed p)
 
   -- So each entry does no harm, with what a good page has of kernel mode.
   entry-harmless : AllTame policy terms g → (p : ℕ) → let entry : ℕ = getD (g .tables .shadow) p 0 in

@@ -1,17 +1,17 @@
 -- Demand 3: the claim about the whole list, by induction on it. One call at a time, refused or accepted, and then the rest.
 use Prim.Native.Nat.{ℕ, zero, suc}
 use mathlib.Core.List.{List, [], _∷_}
-use mathlib.Core.Path.{_≡_, refl, sym, fun-ext, _∙_}
+use mathlib.Core.Path.{_≡_, refl, sym, ap, fun-ext, _∙_}
 use native.Mathlib.Omega.{arith}
 use borrow.Author.Tests.{ne-eqb}
 use Rattle.model.specs.Guard.{Guard}
 use Rattle.model.specs.Policy.{Policy, policyOf, startGuard}
 use Rattle.model.specs.Questions.{firstNo, lengthsOf, startQuestions}
-use Rattle.model.specs.Calls.{settle, refusedOf, broughtBy, Call, effectOf, answer}
+use Rattle.model.specs.Calls.{settle, Outcome, refusedOf, broughtBy, Call, effectOf, answer}
 use Rattle.claim.specs.OnePage.{firstPage, reachedIn, settled, pagesAfter}
 use Rattle.claim.specs.Claim.{Agree, Always, Claim}
 use Rattle.claim.specs.Terms.{Terms, firstTerms, termsAfter}
-use Rattle.claim.specs.Lists.{guardAfter, termsAlong}
+use Rattle.claim.specs.Lists.{outcomeOf, guardAfter, termsAlong}
 use Rattle.laws.proofs.QuestionLaws.{settle-accepted, settle-refused}
 use Rattle.laws.proofs.CallLaws.{effects}
 use Rattle.claim.proofs.Invariant.{Invariant, pageOf, exclusion-whole, answered}
@@ -36,64 +36,78 @@ agree policy terms g h =
       exclusion = λ p l. exclusion-whole policy terms g h;
     }
 
+-- What an accepted call gives and hands on, and a refused one, by the number that the one-page guards settle.
+module _ (policy : Policy) (terms : Terms) (g : Guard) (h : Invariant policy terms g) (call : Call) where
+  abbrev number : ℕ
+  number = settled policy (pageOf g) (reachedIn g) call
+
+  record Accepted : Type 0 where
+    reply : outcomeOf g call .reply ≡ effectOf g call .reply
+    pages : pagesAfter policy 0 call (pageOf g) ≡ pageOf (outcomeOf g call .guard)
+    still : Invariant policy (termsAfter 0 call terms) (outcomeOf g call .guard)
+
+  accepted : number ≡ 0 → Accepted
+  unfolding pagesAfter settle
+  accepted e =
+      let outcome : answer g call ≡ effectOf g call = answered policy terms g h call ∙ settle-accepted (effectOf g call) (refusedOf g (broughtBy call)) e in
+      record {
+        reply = ap (λ (o : Outcome). o .reply) outcome;
+        pages = rw outcome (fun-ext (λ p. commutes policy terms g h call e p));
+        still = rw outcome (kept policy terms g h call e);
+      }
+
+  refused-call : (n : ℕ) → number ≡ suc n → outcomeOf g call ≡ refusedOf g (broughtBy call) (suc n)
+  refused-call n e = answered policy terms g h call ∙ settle-refused n (effectOf g call) (refusedOf g (broughtBy call)) e
+
 -- What always holds gives the whole of the claim, for any list.
 always : (policy : Policy) (calls : List Call) (terms : Terms) (g : Guard) → Invariant policy terms g
     → Always policy terms g (pageOf g) calls
-unfolding pagesAfter
+unfolding pagesAfter settle
 always policy [] terms g h = agree policy terms g h
-always policy (call ∷ calls) terms g h = by-number (settled policy (pageOf g) (reachedIn g) call) refl (always policy calls)
+always policy (call ∷ calls) terms g h = by-number (number policy terms g h call) refl (always policy calls)
   where
-    number : ℕ
-    number = settled policy (pageOf g) (reachedIn g) call
+    now : Agree policy g (pageOf g)
+    now = agree policy terms g h
 
-    by-number : (n : ℕ) → number ≡ n
+    by-number : (n : ℕ) → number policy terms g h call ≡ n
         → ((still : Terms) (after : Guard) → Invariant policy still after → Always policy still after (pageOf after) calls)
         → Always policy terms g (pageOf g) (call ∷ calls)
     by-number zero e rest =
-        let outcome : answer g call ≡ effectOf g call =
-        answered policy terms g h call ∙ settle-accepted (effectOf g call) (refusedOf g (broughtBy call)) e in
-        let pages : pagesAfter policy number call (pageOf g) ≡ pageOf ((effectOf g call) .guard) =
-        fun-ext (λ p. settle-accepted _ _ e ∙ commutes policy terms g h call e p) in (
-          agree policy terms g h,
-          rw (outcome, e) (effects g call .number),
-          rw (outcome, e) (effects g call .allowed),
-          (λ _. rw outcome (safe policy terms g h call e)),
-          rw (outcome, pages, e) (rest _ _ (kept policy terms g h call e)),
+        let done = accepted policy terms g h call e in (
+          now,
+          rw (done .reply, e) (effects g call .number),
+          rw (done .reply, e) (effects g call .allowed),
+          (λ _. rw (done .reply) (safe policy terms g h call e)),
+          rw (e, done .pages) (rest _ _ (done .still)),
         )
     by-number (suc n) e rest =
-        let outcome : answer g call ≡ refusedOf g (broughtBy call) (suc n) =
-        answered policy terms g h call ∙ settle-refused n (effectOf g call) (refusedOf g (broughtBy call)) e in
-        let pages : pagesAfter policy number call (pageOf g) ≡ pageOf g = fun-ext (λ p. settle-refused n _ _ e) in (
-          agree policy terms g h,
+        let outcome : outcomeOf g call ≡ refusedOf g (broughtBy call) (suc n) = refused-call policy terms g h call n e in (
+          now,
           rw (outcome, e) refl,
           rw (outcome, e) (sym (ne-eqb (suc n) 0 (λ z. omega arith))),
           (λ z. absurd (omega arith)),
-          rw (outcome, pages, e, terms-refused) (rest terms g h),
+          rw (outcome, e, terms-refused) (rest terms g h),
         )
 
 -- What always holds, with anything besides that every accepted call keeps, holds after every list.
 pub kept-along : (policy : Policy) (P : Terms → Guard → Type 0)
     → ((terms : Terms) (g : Guard) → Invariant policy terms g → P terms g → (call : Call) → settled policy (pageOf g) (reachedIn g) call ≡ 0
-    → P (termsAfter 0 call terms) ((effectOf g call) .guard))
+    → pagesAfter policy 0 call (pageOf g) ≡ pageOf (outcomeOf g call .guard) → P (termsAfter 0 call terms) (outcomeOf g call .guard))
     → (calls : List Call) (terms : Terms) (g : Guard) → Invariant policy terms g → P terms g
     → Invariant policy (termsAlong g terms calls) (guardAfter g calls) × P (termsAlong g terms calls) (guardAfter g calls)
 unfolding guardAfter termsAlong
 kept-along policy P keeps [] terms g h p = (h, p)
 kept-along policy P keeps (call ∷ calls) terms g h p =
-    let after = by-number (settled policy (pageOf g) (reachedIn g) call) refl in
-    kept-along policy P keeps calls (termsAfter ((answer g call) .reply .number) call terms) ((answer g call) .guard) (after .0) (after .1)
+    let after = by-number (number policy terms g h call) refl in
+    kept-along policy P keeps calls (termsAfter (outcomeOf g call .reply .number) call terms) (outcomeOf g call .guard) (after .0) (after .1)
   where
-    by-number : (n : ℕ) → settled policy (pageOf g) (reachedIn g) call ≡ n
-        → Invariant policy (termsAfter ((answer g call) .reply .number) call terms) ((answer g call) .guard)
-        × P (termsAfter ((answer g call) .reply .number) call terms) ((answer g call) .guard)
+    by-number : (n : ℕ) → number policy terms g h call ≡ n
+        → Invariant policy (termsAfter (outcomeOf g call .reply .number) call terms) (outcomeOf g call .guard)
+        × P (termsAfter (outcomeOf g call .reply .number) call terms) (outcomeOf g call .guard)
     by-number zero e =
-        let outcome : answer g call ≡ effectOf g call =
-        answered policy terms g h call ∙ settle-accepted (effectOf g call) (refusedOf g (broughtBy call)) e in
-        rw (outcome, effects g call .number) (kept policy terms g h call e, keeps terms g h p call e)
-    by-number (suc n) e =
-        let outcome : answer g call ≡ refusedOf g (broughtBy call) (suc n) =
-        answered policy terms g h call ∙ settle-refused n (effectOf g call) (refusedOf g (broughtBy call)) e in
-        rw (outcome, terms-refused) (h, p)
+        let done = accepted policy terms g h call e in
+        rw (done .reply, effects g call .number) (done .still, keeps terms g h p call e (done .pages))
+    by-number (suc n) e = rw (refused-call policy terms g h call n e, terms-refused) (h, p)
 
 -- The list of an accepted start begins with what always holds.
 pub claim : Claim

@@ -10,10 +10,11 @@ use Rattle.model.specs.Sizes.{pageBytes}
 use Rattle.model.specs.Guard.{none, Tables, Guard, vectorOf, inUser}
 use Rattle.model.specs.Policy.{Givens, Policy, policyOf}
 use Rattle.model.specs.Bits.{frameOf}
-use Rattle.model.specs.Calls.{Reply, Outcome, startOf, Call, answer}
+use Rattle.model.specs.Calls.{Reply, Outcome, startOf, Call}
 use Rattle.claim.specs.CallKinds.{Touch, untouched, fetched, written, transferred, touchOf}
 use Rattle.claim.specs.OnePage.{Page, firstPage, reachedIn, settled, pagesAfter}
 use Rattle.claim.specs.Terms.{Terms, firstTerms, termsAfter, protected, code}
+use Rattle.claim.specs.Lists.{outcomeOf}
 
 -- After the start and after every call: the tables have their lengths, "the state agrees on kernel or user", and each page's shadow entry
 -- and approval equal those of its one-page guard. Every page below V has its own place, so that no default of getD is compared. The exclusion vector has
@@ -68,7 +69,7 @@ abbrev pub Always : Policy → Terms → Guard → (ℕ → Page) → List Call 
 Always policy terms g ps [] = Agree policy g ps
 Always policy terms g ps (call ∷ calls) =
     let number : ℕ = settled policy ps (reachedIn g) call in
-    let outcome : Outcome = answer g call in
+    let outcome : Outcome = outcomeOf g call in
     Agree policy g ps
     × (outcome .reply .number ≡ number)
     × (outcome .reply .allowed ≡ eqb number 0)

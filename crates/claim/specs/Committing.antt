@@ -9,8 +9,8 @@ use Rattle.model.specs.Sizes.{pageBytes}
 use Rattle.model.specs.Guard.{Tables, Guard}
 use Rattle.model.specs.Policy.{Givens}
 use Rattle.model.specs.Bits.{frameOf}
-use Rattle.model.specs.Calls.{startOf, Call, write, deviceWrite, ask, commit, drop, answer}
-use Rattle.claim.specs.Lists.{Accepts, guardAfter, EachAccepted}
+use Rattle.model.specs.Calls.{startOf, Call, write, deviceWrite, ask, commit, drop}
+use Rattle.claim.specs.Lists.{outcomeOf, Accepts, guardAfter, EachAccepted}
 use Rattle.claim.specs.CallKinds.{Touch, untouched, fetched, written, transferred, touchOf}
 
 -- A write or a transfer covers no byte of frame f. A write's byte lies in the frame of its page's shadow entry, a transfer's in that of its address.
@@ -36,7 +36,7 @@ CommittedKept =
     (given : Givens) (bytes : List ℕ) (t : Tables) (before between after : List Call) (page frame : ℕ)
     → (startOf given bytes t) .reply .number ≡ 0
     → let reached : Guard = guardAfter ((startOf given bytes t) .guard) before in
-    let asked : Guard = (answer reached (ask page frame)) .guard in
+    let asked : Guard = (outcomeOf reached (ask page frame)) .guard in
     Accepts reached (ask page frame) → EachAccepted NoDrop asked between → Accepts (guardAfter asked between) commit
     → EachAccepted (Avoids frame) asked (between ++ (commit ∷ after))
 
@@ -46,7 +46,7 @@ CommittedMissed =
     (given : Givens) (bytes : List ℕ) (t : Tables) (before between after : List Call) (page frame : ℕ)
     → (startOf given bytes t) .reply .number ≡ 0
     → let reached : Guard = guardAfter ((startOf given bytes t) .guard) before in
-    let asked : Guard = (answer reached (ask page frame)) .guard in
+    let asked : Guard = (outcomeOf reached (ask page frame)) .guard in
     Accepts reached (ask page frame) → ((xs ys : List Call) → between ≡ xs ++ (drop ∷ ys) → Accepts (guardAfter asked xs) drop → ⊥)
     → Accepts (guardAfter asked between) commit → (xs ys : List Call)
     → ((address size : ℕ) → between ++ (commit ∷ after) ≡ xs ++ (write address size ∷ ys) → Accepts (guardAfter asked xs) (write address size)

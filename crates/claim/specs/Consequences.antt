@@ -13,9 +13,9 @@ use Rattle.model.specs.Guard.{none, Guard, vectorBytes, vectorOf, inUser}
 use Rattle.model.specs.Policy.{Policy, named}
 use Rattle.model.specs.Bits.{frameOf}
 use Rattle.model.specs.Devices.{deviceOf}
-use Rattle.model.specs.Calls.{Reply, settle, Call, fetch, write, deviceWrite, ask, commit, answer}
+use Rattle.model.specs.Calls.{Reply, settle, Call, fetch, write, deviceWrite, ask, commit}
 use Rattle.claim.specs.OnePage.{Page, News, firstPage, told, news, reachedIn, settled}
-use Rattle.claim.specs.Lists.{Accepts, guardAfter, EachAccepted, AfterEvery}
+use Rattle.claim.specs.Lists.{outcomeOf, Accepts, guardAfter, EachAccepted, AfterEvery}
 use Rattle.claim.specs.Committing.{NoDrop}
 
 -- A list commits a frame: an ask for it is accepted, and later a commit, with no accepted drop between them.
@@ -26,14 +26,14 @@ pub record Committed (frame : ℕ) (g : Guard) (calls : List Call) : Type 0 wher
   pub after : List Call
   pub split : calls ≡ before ++ (ask page frame ∷ (between ++ (commit ∷ after)))
   pub asked : Accepts (guardAfter g before) (ask page frame)
-  pub undropped : EachAccepted NoDrop ((answer (guardAfter g before) (ask page frame)) .guard) between
-  pub confirmed : Accepts (guardAfter ((answer (guardAfter g before) (ask page frame)) .guard) between) commit
+  pub undropped : EachAccepted NoDrop ((outcomeOf (guardAfter g before) (ask page frame)) .guard) between
+  pub confirmed : Accepts (guardAfter ((outcomeOf (guardAfter g before) (ask page frame)) .guard) between) commit
 
 -- An allowed fetch answers the frame of its page's shadow entry, twice. In kernel mode the policy names that frame, or the list has committed it.
 abbrev pub FetchReadsCode : Type 0
 FetchReadsCode = AfterEvery λ policy start calls g.
     (page : ℕ) → Accepts g (fetch page) →
-    let reply : Reply = (answer g (fetch page)) .reply in
+    let reply : Reply = (outcomeOf g (fetch page)) .reply in
     (reply .first ≡ frameOf (getD (g .tables .shadow) page 0))
     × (reply .second ≡ frameOf (getD (g .tables .shadow) page 0))
     × (inUser (g .state .mode) ≡ false → (named policy (reply .first) ≡ true) ⊎ Committed (reply .first) start calls)
@@ -49,7 +49,7 @@ WriteMissesPolicy = AfterEvery λ policy start calls g.
 abbrev pub WriteAnswersFrames : Type 0
 WriteAnswersFrames = AfterEvery λ policy start calls g.
     (address size : ℕ) → Accepts g (write address size) →
-    let reply : Reply = (answer g (write address size)) .reply in
+    let reply : Reply = (outcomeOf g (write address size)) .reply in
     (reply .first ≡ frameOf (getD (g .tables .shadow) (address / pageBytes) 0))
     × (reply .second ≡ frameOf (getD (g .tables .shadow) ((address + size - 1) / pageBytes) 0))
 
@@ -71,8 +71,8 @@ TransferInWindow = AfterEvery λ policy start calls g.
 unfoldable pub heard : Policy → ℕ → Guard → List Call → List News
 heard policy p g [] = []
 heard policy p g (call ∷ calls) =
-    let later : List News = heard policy p ((answer g call) .guard) calls in
-    settle ((answer g call) .reply .number) (news policy p call ∷ later) (λ n. later)
+    let later : List News = heard policy p ((outcomeOf g call) .guard) calls in
+    settle ((outcomeOf g call) .reply .number) (news policy p call ∷ later) (λ n. later)
 
 unfoldable pub toldAll : Policy → Page → List News → Page
 toldAll policy page [] = page
@@ -109,13 +109,13 @@ ExclusionIsFold = AfterEvery λ policy start calls g.
 abbrev pub NumberIsSettled : Type 0
 NumberIsSettled = AfterEvery λ policy start calls g.
     (call : Call) →
-    let reply : Reply = (answer g call) .reply in
+    let reply : Reply = (outcomeOf g call) .reply in
     (reply .number ≡ settled policy (pageAfter policy start calls) (reachedIn g) call) × (reply .allowed ≡ eqb (reply .number) 0)
 
 -- A refused call leaves the three tables, and kernel or user.
 abbrev pub RefusedLeaves : Type 0
 RefusedLeaves = AfterEvery λ policy start calls g.
     (call : Call) → (Accepts g call → ⊥) →
-    let after : Guard = (answer g call) .guard in
+    let after : Guard = (outcomeOf g call) .guard in
     (after .tables .shadow ≡ g .tables .shadow) × (after .tables .map ≡ g .tables .map) × (after .tables .exclusion ≡ g .tables .exclusion)
     × (inUser (after .state .mode) ≡ inUser (g .state .mode))

@@ -2,8 +2,8 @@
 pub mod CallKinds
 pub mod OnePage
 pub mod Terms
-pub mod Claim
 pub mod Lists
+pub mod Claim
 pub mod Committing
 pub mod Consequences
 pub mod Installed
