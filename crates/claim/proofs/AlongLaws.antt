@@ -12,31 +12,31 @@ use Rattle.model.specs.Guard.{Tables, Guard}
 use Rattle.model.specs.Policy.{Givens, Policy, policyOf}
 use Rattle.model.specs.Bits.{frameOf}
 use Rattle.model.specs.Devices.{deviceOf}
-use Rattle.model.specs.Calls.{settle, startOf, Call, fetch, write, deviceWrite, questionsOf, answer}
+use Rattle.model.specs.Calls.{settle, startOf, Call, fetch, write, deviceWrite, questionsOf}
 use Rattle.claim.specs.CallKinds.{touchOf}
 use Rattle.claim.specs.OnePage.{Page, News, firstPage, news, reachedIn, seenBy, settled, pagesAfter}
 use Rattle.claim.specs.Terms.{Terms, firstTerms, termsAfter, protected}
 use Rattle.claim.specs.Claim.{Agree, coveredBy, FetchSafe, WriteSafe, DeviceWriteSafe, Safe, Always, Claim}
-use Rattle.claim.specs.Lists.{Accepts, guardAfter, termsAlong}
+use Rattle.claim.specs.Lists.{outcomeOf, Accepts, guardAfter, termsAlong}
 use Rattle.claim.specs.Consequences.{heard, toldAll, pageAfter}
 use Rattle.laws.proofs.AcceptedLaws.{fetch-page, write-page}
 
 -- A call more at the end of a list.
-pub guard-snoc : (g : Guard) (calls : List Call) (call : Call) → guardAfter g (calls ++ (call ∷ [])) ≡ (answer (guardAfter g calls) call) .guard
+pub guard-snoc : (g : Guard) (calls : List Call) (call : Call) → guardAfter g (calls ++ (call ∷ [])) ≡ (outcomeOf (guardAfter g calls) call) .guard
 unfolding guardAfter
 guard-snoc g [] call = refl
-guard-snoc g (c ∷ calls) call = guard-snoc ((answer g c) .guard) calls call
+guard-snoc g (c ∷ calls) call = guard-snoc ((outcomeOf g c) .guard) calls call
 
 pub guard-append : (g : Guard) (xs ys : List Call) → guardAfter g (xs ++ ys) ≡ guardAfter (guardAfter g xs) ys
 unfolding guardAfter
 guard-append g [] ys = refl
-guard-append g (x ∷ xs) ys = guard-append ((answer g x) .guard) xs ys
+guard-append g (x ∷ xs) ys = guard-append ((outcomeOf g x) .guard) xs ys
 
 pub terms-snoc : (g : Guard) (terms : Terms) (calls : List Call) (call : Call)
-    → termsAlong g terms (calls ++ (call ∷ [])) ≡ termsAfter ((answer (guardAfter g calls) call) .reply .number) call (termsAlong g terms calls)
+    → termsAlong g terms (calls ++ (call ∷ [])) ≡ termsAfter ((outcomeOf (guardAfter g calls) call) .reply .number) call (termsAlong g terms calls)
 unfolding guardAfter termsAlong
 terms-snoc g terms [] call = refl
-terms-snoc g terms (c ∷ calls) call = terms-snoc ((answer g c) .guard) (termsAfter ((answer g c) .reply .number) c terms) calls call
+terms-snoc g terms (c ∷ calls) call = terms-snoc ((outcomeOf g c) .guard) (termsAfter ((outcomeOf g c) .reply .number) c terms) calls call
 
 -- What a one-page guard is told of a call first, and then of the rest.
 told-first : (policy : Policy) (n : ℕ) (call : Call) (ps : ℕ → Page) (p : ℕ) (later : List News)
@@ -50,8 +50,8 @@ along : (policy : Policy) (calls rest : List Call) (terms : Terms) (g : Guard) (
 unfolding guardAfter termsAlong heard toldAll
 along policy [] rest terms g ps always = always
 along policy (call ∷ calls) rest terms g ps always =
-    let n : ℕ = (answer g call) .reply .number in
-    let after : Guard = (answer g call) .guard in
+    let n : ℕ = (outcomeOf g call) .reply .number in
+    let after : Guard = (outcomeOf g call) .guard in
     let is : n ≡ settled policy ps (reachedIn g) call = always .1 in
     subst (λ (qs : ℕ → Page). Always policy (termsAlong after (termsAfter n call terms) calls) (guardAfter after calls) qs rest)
     (fun-ext (λ p. told-first policy n call ps p (heard policy p after calls)))
@@ -82,19 +82,19 @@ module _ (claimed : Claim) (given : Givens) (bytes : List ℕ) (t : Tables) (acc
     agrees = point []
 
     module _ (call : Call) where
-      pub numbered : (answer at call) .reply .number ≡ settled policy pagesAt (reachedIn at) call
+      pub numbered : (outcomeOf at call) .reply .number ≡ settled policy pagesAt (reachedIn at) call
       numbered = point (call ∷ []) .1
 
       pub settles : Accepts at call → settled policy pagesAt (reachedIn at) call ≡ 0
       settles e = sym numbered ∙ e
 
-      pub allows : (answer at call) .reply .allowed ≡ eqb ((answer at call) .reply .number) 0
+      pub allows : (outcomeOf at call) .reply .allowed ≡ eqb ((outcomeOf at call) .reply .number) 0
       allows = rw numbered (point (call ∷ []) .2)
 
-      pub is-safe : Accepts at call → Safe policy termsAt pagesAt (touchOf call) ((answer at call) .reply)
+      pub is-safe : Accepts at call → Safe policy termsAt pagesAt (touchOf call) ((outcomeOf at call) .reply)
       is-safe e = point (call ∷ []) .3 (settles e)
 
-      pub agrees-after : Agree policy ((answer at call) .guard) (pagesAfter policy ((answer at call) .reply .number) call pagesAt)
+      pub agrees-after : Agree policy ((outcomeOf at call) .guard) (pagesAfter policy ((outcomeOf at call) .reply .number) call pagesAt)
       agrees-after = rw numbered (point (call ∷ []) .4)
 
     -- An allowed fetch, write and transfer.
@@ -102,7 +102,7 @@ module _ (claimed : Claim) (given : Givens) (bytes : List ℕ) (t : Tables) (acc
     unfolding settled questionsOf
     fetch-below page e = fetch-page (seenBy policy pagesAt (reachedIn at)) page (settles (fetch page) e)
 
-    pub fetch-is-safe : (page : ℕ) → Accepts at (fetch page) → FetchSafe policy termsAt pagesAt page ((answer at (fetch page)) .reply)
+    pub fetch-is-safe : (page : ℕ) → Accepts at (fetch page) → FetchSafe policy termsAt pagesAt page ((outcomeOf at (fetch page)) .reply)
     unfolding touchOf
     fetch-is-safe page e = is-safe (fetch page) e
 
@@ -111,7 +111,7 @@ module _ (claimed : Claim) (given : Givens) (bytes : List ℕ) (t : Tables) (acc
     write-below address size e = write-page (seenBy policy pagesAt (reachedIn at)) address size (settles (write address size) e)
 
     pub write-is-safe : (address size : ℕ) → Accepts at (write address size)
-        → WriteSafe policy termsAt pagesAt address size ((answer at (write address size)) .reply)
+        → WriteSafe policy termsAt pagesAt address size ((outcomeOf at (write address size)) .reply)
     unfolding touchOf
     write-is-safe address size e = is-safe (write address size) e
 

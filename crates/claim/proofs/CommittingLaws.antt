@@ -15,13 +15,13 @@ use Rattle.model.specs.Policy.{Givens, Policy, policyOf, named, startState, sta
 use Rattle.model.specs.Bits.{frameOf}
 use Rattle.model.specs.Devices.{deviceOf, deviceAt, inWindow}
 use Rattle.model.specs.Questions.{View, firstNo, givensInRange, lengthsOf, inOrder, free, everyTouched, deviceWriteQuestions}
-use Rattle.model.specs.Calls.{settle, startOf, Call, fetch, write, deviceWrite, ask, commit, drop, questionsOf, answer}
+use Rattle.model.specs.Calls.{settle, startOf, Call, fetch, write, deviceWrite, ask, commit, drop, questionsOf}
 use Rattle.laws.specs.Windows.{DevicesKept}
 use Rattle.claim.specs.CallKinds.{touchOf, termChangeOf}
 use Rattle.claim.specs.OnePage.{reachedIn, seenBy, settled}
 use Rattle.claim.specs.Terms.{Term, pendingTerm, Terms, firstTerms, termAfter, termsAfter, inTerm, isCommitted, protected}
 use Rattle.claim.specs.Claim.{Claim}
-use Rattle.claim.specs.Lists.{Accepts, guardAfter, termsAlong, EachAccepted}
+use Rattle.claim.specs.Lists.{outcomeOf, Accepts, guardAfter, termsAlong, EachAccepted}
 use Rattle.claim.specs.Committing.{Misses, Avoids, NoDrop, CommittedKept, CommittedMissed}
 use Rattle.laws.proofs.QuestionLaws.{both-yes, within-low, within-yes, firstNo-yes, either-second}
 use Rattle.laws.proofs.AcceptedLaws.{ask-frame, ask-free}
@@ -57,14 +57,14 @@ every-one test first count e p = rw e (both-yes p refl)
 devices-along : (calls : List Call) (g : Guard) → guardAfter g calls .state .devices ≡ g .state .devices
 unfolding guardAfter DevicesKept
 devices-along [] g = refl
-devices-along (call ∷ calls) g = devices-along calls ((answer g call) .guard) ∙ devices-kept g call
+devices-along (call ∷ calls) g = devices-along calls ((outcomeOf g call) .guard) ∙ devices-kept g call
 
 -- What holds of each accepted call of two lists, one after the other.
 each-append : (P : Guard → Call → Type 0) (g : Guard) (xs ys : List Call) → EachAccepted P g xs → EachAccepted P (guardAfter g xs) ys
     → EachAccepted P g (xs ++ ys)
 unfolding guardAfter
 each-append P g [] ys a b = b
-each-append P g (x ∷ xs) ys a b = (a .0, each-append P ((answer g x) .guard) xs ys (a .1) b)
+each-append P g (x ∷ xs) ys a b = (a .0, each-append P ((outcomeOf g x) .guard) xs ys (a .1) b)
 
 -- A refused call changes no term, so it is enough to look at an accepted one.
 after-call : (P : Term → Type 0) (n : ℕ) (call : Call) (terms : Terms) (f : ℕ) → P (terms f) → (n ≡ 0 → P (termAfter (termChangeOf call) f (terms f)))
@@ -188,7 +188,7 @@ module _ (claimed : Claim) (given : Givens) (bytes : List ℕ) (t : Tables) (acc
     term-next : (P : Term → Type 0) (calls : List Call) (call : Call) → P (termsNow calls f)
         → (Accepts (now calls) call → P (termAfter (termChangeOf call) f (termsNow calls f))) → P (termsNow (calls ++ (call ∷ [])) f)
     term-next P calls call before then =
-        rw (terms-snoc start firstTerms calls call) (after-call P ((answer (now calls) call) .reply .number) call (termsNow calls) f before then)
+        rw (terms-snoc start firstTerms calls call) (after-call P ((outcomeOf (now calls) call) .reply .number) call (termsNow calls) f before then)
 
     -- A committed frame stays so: an ask for it is refused.
     lasts : (calls : List Call) (call : Call) → Lasts (termsNow calls f) → Accepts (now calls) call → Lasts (termAfter (termChangeOf call) f (termsNow calls f))
@@ -236,7 +236,7 @@ committed-kept claimed given bytes t before between after page frame accepted as
     start = (startOf given bytes t) .guard
 
     asked : Guard
-    asked = (answer (guardAfter start before) (ask page frame)) .guard
+    asked = (outcomeOf (guardAfter start before) (ask page frame)) .guard
 
     -- The calls up to the ask, up to the commit, and with it.
     one : List Call
@@ -263,7 +263,7 @@ committed-kept claimed given bytes t before between after page frame accepted as
     lasting : isCommitted (termsAlong start firstTerms three frame) ≡ true
     lasting = rw (terms-snoc start firstTerms two commit, there-two, committing) (commit-code (termsAlong start firstTerms two frame) ∙ kept .1)
 
-    then : EachAccepted (Avoids frame) ((answer (guardAfter asked between) commit) .guard) after
+    then : EachAccepted (Avoids frame) ((outcomeOf (guardAfter asked between) commit) .guard) after
     then = rw (← there-two, ← (guard-snoc start two commit)) (for-good claimed given bytes t accepted frame after three lasting)
 
 -- No accepted drop at any place of a list.
@@ -272,7 +272,7 @@ unfolding guardAfter
 no-drops g [] none = tt
 no-drops g (call ∷ calls) none = (
   (λ e same. none [] calls (ap (λ (c : Call). c ∷ calls) same) (rw same at e)),
-  no-drops ((answer g call) .guard) calls (λ xs ys split e. none (call ∷ xs) ys (ap (λ (l : List Call). call ∷ l) split) e),
+  no-drops ((outcomeOf g call) .guard) calls (λ xs ys split e. none (call ∷ xs) ys (ap (λ (l : List Call). call ∷ l) split) e),
 )
 
 -- What holds of each accepted call holds of the one at a place.
@@ -280,7 +280,7 @@ each-at : (P : Guard → Call → Type 0) (g : Guard) (xs ys : List Call) (call 
     → P (guardAfter g xs) call
 unfolding guardAfter
 each-at P g [] ys call each e = each .0 e
-each-at P g (x ∷ xs) ys call each e = each-at P ((answer g x) .guard) xs ys call (each .1) e
+each-at P g (x ∷ xs) ys call each e = each-at P ((outcomeOf g x) .guard) xs ys call (each .1) e
 
 pub committed-missed : CommittedKept → CommittedMissed
 unfolding touchOf
@@ -290,7 +290,7 @@ committed-missed kept given bytes t before between after page frame accepted ask
 )
   where
     asked : Guard
-    asked = (answer (guardAfter ((startOf given bytes t) .guard) before) (ask page frame)) .guard
+    asked = (outcomeOf (guardAfter ((startOf given bytes t) .guard) before) (ask page frame)) .guard
 
     all : EachAccepted (Avoids frame) asked (between ++ (commit ∷ after))
     all = kept given bytes t before between after page frame accepted asking (no-drops asked between none) committing

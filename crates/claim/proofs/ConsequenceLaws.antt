@@ -13,11 +13,11 @@ use Rattle.model.specs.Guard.{none, Tables, Guard, vectorBytes, inUser}
 use Rattle.model.specs.Policy.{Givens, Policy, policyOf, named}
 use Rattle.model.specs.Bits.{frameOf}
 use Rattle.model.specs.Questions.{lengthsOf}
-use Rattle.model.specs.Calls.{Reply, settle, startOf, Call, fetch, write, deviceWrite, questionsOf, answer}
+use Rattle.model.specs.Calls.{Reply, settle, startOf, Call, fetch, write, deviceWrite, questionsOf}
 use Rattle.claim.specs.OnePage.{Page, reachedIn, seenBy, settled, pagesAfter}
 use Rattle.claim.specs.Terms.{Terms, firstTerms, protected, code, isCommitted}
 use Rattle.claim.specs.Claim.{Agree, FetchSafe, Claim}
-use Rattle.claim.specs.Lists.{Accepts, guardAfter, termsAlong}
+use Rattle.claim.specs.Lists.{outcomeOf, Accepts, guardAfter, termsAlong}
 use Rattle.claim.specs.Consequences.{Committed, pageAfter, FetchReadsCode, WriteMissesPolicy, WriteAnswersFrames, TransferMissesPolicy, TransferInWindow}
 use Rattle.claim.specs.Consequences.{PageIsFold, ModeIsFold, LengthsKept, ExclusionIsFold, NumberIsSettled, RefusedLeaves}
 use Rattle.laws.proofs.AcceptedLaws.{write-some}
@@ -74,7 +74,7 @@ module _ (claimed : Claim) (given : Givens) (bytes : List ℕ) (t : Tables) (cal
 
   module _ (page : ℕ) (e : Accepts g (fetch page)) where
     abbrev reply : Reply
-    reply = (answer g (fetch page)) .reply
+    reply = (outcomeOf g (fetch page)) .reply
 
     safe : FetchSafe policy terms ps page reply
     safe = fetch-is-safe claimed given bytes t accepted calls page e
@@ -93,7 +93,7 @@ module _ (claimed : Claim) (given : Givens) (bytes : List ℕ) (t : Tables) (cal
       (λ kernel. rw (safe .first) (code-from (frameOf (ps page .entry)) (safe .approved (sym (agree .mode page below) ∙ kernel)))),
     )
 
-  written : (address size : ℕ) → Accepts g (write address size) → let reply : Reply = (answer g (write address size)) .reply in
+  written : (address size : ℕ) → Accepts g (write address size) → let reply : Reply = (outcomeOf g (write address size)) .reply in
       (reply .first ≡ frameOf (getD (g .tables .shadow) (address / pageBytes) 0))
       × (reply .second ≡ frameOf (getD (g .tables .shadow) (lastPage address size) 0))
   unfolding lastPage lastByte settled questionsOf
@@ -108,10 +108,10 @@ module _ (claimed : Claim) (given : Givens) (bytes : List ℕ) (t : Tables) (cal
   -- A call that is refused leaves every table as the one-page guards have it, and these were told nothing.
   module _ (call : Call) (refused : Accepts g call → ⊥) where
     abbrev after : Guard
-    after = (answer g call) .guard
+    after = (outcomeOf g call) .guard
 
     still : Agree policy after ps
-    still = rw (untold policy ((answer g call) .reply .number) call ps refused) at (agrees-after claimed given bytes t accepted calls call)
+    still = rw (untold policy ((outcomeOf g call) .reply .number) call ps refused) at (agrees-after claimed given bytes t accepted calls call)
 
     left : (after .tables .shadow ≡ g .tables .shadow) × (after .tables .map ≡ g .tables .map) × (after .tables .exclusion ≡ g .tables .exclusion)
         × (inUser (after .state .mode) ≡ inUser (g .state .mode))

@@ -7,10 +7,10 @@ use lib.Dec.{eqb}
 use native.Mathlib.Omega.{arith}
 use borrow.Author.Tests.{eqb-true}
 use Rattle.model.specs.Guard.{Guard}
-use Rattle.model.specs.Calls.{settle, Call, ask, commit, drop, answer}
+use Rattle.model.specs.Calls.{settle, Call, ask, commit, drop}
 use Rattle.claim.specs.CallKinds.{unchanged, ended, termChangeOf}
 use Rattle.claim.specs.Terms.{Term, noTerm, pendingTerm, committedTerm, Terms, firstTerms, afterCommit, afterDrop, termAfter, termsAfter, isCommitted}
-use Rattle.claim.specs.Lists.{Accepts, guardAfter, termsAlong, EachAccepted}
+use Rattle.claim.specs.Lists.{outcomeOf, Accepts, guardAfter, termsAlong, EachAccepted}
 use Rattle.claim.specs.Committing.{NoDrop}
 use Rattle.claim.specs.Consequences.{Committed}
 use Rattle.claim.proofs.KindLaws.{Changing, keeps, asks, commits, drops, kinds}
@@ -31,7 +31,7 @@ data History (f : ℕ) (t : Term) (g : Guard) (calls : List Call) : Type 0 where
   within : Committed f g calls → History f t g calls
 
 -- A list that commits a frame does so with a call in front.
-committed-later : (f : ℕ) (g : Guard) (call : Call) (calls : List Call) → Committed f ((answer g call) .guard) calls → Committed f g (call ∷ calls)
+committed-later : (f : ℕ) (g : Guard) (call : Call) (calls : List Call) → Committed f ((outcomeOf g call) .guard) calls → Committed f g (call ∷ calls)
 unfolding guardAfter
 committed-later f g call calls h =
     record {
@@ -46,7 +46,7 @@ committed-later f g call calls h =
     }
 
 -- Where a call changes nothing of the term and drops nothing, the list with it in front has the same history.
-later : (f : ℕ) (t : Term) (g : Guard) (call : Call) (calls : List Call) → (Accepts g call → NoDrop g call) → History f t ((answer g call) .guard) calls
+later : (f : ℕ) (t : Term) (g : Guard) (call : Call) (calls : List Call) → (Accepts g call → NoDrop g call) → History f t ((outcomeOf g call) .guard) calls
     → History f t g (call ∷ calls)
 unfolding guardAfter
 later f t g call calls kept (already c) = already c
@@ -77,7 +77,7 @@ keeps-no-drop call e same =
 -- An accepted call by what it does to the term of f.
 module _ (f : ℕ) (g : Guard) (calls : List Call) where
   abbrev After : Call → Guard
-  After call = (answer g call) .guard
+  After call = (outcomeOf g call) .guard
 
   begins : (t : Term) (page : ℕ) → Accepts g (ask page f) → History f pendingTerm (After (ask page f)) calls → History f t g (ask page f ∷ calls)
   unfolding guardAfter isCommitted
@@ -120,16 +120,16 @@ history : (f : ℕ) (calls : List Call) (terms : Terms) (g : Guard) → isCommit
 unfolding termsAlong termAfter termChangeOf termsAfter settle
 history f [] terms g c = already c
 history f (call ∷ calls) terms g c =
-    by ((answer g call) .reply .number) refl
-    (history f calls (termsAfter ((answer g call) .reply .number) call terms) ((answer g call) .guard) c)
+    by ((outcomeOf g call) .reply .number) refl
+    (history f calls (termsAfter ((outcomeOf g call) .reply .number) call terms) ((outcomeOf g call) .guard) c)
   where
-    by-kind : Changing call → Accepts g call → History f (termAfter (termChangeOf call) f (terms f)) ((answer g call) .guard) calls → History f (terms f) g (call ∷ calls)
+    by-kind : Changing call → Accepts g call → History f (termAfter (termChangeOf call) f (terms f)) ((outcomeOf g call) .guard) calls → History f (terms f) g (call ∷ calls)
     by-kind (keeps e) a h = later f (terms f) g call calls (λ a. keeps-no-drop call e) (rw e at h)
     by-kind (asks page frame e) a h = rw e (asks-of f g calls (terms f) page frame (eqb f frame) refl (rw e at a) (rw e at h))
     by-kind (commits e) a h = rw e (confirms f g calls (terms f) (rw e at a) (rw e at h))
     by-kind (drops e) a h = rw e (ends f g calls (terms f) (rw e at h))
 
-    by : (n : ℕ) → (answer g call) .reply .number ≡ n → History f (termsAfter n call terms f) ((answer g call) .guard) calls → History f (terms f) g (call ∷ calls)
+    by : (n : ℕ) → (outcomeOf g call) .reply .number ≡ n → History f (termsAfter n call terms f) ((outcomeOf g call) .guard) calls → History f (terms f) g (call ∷ calls)
     by zero e h = by-kind (kinds call .1) e h
     by (suc n) e h = later f (terms f) g call calls (λ a. absurd (omega arith)) h
 
