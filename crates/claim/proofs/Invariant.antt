@@ -11,7 +11,7 @@ use Rattle.model.specs.Questions.{View, firstNo, seen, stateInOrder}
 use Rattle.model.specs.Calls.{settle, refusedOf, broughtBy, Call, questionsOf, effectOf, answer}
 use Rattle.claim.specs.OnePage.{Page, reachedIn, seenBy, settled}
 use Rattle.claim.specs.Terms.{Terms, protected, code}
-use Rattle.claim.proofs.TermLaws.{isWaiting, awaited, code-term}
+use Rattle.claim.proofs.TermLaws.{isWaiting, awaited, code-protected}
 use Rattle.laws.proofs.VectorLaws.{vectorOf-length, vectorOf-bit, vectorOf-same}
 use Rattle.claim.proofs.PageLaws.{Good}
 
@@ -61,8 +61,7 @@ module _ (policy : Policy) (terms : Terms) (g : Guard) (h : Invariant policy ter
 
   -- The frames of code are protected, so they are below F.
   pub code-below : (f : ℕ) → code policy terms f ≡ true → f < policy .frames
-  unfolding code protected
-  code-below f c = h .below f (code-term (named policy f) (terms f) c)
+  code-below f c = h .below f (code-protected policy terms f c)
 
   -- The questions see the same in the tables as in the one-page guards.
   same-view : seen g ≡ seenBy policy (pageOf g) (reachedIn g)

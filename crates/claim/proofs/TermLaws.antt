@@ -9,7 +9,8 @@ use Rattle.model.specs.declared.Pending.the-variants.{Nothing, Pair}
 use Rattle.model.specs.Basics.{either}
 use Rattle.model.specs.Guard.{isPending, pendingFrame, isAsked}
 use Rattle.model.specs.Questions.{pendingInRange}
-use Rattle.claim.specs.Terms.{Term, noTerm, pendingTerm, committedTerm, afterCommit, afterDrop, inTerm, isCommitted}
+use Rattle.model.specs.Policy.{Policy, named}
+use Rattle.claim.specs.Terms.{Term, noTerm, pendingTerm, committedTerm, afterCommit, afterDrop, Terms, inTerm, isCommitted, protected, code}
 use Rattle.laws.proofs.QuestionLaws.{both-first, both-second}
 
 -- A frame whose term is pending, and one that the state says is.
@@ -140,14 +141,6 @@ module _ (pages frames : ℕ) (pending : Pending) (fits : pendingInRange pages f
       at Nothing fits there = absurd (false≢true there)
       at (Pair page frame) fits there = ltb-true frame frames (both-second (ltb page pages) (ltb frame frames) fits)
 
-  pub awaited-below : (f : ℕ) → awaited pending f ≡ true → f < frames
-  unfolding awaited pendingInRange
-  awaited-below f = at pending fits
-    where
-      at : (p : Pending) → pendingInRange pages frames p ≡ true → awaited p f ≡ true → f < frames
-      at Nothing fits there = absurd (false≢true there)
-      at (Pair page frame) fits there = rw (eqb-true f frame there) (ltb-true frame frames (both-second (ltb page pages) (ltb frame frames) fits))
-
   pub asked-below : (p : ℕ) → isAsked pending p ≡ true → p < pages
   unfolding isAsked pendingInRange
   asked-below p = at pending fits
@@ -155,3 +148,8 @@ module _ (pages frames : ℕ) (pending : Pending) (fits : pendingInRange pages f
       at : (q : Pending) → pendingInRange pages frames q ≡ true → isAsked q p ≡ true → p < pages
       at Nothing fits there = absurd (false≢true there)
       at (Pair page frame) fits there = rw (eqb-true p page there) (ltb-true page pages (both-first _ _ fits))
+
+-- Code is protected.
+pub code-protected : (policy : Policy) (terms : Terms) (f : ℕ) → code policy terms f ≡ true → protected policy terms f ≡ true
+unfolding code protected
+code-protected policy terms f c = code-term (named policy f) (terms f) c
