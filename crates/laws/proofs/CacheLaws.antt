@@ -9,13 +9,13 @@ use Rattle.model.specs.declared.Fields.{Fields}
 use Rattle.model.specs.Basics.{bit, both}
 use Rattle.model.specs.Bits.{present, writable, writeThrough, cacheDisable, frameOf, approvedMark, fieldsOf, approved, ordinary, inspected}
 use Rattle.model.specs.Sync.{Slot}
-use Rattle.laws.specs.Cache.{ApartYields, isOrdinary, StepCarries, StepWrites}
+use Rattle.laws.specs.Cache.{ApartYields, isOrdinary, OrdinaryCarries, StepCarries, StepWrites, SwitchKeeps}
 use Rattle.laws.proofs.BitLaws.{bit-above, fields-apart, approvedMark-approved, approved-none, present-ordinary, writable-ordinary}
-use Rattle.laws.proofs.BitLaws.{approvedMark-ordinary, inspected-keeps, ordinary-carries}
+use Rattle.laws.proofs.BitLaws.{approvedMark-ordinary, inspected-keeps, ordinary-carries, switch-keeps, valid-parts}
 use Rattle.laws.proofs.SyncLaws.{step-cases}
 
 pub apart-yields : ApartYields
-unfolding fieldsOf writeThrough cacheDisable
+unfolding fieldsOf writeThrough cacheDisable bit
 apart-yields entry x p =
     let same : x ≡ fieldsOf entry = sym (fields-apart entry x p) in
     (ap (λ (y : Fields). y .«write_through») same, ap (λ (y : Fields). y .«cache_disable») same)
@@ -36,33 +36,42 @@ module _ (k : ℕ) (b : Bool) (l : 1 ≤ k) (h : k < 5) where
   absent = bit-above k 0 (omega (arith, pow-lt l))
 
   mapped : (user : Bool) (f : ℕ) → Carries (approved user f)
-  unfolding Carries
+  unfolding Carries bit present approvedMark
   mapped user f =
       approved-none user f k l (omega arith) ∙ marked (present (approved user f)) b (approvedMark (approved user f)) (approvedMark-approved user f)
 
   plain : (user : Bool) (x : Fields) → bit k (ordinary user x) ≡ b → Carries (ordinary user x)
-  unfolding Carries both
+  unfolding Carries both bit present approvedMark
   plain user x e = rw (present-ordinary user x, approvedMark-ordinary user x) e
 
+pub ordinary-kept : OrdinaryCarries
+unfolding bit
+ordinary-kept = ordinary-carries
+
+pub switch-kept : SwitchKeeps
+unfolding bit
+switch-kept = switch-keeps
+
 pub step-carries : StepCarries
-unfolding Carries
+unfolding Carries bit
 step-carries rules entry approval k l h =
     let low : 1 ≤ k = omega arith in
     step-cases (λ (s : Slot). Carries k (bit k entry) low h (s .entry)) rules entry approval (absent k _ low h)
     (λ e. mapped k _ low h (rules .user) approval)
-    (λ p m e. plain k _ low h (rules .user) (inspected (fieldsOf entry)) (inspected-keeps (rules .user) (fieldsOf entry) k l h ∙ ordinary-carries (rules .user) entry k p h))
+    (λ p m e. plain k _ low h (rules .user) (inspected (fieldsOf entry))
+    (inspected-keeps (rules .user) (fieldsOf entry) k l h ∙ ordinary-carries (rules .user) entry k (valid-parts entry p .0) h))
     (λ m o e. mapped k _ low h (rules .user) (frameOf entry))
-    (λ p m o. plain k _ low h (rules .user) (fieldsOf entry) (ordinary-carries (rules .user) entry k p h))
+    (λ p m o. plain k _ low h (rules .user) (fieldsOf entry) (ordinary-carries (rules .user) entry k (valid-parts entry p .0) h))
 
 -- Bit 1: a pending frame clears it.
 pub step-writes : StepWrites
-unfolding Carries both inspected writable
+unfolding Carries both inspected writable bit frameOf
 step-writes rules entry approval =
     let low : 1 ≤ 1 = omega arith in
     let h : 1 < 5 = omega arith in
-    step-cases (λ (s : Slot). Carries 1 (both (not (eqb (frameOf entry) (rules .pending))) (bit 1 entry)) low h (s .entry)) rules entry approval
-    (absent 1 _ low h)
-    (λ e. mapped 1 _ low h (rules .user) approval)
-    (λ p m e. plain 1 _ low h (rules .user) (inspected (fieldsOf entry)) (rw e (writable-ordinary (rules .user) (inspected (fieldsOf entry)))))
-    (λ m o e. mapped 1 _ low h (rules .user) (frameOf entry))
-    (λ p m o. plain 1 _ low h (rules .user) (fieldsOf entry) (rw o (ordinary-carries (rules .user) entry 1 p h)))
+    let b : Bool = both (not (eqb (frameOf entry) (rules .pending))) (bit 1 entry) in
+    step-cases (λ (s : Slot). Carries 1 b low h (s .entry)) rules entry approval (absent 1 b low h)
+    (λ e. mapped 1 b low h (rules .user) approval)
+    (λ p m e. plain 1 b low h (rules .user) (inspected (fieldsOf entry)) (rw e (writable-ordinary (rules .user) (inspected (fieldsOf entry)))))
+    (λ m o e. mapped 1 b low h (rules .user) (frameOf entry))
+    (λ p m o. plain 1 b low h (rules .user) (fieldsOf entry) (rw o (ordinary-carries (rules .user) entry 1 (valid-parts entry p .0) h)))
