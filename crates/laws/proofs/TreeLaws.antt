@@ -19,7 +19,8 @@ use Rattle.model.specs.Calls.{settle, refusedOf, Call, syncPage, syncAll, syncP
 use Rattle.model.specs.Calls.{effectOf, answer}
 use Rattle.model.specs.Walks.{flatTable}
 use Rattle.laws.specs.Trees.{ReadsWithin, InOrder, TreeAsFlat, guardFits, TreeRefused}
-use Rattle.laws.proofs.QuestionLaws.{both-yes, both-first, both-second, within-yes, within-low, within-high, asked, numbered, all-yes, firstNo-yes, firstNo-no}
+use Rattle.laws.proofs.QuestionLaws.{both-yes, both-first, both-second, within-yes, within-low, within-high}
+use Rattle.laws.proofs.QuestionLaws.{asked, numbered, all-yes, firstNo-yes, firstNo-no}
 use Rattle.laws.proofs.StateLaws.{in-order}
 use Rattle.laws.proofs.CallLaws.{settle-refused-by}
 use Rattle.laws.proofs.AcceptedLaws.{syncPageTree-page}
