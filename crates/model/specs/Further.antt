@@ -1,5 +1,5 @@
--- Cases beside the twelve of document 01, each from one of its sentences or of a request's (K1, K3): a policy with two entry pages and a repeated frame, the calls that
--- C1 to C12 do not make, and refusals with what comes before them. Rows as in Cases.
+-- Cases beside the twelve of document 01, each from one of its sentences or of a request's (K1, K3): a policy with two entry pages and a repeated
+-- frame, the calls that C1 to C12 do not make, and refusals with what comes before them. Rows as in Cases.
 use Prim.Native.Nat.{ℕ}
 use mathlib.Core.Bool.{true, false}
 use mathlib.Core.List.{List, [], _∷_}

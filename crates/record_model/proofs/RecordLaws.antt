@@ -192,7 +192,8 @@ write-asked : (policy : Policy) (room : ℕ) → firstNo (policyQuestions true t
 unfolding writeRecordQuestions arraysExact policyQuestions numbered both
 write-asked policy room h pages-fit frames-fit fits =
     rw (eq-eqb _ _ pages-fit, eq-eqb _ _ frames-fit)
-    (firstNo-back (policyQuestions true true true policy) _ refl h ∙ (firstNo-yes 7 _ refl ∙ (firstNo-yes 16 [] (le-leb (8 + 4 * policy .count) room fits) ∙ sym none-left)))
+    (firstNo-back (policyQuestions true true true policy) _ refl h
+    ∙ (firstNo-yes 7 _ refl ∙ (firstNo-yes 16 [] (le-leb (8 + 4 * policy .count) room fits) ∙ sym none-left)))
 
 -- The number of a call is that of its first no, and an accepted call leaves the record in front of the buffer's other bytes.
 write-number : (numbersFit : Bool) (policy : Policy) (buffer : List ℕ)
