@@ -22,6 +22,7 @@ use Rattle.drill_model.specs.Drill.{policyExtent, Drill, drillGiven, dri
 use Rattle.drill_model.specs.Drill.{callOf, performed, startLine, Turn, turnOf, turn, entryLines, countFrom, shareLine, closing, callLimit, callLines}
 use Rattle.drill_model.specs.Drill.{drillOutput}
 use Rattle.drill_model.specs.Share.{SomeExcluded, EndsWith, ShareLast}
+use Rattle.drill_model.proofs.ShareLaws.{counted}
 
 -- Of numbers of which one passes the test, one is counted at least.
 count-some : (test : ℕ → Bool) (first count f : ℕ) → first ≤ f → f < first + count → test f ≡ true → 1 ≤ countFrom test first count
@@ -73,7 +74,9 @@ lent bytes =
 
 pub some-excluded : SomeExcluded
 unfolding SomeExcluded drillStart startOf
-some-excluded bytes accepted = by-number (firstNo (startQuestions drillGiven bytes (policyOf bytes) (lengthsOf (lent bytes)))) refl
+some-excluded bytes accepted =
+    rw (← counted (drillStart bytes .guard .state .frames) (drillStart bytes .guard .tables .exclusion))
+    (by-number (firstNo (startQuestions drillGiven bytes (policyOf bytes) (lengthsOf (lent bytes)))) refl)
   where
     by-number : (n : ℕ) → firstNo (startQuestions drillGiven bytes (policyOf bytes) (lengthsOf (lent bytes))) ≡ n
         → 1 ≤ countFrom (hasBit (drillStart bytes .guard .tables .exclusion)) 0 (drillStart bytes .guard .state .frames)

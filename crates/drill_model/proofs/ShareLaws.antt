@@ -1,14 +1,16 @@
 -- K7: a quotient to the nearest is within one half of the exact one, and even at an exact half; and these two fix a number.
 use Prim.Native.Nat.{ℕ, zero, suc, _+_, _*_, _/_, _%_, _≤_, _<_}
 use mathlib.Core.Bool.{Bool, true, false, cond}
-use mathlib.Core.Path.{_≡_, refl}
+use mathlib.Core.List.{List}
+use mathlib.Core.Path.{_≡_, refl, _∙_}
 use lib.Dec.{ltb}
 use borrow.Author.Tests.{ltb-true, ltb-false}
-use native.Mathlib.Nat.{div-add-mod, mod-lt, mul-le-mul-right, lt-of-not-le}
+use native.Mathlib.Nat.{add-zero, zero-add, div-add-mod, mod-lt, mul-le-mul-right, lt-of-not-le}
 use native.Mathlib.Omega.{arith}
+use Rattle.model.specs.Basics.{bit}
 use Rattle.model.specs.Guard.{hasBit}
 use Rattle.drill_model.specs.Drill.{countFrom, nearest, share}
-use Rattle.drill_model.specs.Share.{distance, IsNearest, ShareNearest, NearestFixed}
+use Rattle.drill_model.specs.Share.{distance, IsNearest, excludedBelow, ShareNearest, NearestFixed}
 
 -- What is left of the division, twice: below the divisor, above it, or the divisor itself, by whether the quotient is even.
 module _ (n d q r : ℕ) (e : d * q + r ≡ n) (h : r < d) where
@@ -32,11 +34,29 @@ pub nearest-is : (n d : ℕ) → 1 ≤ d → IsNearest n d (nearest n d)
 unfolding nearest
 nearest-is n d p = near n d (n / d) (n % d) (div-add-mod n d) (mod-lt n p) (ltb (2 * (n % d)) d) refl
 
+-- One number more at the end, in place of one more in front.
+count-last : (test : ℕ → Bool) (first count : ℕ) → countFrom test first (suc count) ≡ cond (test (first + count)) 1 0 + countFrom test first count
+unfolding countFrom
+count-last test first zero = rw (add-zero first)
+count-last test first (suc count) =
+    let next : first + suc count ≡ suc first + count = omega arith in
+    rw next (let rest : _ = count-last test (suc first) count in omega (arith, rest))
+
+-- What the drill counts is what stands in the vector.
+pub counted : (frames : ℕ) (exclusion : List ℕ) → countFrom (hasBit exclusion) 0 frames ≡ excludedBelow frames exclusion
+unfolding excludedBelow countFrom hasBit bit
+counted zero exclusion = refl
+counted (suc f) exclusion = count-last (hasBit exclusion) 0 f ∙ rw (zero-add, counted f exclusion)
+
 -- Of no frames none is excluded, and the share is 0.
+near-counted : (frames : ℕ) (exclusion : List ℕ) → IsNearest (100 * countFrom (hasBit exclusion) 0 frames) frames (share frames exclusion)
+unfolding IsNearest distance share nearest countFrom
+near-counted zero exclusion = omega arith
+near-counted (suc f) exclusion = nearest-is (100 * countFrom (hasBit exclusion) 0 (suc f)) (suc f) (omega arith)
+
 pub share-nearest : ShareNearest
-unfolding ShareNearest IsNearest distance share nearest countFrom
-share-nearest zero exclusion = omega arith
-share-nearest (suc f) exclusion = nearest-is (100 * countFrom (hasBit exclusion) 0 (suc f)) (suc f) (omega arith)
+unfolding ShareNearest
+share-nearest frames exclusion = rw (← counted frames exclusion) (near-counted frames exclusion)
 
 -- Of two such numbers none is below the other: the next one is the farthest that t can be, and then both are at an exact half, so that both are even.
 not-below : (n d s t : ℕ) → 1 ≤ d → IsNearest n d s → IsNearest n d t → s < t → ⊥

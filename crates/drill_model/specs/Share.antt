@@ -1,12 +1,13 @@
 -- Document 02, K7, "to the nearest, an exact half to the even number": what that asks of a number, that the share is such a number, that no other
 -- is one, and that it is the share of one frame at least.
-use Prim.Native.Nat.{ℕ, _+_, _-_, _*_, _%_, _≤_}
+use Prim.Native.Nat.{ℕ, zero, suc, _+_, _-_, _*_, _/_, _%_, _^_, _≤_}
+use mathlib.Core.Bool.{cond}
 use mathlib.Core.List.{List, _++_}
 use mathlib.Core.Path.{_≡_}
-use lib.ListN.{take}
-use Rattle.model.specs.Guard.{hasBit}
+use lib.ListN.{take, getD}
+use lib.Dec.{eqb}
 use Rattle.model.specs.Calls.{Outcome}
-use Rattle.drill_model.specs.Drill.{policyExtent, drillStart, countFrom, share, shareLine, drillOutput}
+use Rattle.drill_model.specs.Drill.{policyExtent, drillStart, share, shareLine, drillOutput}
 
 -- How far apart two numbers are: of the two differences one is 0.
 unfoldable pub distance : ℕ → ℕ → ℕ
@@ -16,11 +17,15 @@ distance a b = (a - b) + (b - a)
 unfoldable pub IsNearest : ℕ → ℕ → ℕ → Type 0
 IsNearest n d s = (2 * distance n (s * d) ≤ d) × (2 * distance n (s * d) ≡ d → s % 2 ≡ 0)
 
+-- How many of the first frames have their bit set in a vector, "bit f mod 8 (0 lowest) of byte f/8": by arithmetic, and not by `hasBit` and
+-- `countFrom`, by which the drill counts.
+unfoldable pub excludedBelow : ℕ → List ℕ → ℕ
+excludedBelow zero exclusion = 0
+excludedBelow (suc f) exclusion = cond (eqb (getD exclusion (f / 8) 0 / 2 ^ (f % 8) % 2) 1) 1 0 + excludedBelow f exclusion
+
 -- The number that the drill prints is such a number for 100 × excluded frames / F.
 unfoldable pub ShareNearest : Type 0
-ShareNearest =
-    (frames : ℕ) (exclusion : List ℕ)
-    → IsNearest (100 * countFrom (hasBit exclusion) 0 frames) frames (share frames exclusion)
+ShareNearest = (frames : ℕ) (exclusion : List ℕ) → IsNearest (100 * excludedBelow frames exclusion) frames (share frames exclusion)
 
 -- These two fix the number, where there is a frame at all.
 unfoldable pub NearestFixed : Type 0
@@ -30,7 +35,7 @@ NearestFixed = (n d s t : ℕ) → 1 ≤ d → IsNearest n d s → IsNearest n d
 unfoldable pub SomeExcluded : Type 0
 SomeExcluded =
     (bytes : List ℕ) → drillStart bytes .reply .number ≡ 0
-    → 1 ≤ countFrom (hasBit (drillStart bytes .guard .tables .exclusion)) 0 (drillStart bytes .guard .state .frames)
+    → 1 ≤ excludedBelow (drillStart bytes .guard .state .frames) (drillStart bytes .guard .tables .exclusion)
 
 -- A list that ends with another.
 pub record EndsWith (last whole : List ℕ) : Type 0 where

@@ -16,7 +16,6 @@ use Rattle.model.specs.Bits.{present, writable, userBit, writeThrough, cacheDis
 use Rattle.model.specs.Bits.{approvedNoExecute, approved, fieldsOf}
 use Rattle.model.specs.Bits.{reserved, valid, takenApart, ordinaryNoExecute, ordinary, inspected}
 use Rattle.model.specs.Switch.{noExecuteIn, switched}
-use Rattle.laws.specs.Cache.{OrdinaryCarries, SwitchKeeps}
 use Rattle.laws.proofs.VectorLaws.{flag-weight, flag-small, flag-test, bits-to}
 use Rattle.laws.proofs.QuestionLaws.{both-first, both-second}
 
@@ -226,15 +225,16 @@ pub inspected-keeps : (user : Bool) (x : Fields) (k : ℕ) → 2 ≤ k → k < 5
 unfolding inspected flag
 inspected-keeps user x =
     bits-2-to-4 (ordinary user (inspected x)) (ordinary user x)
-    (rw (ordinary-low user (inspected x), ordinary-low user x) (omega (arith, flag-is (x .writable) 1, flag-is (x .user) 2, flag-is (x .«write_through») 3, flag-is (x .«cache_disable») 4)))
+    (rw (ordinary-low user (inspected x), ordinary-low user x)
+    (omega (arith, flag-is (x .writable) 1, flag-is (x .user) 2, flag-is (x .«write_through») 3, flag-is (x .«cache_disable») 4)))
 
--- K3: of a valid kernel entry, bits 0 to 4.
-pub ordinary-carries : OrdinaryCarries
+-- K3: of a present kernel entry, bits 0 to 4.
+pub ordinary-carries : (user : Bool) (entry k : ℕ) → entry % 2 ≡ 1 → k < 5 → bit k (ordinary user (fieldsOf entry)) ≡ bit k entry
 ordinary-carries user entry k p l =
-    bits-below 5 (ordinary user (fieldsOf entry)) entry (ordinary-low user (fieldsOf entry) ∙ sym (lowest-of entry ((valid-parts entry p) .0))) k l
+    bits-below 5 (ordinary user (fieldsOf entry)) entry (ordinary-low user (fieldsOf entry) ∙ sym (lowest-of entry p)) k l
 
 -- A mode switch: the frame and every bit but 63 are kept.
-pub switch-keeps : SwitchKeeps
+pub switch-keeps : (user : Bool) (entry k : ℕ) → k < 63 → bit k (switched user entry) ≡ bit k entry
 unfolding switched
 switch-keeps user entry k l = bits-below 63 _ entry (at (present entry) _) k l
   where

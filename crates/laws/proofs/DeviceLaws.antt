@@ -3,13 +3,14 @@ use Prim.Native.Nat.{ℕ, zero, suc}
 use mathlib.Core.Path.{_≡_, refl, ap}
 use Rattle.model.specs.declared.State.{State}
 use Rattle.model.specs.Guard.{Guard, inMode, withPending}
+use Rattle.model.specs.Devices.{deviceAt}
 use Rattle.model.specs.Questions.{firstNo, seen, deviceWriteQuestions}
 use Rattle.model.specs.Calls.{Outcome, settle, questionsOf, effectOf, broughtBy, refusedOf, answer}
 use Rattle.laws.specs.Windows.{WindowsIndependent, DevicesKept}
 use Rattle.laws.proofs.CallLaws.{effects}
 
 pub windows-independent : WindowsIndependent
-unfolding WindowsIndependent answer questionsOf effectOf broughtBy deviceWriteQuestions
+unfolding WindowsIndependent answer questionsOf effectOf broughtBy deviceWriteQuestions deviceAt
 windows-independent g changed before after same device address size other = rw (same .long, same .others device other)
 
 settled-devices : (g : Guard) (n count : ℕ) (done : Outcome) (refusal : ℕ → Outcome) → done .guard .state .devices ≡ count

@@ -6,7 +6,7 @@ use mathlib.Core.Path.{_≡_, refl, ap, _∙_}
 use lib.Dec.{ltb, eqb}
 use lib.ListN.{length, getD}
 use native.Mathlib.Omega.{arith}
-use borrow.Author.Tests.{eq-eqb, eqb-true}
+use borrow.Author.Tests.{eq-eqb, eqb-true, lt-ltb, ltb-true}
 use Rattle.model.specs.declared.Entry.{Entry}
 use Rattle.model.specs.declared.Entry.the-variants.{Absent, Present}
 use Rattle.model.specs.Basics.{both, either, bit}
@@ -18,8 +18,9 @@ use Rattle.model.specs.Questions.{Question, question, firstNo, seen, inOrder, s
 use Rattle.model.specs.Calls.{settle, refusedOf, Call, syncPage, syncAll, syncPageTree, syncAllTree, broughtBy, questionsOf, allSynced, pageFrom, allFrom}
 use Rattle.model.specs.Calls.{effectOf, answer}
 use Rattle.model.specs.Walks.{flatTable}
-use Rattle.laws.specs.Trees.{ReadsWithin, TreeAsFlat, guardFits, TreeRefused}
-use Rattle.laws.proofs.QuestionLaws.{both-first, asked, numbered, all-yes, firstNo-yes, firstNo-no}
+use Rattle.laws.specs.Trees.{ReadsWithin, InOrder, TreeAsFlat, guardFits, TreeRefused}
+use Rattle.laws.proofs.QuestionLaws.{both-yes, both-first, both-second, within-yes, within-low, within-high}
+use Rattle.laws.proofs.QuestionLaws.{asked, numbered, all-yes, firstNo-yes, firstNo-no}
 use Rattle.laws.proofs.StateLaws.{in-order}
 use Rattle.laws.proofs.CallLaws.{settle-refused-by}
 use Rattle.laws.proofs.AcceptedLaws.{syncPageTree-page}
@@ -111,8 +112,29 @@ module _ (g : Guard) (tree : Tree) (fits : treeInOrder tree ≡ true) where
       rw (flat-entry tree (g .state .pages) p below))))
       ∙ ap (λ n. settle n (effectOf g (syncAll flats)) (refusedOf g (broughtBy (syncAll flats)))) all-questions
 
+-- What 17 asks, in numbers.
+order-asked : (tree : Tree) → InOrder tree → treeInOrder tree ≡ true
+unfolding treeInOrder tablesIn
+order-asked tree o =
+    both-yes (eq-eqb _ _ (o .whole)) (both-yes (within-yes 1 3 (tree .depth) (o .shallowest) (o .deepest)) (lt-ltb _ _ (o .inside)))
+
+asked-order : (tree : Tree) → treeInOrder tree ≡ true → InOrder tree
+unfolding treeInOrder tablesIn
+asked-order tree p =
+    let rest = both-second _ _ p in
+    record {
+      whole = eqb-true _ _ (both-first _ _ p);
+      shallowest = within-low 1 3 (tree .depth) (both-first _ _ rest);
+      deepest = within-high 1 3 (tree .depth) (both-first _ _ rest);
+      inside = ltb-true _ _ (both-second _ _ rest);
+    }
+
+not-asked : (tree : Tree) (b : Bool) → treeInOrder tree ≡ b → (InOrder tree → ⊥) → treeInOrder tree ≡ false
+not-asked tree true p never = absurd (never (asked-order tree p))
+not-asked tree false p never = p
+
 pub tree-as-flat : TreeAsFlat
-tree-as-flat g tree fits = (page-as-flat g tree fits, all-as-flat g tree fits)
+tree-as-flat g tree o = let fits : treeInOrder tree ≡ true = order-asked tree o in (page-as-flat g tree fits, all-as-flat g tree fits)
 
 -- Where 17 is answered no, it refuses, or 7 before it.
 module _ (g : Guard) (call : Call) (qs : List Question) where
@@ -124,7 +146,7 @@ module _ (g : Guard) (call : Call) (qs : List Question) where
 
 pub tree-refused : TreeRefused
 unfolding questionsOf syncPageTreeQuestions syncAllTreeQuestions guardFits
-tree-refused g tree unfit = (
+tree-refused g tree never = let unfit : treeInOrder tree ≡ false = not-asked tree (treeInOrder tree) refl never in (
   λ page. refused-7-17 g (syncPageTree tree page) (question 9 (ltb page (g .state .pages)) ∷ []) (guardFits g) (rw unfit),
   refused-7-17 g (syncAllTree tree) [] (guardFits g) (rw unfit),
 )

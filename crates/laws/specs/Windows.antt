@@ -2,16 +2,17 @@
 use Prim.Native.Nat.{ℕ}
 use mathlib.Core.List.{List}
 use mathlib.Core.Path.{_≡_}
-use lib.ListN.{length}
+use lib.ListN.{length, getD}
 use Rattle.model.specs.declared.Device.{Device}
 use Rattle.model.specs.Guard.{Guard}
-use Rattle.model.specs.Devices.{deviceAt}
+use Rattle.model.specs.Devices.{deviceOf}
 use Rattle.model.specs.Calls.{Call, deviceWrite, answer}
 
--- Two lists of one length that have the same record for every device but one.
+-- Two lists of one length that have the same record at every place but one: said of the lists, not of `deviceAt`, which a guard with another lookup
+-- would change too. Past the end of both stands the same default.
 pub record SameBut (changed : ℕ) (before after : List Device) : Type 0 where
   pub long : length before ≡ length after
-  pub others : (device : ℕ) → (device ≡ changed → ⊥) → deviceAt before device ≡ deviceAt after device
+  pub others : (device : ℕ) → (device ≡ changed → ⊥) → getD before device (deviceOf 1 0) ≡ getD after device (deviceOf 1 0)
 
 -- "Changing one device's window changes no answer given to another", nor what the call leaves.
 unfoldable pub WindowsIndependent : Type 0

@@ -1,5 +1,5 @@
--- Cases beside the twelve of document 01, each from one of its sentences or of a request's (K1, K3): a policy with two entry pages and a repeated frame, the calls that
--- C1 to C12 do not make, and refusals with what comes before them. Rows as in Cases.
+-- Cases beside the twelve of document 01, each from one of its sentences or of a request's (K1, K3): a policy with two entry pages and a repeated
+-- frame, the calls that C1 to C12 do not make, and refusals with what comes before them. Rows as in Cases.
 use Prim.Native.Nat.{ℕ}
 use mathlib.Core.Bool.{true, false}
 use mathlib.Core.List.{List, [], _∷_}
@@ -162,6 +162,10 @@ startCases =
     ∷ row (startOn (1 ∷ 8 ∷ 8 ∷ 0 ∷ 0 ∷ 0 ∷ 0 ∷ 0 ∷ []) 6 6 1) (startRefused 2 6 6 1)
     ∷ row (startOn (6 ∷ 0 ∷ 1 ∷ 16 ∷ 0 ∷ 0 ∷ 0 ∷ 0 ∷ []) 6 6 1) (startRefused 2 6 6 1)
     ∷ row (startOn (0 ∷ 8 ∷ 0 ∷ 16 ∷ 0 ∷ 0 ∷ 0 ∷ 0 ∷ []) 6 6 1) (startRefused 3 6 6 1)
+    -- V 1 and F 1 start
+    ∷ row (startOn (1 ∷ 0 ∷ 1 ∷ 0 ∷ 1 ∷ 0 ∷ 1 ∷ 0 ∷ 0 ∷ 0 ∷ 0 ∷ 0 ∷ []) 1 1 1)
+    (outcome (accepted 1 1)
+    (guardOf (stateOf 1 1 1 (replicate 16 0) (Kernel 0) 3 Nothing) (record { shadow = 0x401 ∷ []; map = 0 ∷ []; exclusion = 1 ∷ [] })))
     -- n V and e n go on to 4, e 0 does not; e 16 of 17 goes on to 4, e 17 does not
     ∷ row (startOn (set twoEntries 4 6) 6 6 1) (startRefused 4 6 6 1)
     ∷ row (startOn (set (set twoEntries 4 2) 6 2) 6 6 1) (startRefused 4 6 6 1)

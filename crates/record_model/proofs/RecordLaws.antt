@@ -12,13 +12,15 @@ use native.Mathlib.Numerals.{add-one}
 use native.Mathlib.Omega.{arith}
 use borrow.Author.Tests.{lt-ltb, le-leb, leb-true, eq-eqb, eqb-true}
 use Rattle.model.specs.Basics.{both, either}
-use Rattle.model.specs.Guard.{Tables}
+use Rattle.model.specs.Sizes.{devicesInRange}
+use Rattle.model.specs.Guard.{Tables, vectorBytes}
 use Rattle.model.specs.Policy.{Givens, Policy, numberAt, numbersAt, policyOf, startGuard}
-use Rattle.model.specs.Questions.{firstNo, allBelow, policyQuestions, givensInRange, recordQuestions, lengthsOf, lengthsFit, startQuestions}
+use Rattle.model.specs.Questions.{firstNo, allBelow, inOrder, policyQuestions, givensInRange, recordQuestions, lengthsOf, lengthsFit, startQuestions}
 use Rattle.model.specs.Calls.{accepted, outcome, startOf}
 use Rattle.record_model.specs.Record.{numberBytes, numbersBytes, recordOf, arraysExact, writeRecordQuestions, Written, written, writeRecordOf}
-use Rattle.record_model.specs.Record.{WrittenStarts, WrittenAgain}
-use Rattle.laws.proofs.QuestionLaws.{both-first, both-second, asked, numbered, all-yes, firstNo-yes, firstNo-back, firstNo-both, settle-accepted, settle-number}
+use Rattle.record_model.specs.Record.{Ready, WrittenStarts, WrittenAgain}
+use Rattle.laws.proofs.QuestionLaws.{both-yes, both-first, both-second, within-yes}
+use Rattle.laws.proofs.QuestionLaws.{asked, numbered, all-yes, firstNo-yes, firstNo-back, firstNo-both, settle-accepted, settle-number}
 use Rattle.laws.proofs.CallLaws.{none-left}
 use Rattle.laws.proofs.PolicyLaws.{length-numbersAt, getD-numbersAt, exact-yes, policy-asked, record-length, allBelow-more, allBelow-head, allBelow-tail}
 use Rattle.laws.proofs.PolicyLaws.{allBelow-wider, Passed, policy-passed}
@@ -190,7 +192,8 @@ write-asked : (policy : Policy) (room : ℕ) → firstNo (policyQuestions true t
 unfolding writeRecordQuestions arraysExact policyQuestions numbered both
 write-asked policy room h pages-fit frames-fit fits =
     rw (eq-eqb _ _ pages-fit, eq-eqb _ _ frames-fit)
-    (firstNo-back (policyQuestions true true true policy) _ refl h ∙ (firstNo-yes 7 _ refl ∙ (firstNo-yes 16 [] (le-leb (8 + 4 * policy .count) room fits) ∙ sym none-left)))
+    (firstNo-back (policyQuestions true true true policy) _ refl h
+    ∙ (firstNo-yes 7 _ refl ∙ (firstNo-yes 16 [] (le-leb (8 + 4 * policy .count) room fits) ∙ sym none-left)))
 
 -- The number of a call is that of its first no, and an accepted call leaves the record in front of the buffer's other bytes.
 write-number : (numbersFit : Bool) (policy : Policy) (buffer : List ℕ)
@@ -203,6 +206,17 @@ pub written-is : (numbersFit : Bool) (policy : Policy) (buffer : List ℕ) → f
     ≡ written (accepted (length (recordOf policy)) 0) (recordOf policy ++ drop (length (recordOf policy)) buffer)
 unfolding writeRecordOf
 written-is numbersFit policy buffer h = settle-accepted _ _ h
+
+-- What the start asks of its tables and of what else it is given.
+module _ {policy : Policy} {given : Givens} {t : Tables} (r : Ready policy given t) where
+  devices-asked : givensInRange given ≡ true
+  unfolding givensInRange devicesInRange
+  devices-asked = within-yes 1 64 (given .devices) (r .someDevice) (r .notMore)
+
+  lengths-asked : lengthsFit policy (lengthsOf t) ≡ true
+  unfolding lengthsFit inOrder vectorBytes
+  lengths-asked =
+      both-yes (eq-eqb _ _ (r .shadowLength)) (both-yes (eq-eqb _ _ (r .mapLength)) (both-yes (eq-eqb _ _ (r .exclusionLength)) refl))
 
 -- An accepted call's record, cut to its length, is the policy's.
 module _ (numbersFit : Bool) (policy : Policy) (buffer : List ℕ) (h : writeRecordOf numbersFit policy buffer .reply .number ≡ 0) where
@@ -232,15 +246,16 @@ module _ (numbersFit : Bool) (policy : Policy) (buffer : List ℕ) (h : writeRec
       (below-one 65536 (policy .frames) _ (omega arith)
       (below-one 65536 (policy .count) _ (omega arith) (below-one 65536 (policy .entryCount) _ (omega arith) (below-append 65536 _ _ ps fs)))))
 
-  starts : (given : Givens) (t : Tables) → givensInRange given ≡ true → lengthsFit policy (lengthsOf t) ≡ true
+  starts : (given : Givens) (t : Tables) → Ready policy given t
       → startOf given (recordOf policy) t ≡ outcome (accepted (policy .count) (policy .entryCount)) (startGuard given policy)
   unfolding startOf startQuestions recordQuestions policyQuestions numbered both
-  starts given t more fits =
+  starts given t r =
       rw back
       (settle-accepted _ _
       (firstNo-back (recordQuestions given (recordOf policy) policy) _ refl
-      (record-asked given (recordOf policy) policy (write-passed numbersFit policy (length buffer) asked-all) (written-length policy fits-pages fits-frames) more)
-      ∙ (firstNo-yes 7 [] fits ∙ sym none-left)))
+      (record-asked given (recordOf policy) policy (write-passed numbersFit policy (length buffer) asked-all) (written-length policy fits-pages fits-frames)
+      (devices-asked r))
+      ∙ (firstNo-yes 7 [] (lengths-asked r) ∙ sym none-left)))
 
 pub written-starts : WrittenStarts
 unfolding WrittenStarts

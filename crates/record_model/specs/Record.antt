@@ -9,7 +9,7 @@ use lib.Dec.{leb, eqb}
 use Rattle.model.specs.Basics.{both}
 use Rattle.model.specs.Guard.{Tables}
 use Rattle.model.specs.Policy.{Givens, Policy, policyOf, startGuard}
-use Rattle.model.specs.Questions.{Question, question, firstNo, policyQuestions, givensInRange, recordQuestions, lengthsOf, lengthsFit}
+use Rattle.model.specs.Questions.{Question, question, firstNo, policyQuestions, recordQuestions}
 use Rattle.model.specs.Calls.{Reply, accepted, refused, settle, outcome, startOf}
 
 -- "the sizes and the two arrays": V, F, n and e, the listed pages and the listed frames.
@@ -58,6 +58,14 @@ writeRecordOf numbersFit policy buffer =
     (written (accepted (length bytes) 0) (bytes ++ drop (length bytes) buffer))
     (λ n. written (refused n) buffer)
 
+-- "With tables and the start's other givens in order", in numbers: not by the start's own questions, which a guard that asks more would change.
+pub record Ready (policy : Policy) (given : Givens) (t : Tables) : Type 0 where
+  pub someDevice : 1 ≤ given .devices
+  pub notMore : given .devices ≤ 64
+  pub shadowLength : length (t .shadow) ≡ policy .pages
+  pub mapLength : length (t .map) ≡ policy .pages
+  pub exclusionLength : length (t .exclusion) ≡ (policy .frames + 7) / 8
+
 -- "With tables and the start's other givens in order, a written record starts a guard with those pages and frames": an accepted call's record, cut
 -- to its length, is bytes and reads back as the policy, and its start is accepted and leaves what the start defines for it.
 unfoldable pub WrittenStarts : Type 0
@@ -66,7 +74,7 @@ WrittenStarts =
     → (bytes : List ℕ) → bytes ≡ take (writeRecordOf numbersFit policy buffer .reply .first) (writeRecordOf numbersFit policy buffer .buffer)
     → ((i : ℕ) → i < length bytes → getD bytes i 0 < 256)
     × (policyOf bytes ≡ policy)
-    × ((given : Givens) (t : Tables) → givensInRange given ≡ true → lengthsFit policy (lengthsOf t) ≡ true
+    × ((given : Givens) (t : Tables) → Ready policy given t
     → startOf given bytes t ≡ outcome (accepted (policy .count) (policy .entryCount)) (startGuard given policy))
 
 -- "an accepted record read and written again is the same bytes": of any bytes that pass questions 1 to 6, into any buffer that is long enough.
