@@ -95,7 +95,8 @@ module _ (claimed : Claim) (given : Givens) (bytes : List ℕ) (t : Tables) (acc
       is-safe e = point (call ∷ []) .3 (settles e)
 
       pub agrees-after : Agree policy ((outcomeOf at call) .guard) (pagesAfter policy ((outcomeOf at call) .reply .number) call pagesAt)
-      agrees-after = rw numbered (point (call ∷ []) .4)
+      agrees-after =
+          subst (λ (n : ℕ). Agree policy ((outcomeOf at call) .guard) (pagesAfter policy n call pagesAt)) (sym numbered) (point (call ∷ []) .4)
 
     -- An allowed fetch, write and transfer.
     pub fetch-below : (page : ℕ) → Accepts at (fetch page) → page < policy .pages

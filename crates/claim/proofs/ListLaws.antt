@@ -1,13 +1,13 @@
 -- Demand 3: the claim about the whole list, by induction on it. One call at a time, refused or accepted, and then the rest.
 use Prim.Native.Nat.{ℕ, zero, suc}
 use mathlib.Core.List.{List, [], _∷_}
-use mathlib.Core.Path.{_≡_, refl, sym, ap, fun-ext, _∙_}
+use mathlib.Core.Path.{_≡_, refl, sym, ap, subst, fun-ext, _∙_}
 use native.Mathlib.Omega.{arith}
 use borrow.Author.Tests.{ne-eqb}
 use Rattle.model.specs.Guard.{Guard}
 use Rattle.model.specs.Policy.{Policy, policyOf, startGuard}
 use Rattle.model.specs.Questions.{firstNo, lengthsOf, startQuestions}
-use Rattle.model.specs.Calls.{settle, Outcome, refusedOf, broughtBy, Call, effectOf, answer}
+use Rattle.model.specs.Calls.{Reply, refused, settle, Outcome, refusedOf, broughtBy, Call, effectOf, answer}
 use Rattle.claim.specs.OnePage.{firstPage, reachedIn, settled, pagesAfter}
 use Rattle.claim.specs.Claim.{Agree, Always, Claim}
 use Rattle.claim.specs.Terms.{Terms, firstTerms, termsAfter}
@@ -56,8 +56,16 @@ module _ (policy : Policy) (terms : Terms) (g : Guard) (h : Invariant policy ter
         still = rw outcome (kept policy terms g h call e);
       }
 
-  refused-call : (n : ℕ) → number ≡ suc n → outcomeOf g call ≡ refusedOf g (broughtBy call) (suc n)
-  refused-call n e = answered policy terms g h call ∙ settle-refused n (effectOf g call) (refusedOf g (broughtBy call)) e
+  record Refused (n : ℕ) : Type 0 where
+    reply : outcomeOf g call .reply ≡ refused (suc n)
+    guard : outcomeOf g call .guard ≡ g
+
+  refused-call : (n : ℕ) → number ≡ suc n → Refused n
+  unfolding settle
+  refused-call n e =
+      let outcome : answer g call ≡ refusedOf g (broughtBy call) (suc n) =
+      answered policy terms g h call ∙ settle-refused n (effectOf g call) (refusedOf g (broughtBy call)) e in
+      record { reply = ap (λ (o : Outcome). o .reply) outcome; guard = rw outcome refl }
 
 -- What always holds gives the whole of the claim, for any list.
 always : (policy : Policy) (calls : List Call) (terms : Terms) (g : Guard) → Invariant policy terms g
@@ -81,12 +89,12 @@ always policy (call ∷ calls) terms g h = by-number (number policy terms g h ca
           rw (e, done .pages) (rest _ _ (done .still)),
         )
     by-number (suc n) e rest =
-        let outcome : outcomeOf g call ≡ refusedOf g (broughtBy call) (suc n) = refused-call policy terms g h call n e in (
+        let none = refused-call policy terms g h call n e in (
           now,
-          rw (outcome, e) refl,
-          rw (outcome, e) (sym (ne-eqb (suc n) 0 (λ z. omega arith))),
+          rw (none .reply, e) refl,
+          rw (none .reply, e) (sym (ne-eqb (suc n) 0 (λ z. omega arith))),
           (λ z. absurd (omega arith)),
-          rw (outcome, e, terms-refused) (rest terms g h),
+          rw (e, terms-refused) (subst (λ (after : Guard). Always policy terms after (pageOf g) calls) (sym (none .guard)) (rest terms g h)),
         )
 
 -- What always holds, with anything besides that every accepted call keeps, holds after every list.
@@ -101,13 +109,18 @@ kept-along policy P keeps (call ∷ calls) terms g h p =
     let after = by-number (number policy terms g h call) refl in
     kept-along policy P keeps calls (termsAfter (outcomeOf g call .reply .number) call terms) (outcomeOf g call .guard) (after .0) (after .1)
   where
-    by-number : (n : ℕ) → number policy terms g h call ≡ n
-        → Invariant policy (termsAfter (outcomeOf g call .reply .number) call terms) (outcomeOf g call .guard)
-        × P (termsAfter (outcomeOf g call .reply .number) call terms) (outcomeOf g call .guard)
+    Both : ℕ → Guard → Type 0
+    Both n after = Invariant policy (termsAfter n call terms) after × P (termsAfter n call terms) after
+
+    by-number : (n : ℕ) → number policy terms g h call ≡ n → Both (outcomeOf g call .reply .number) (outcomeOf g call .guard)
     by-number zero e =
         let done = accepted policy terms g h call e in
-        rw (done .reply, effects g call .number) (done .still, keeps terms g h p call e (done .pages))
-    by-number (suc n) e = rw (refused-call policy terms g h call n e, terms-refused) (h, p)
+        subst (λ (n : ℕ). Both n (outcomeOf g call .guard)) (sym (ap (λ (r : Reply). r .number) (done .reply) ∙ effects g call .number))
+        (done .still, keeps terms g h p call e (done .pages))
+    by-number (suc n) e =
+        let none = refused-call policy terms g h call n e in
+        subst (λ (m : ℕ). Both m (outcomeOf g call .guard)) (sym (ap (λ (r : Reply). r .number) (none .reply)))
+        (subst (Both (suc n)) (sym (none .guard)) (rw terms-refused (h, p)))
 
 -- The list of an accepted start begins with what always holds.
 pub claim : Claim
