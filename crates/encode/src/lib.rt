@@ -6,7 +6,7 @@ ghost use mathlib.Core.List.{[], _∷_, _++_};
 ghost use lib.ListN.{length, take};
 ghost use lib.Seq.{paste};
 ghost use Rattle.model.specs.Calls.{replyOf};
-ghost use Rattle.decode.specs.Words.{stateWords, entryPagesAt, modeAt, entryWords, answerNumbers, stateIn, modeWord, lastWords, wordsOf, withWords, pagePlaces, modePlaces, pendingPlaces, overwritten, withNumbers, runAfter, runStarted};
+ghost use Rattle.boundary_model.specs.Words.{stateWords, entryPagesAt, modeAt, entryWords, answerNumbers, stateIn, modeWord, lastWords, wordsOf, withWords, pagePlaces, modePlaces, pendingPlaces, overwritten, withNumbers, runAfter, runStarted};
 use decode::MODE_KERNEL;
 use decode::MODE_USER;
 use decode::NUMBERS;

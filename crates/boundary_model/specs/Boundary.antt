@@ -12,7 +12,7 @@ use Rattle.model.specs.Calls.{Reply, refused, settle, Outcome, startOf, Call, a
 use Rattle.record_model.specs.Record.{Written, writeRecordOf}
 use Rattle.model.specs.Tree.{Tree}
 use Rattle.model.specs.Walks.{walkReply}
-use Rattle.decode.specs.Words.{stateIn, answerNumbers, numbersBy, changedBy, withNumbers, runsFit, lendable, runAfter, runStarted}
+use Rattle.boundary_model.specs.Words.{stateIn, answerNumbers, numbersBy, changedBy, withNumbers, runsFit, lendable, runAfter, runStarted}
 
 -- What a call returns, both runs at its exit, and the guard's tables then.
 pub record Returned : Type 0 where

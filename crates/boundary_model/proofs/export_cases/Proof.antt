@@ -4,12 +4,12 @@ use Rattle.model.specs.Cases.{row, Hold}
 use Rattle.model.specs.Further.{twoEntries, threeDevices, sixPages, with6, shadow6, started6}
 use Rattle.record_model.proofs.Computed.{computed}
 use Rattle.model.proofs.CaseLaws.{hold}
-use Rattle.decode.specs.Words.{entryPagesIn, pendingIn, pendingWords, stateIn, modeWord, wordsOf, withWords, overwritten, withNumbers, runsFit}
-use Rattle.decode.specs.Words.{lendable, runAfter, runStarted}
-use Rattle.boundary.specs.Boundary.{replied, startAt, callAt, recordAt, walkAt}
-use Rattle.boundary.specs.ExportCases.{listed3, exportCases, lastTable, shortTable, walkExportCases, runWith, callExportCases}
-use Rattle.boundary.proofs.export_cases.Statement.{statement}
-use Rattle.boundary.proofs.export_cases.Tie as tie
+use Rattle.boundary_model.specs.Words.{entryPagesIn, pendingIn, pendingWords, stateIn, modeWord, wordsOf, withWords, overwritten, withNumbers, runsFit}
+use Rattle.boundary_model.specs.Words.{lendable, runAfter, runStarted}
+use Rattle.boundary_model.specs.Boundary.{replied, startAt, callAt, recordAt, walkAt}
+use Rattle.boundary_model.specs.ExportCases.{listed3, exportCases, lastTable, shortTable, walkExportCases, runWith, callExportCases}
+use Rattle.boundary_model.proofs.export_cases.Statement.{statement}
+use Rattle.boundary_model.proofs.export_cases.Tie as tie
 
 without-state : Hold exportCases × Hold walkExportCases
 unfolding computed row twoEntries overwritten withNumbers recordAt listed3 exportCases walkAt lastTable shortTable walkExportCases

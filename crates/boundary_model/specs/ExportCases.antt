@@ -10,7 +10,7 @@ use Rattle.record_model.specs.Record.{policyBy}
 use Rattle.model.specs.Cases.{Row, row}
 use Rattle.model.specs.Further.{twoEntries, threeDevices, shadow6, started6}
 use Rattle.model.specs.Tree.{Tree, treeOf}
-use Rattle.boundary.specs.Boundary.{Returned, returned, startAt, callAt, Recorded, recorded, recordAt, Walked, walked, walkAt}
+use Rattle.boundary_model.specs.Boundary.{Returned, returned, startAt, callAt, Recorded, recorded, recordAt, Walked, walked, walkAt}
 
 -- The policy of twoEntries (Further).
 unfoldable pub listed3 : Policy

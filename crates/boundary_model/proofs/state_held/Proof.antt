@@ -1,4 +1,4 @@
--- `boundary::state_held` meets its contract: an accepted call puts the words that it can change, and a refused one leaves the run.
+-- `boundary_model::state_held` meets its contract: an accepted call puts the words that it can change, and a refused one leaves the run.
 use Prim.Native.Nat.{ℕ, zero, suc}
 use mathlib.Core.Bool.{true}
 use mathlib.Core.List.{List}
@@ -13,13 +13,13 @@ use Rattle.model.specs.Calls.{commit, drop, broughtBy, questionsOf, effectOf, a
 use Rattle.laws.proofs.StateLaws.{inUser-modeOf, running-modeOf}
 use Rattle.laws.proofs.CallLaws.{effects}
 use Rattle.laws.proofs.TableLaws.{length-table}
-use Rattle.decode.specs.Words.{stateWords, entryWords, modeAt, entryPagesIn, stateIn, numbersBy, modePlaces, pendingPlaces}
-use Rattle.decode.specs.Words.{changedBy, withWords, lendable, runAfter}
-use Rattle.decode.proofs.WordLaws.{run-lent}
-use Rattle.encode.proofs.StateLaws.{mode-decoded, page-decoded, pending-decoded}
-use Rattle.boundary.specs.Boundary.{replied, callAt, StateHeld}
-use Rattle.boundary.proofs.state_held.Statement.{statement}
-use Rattle.boundary.proofs.state_held.Tie as tie
+use Rattle.boundary_model.specs.Words.{stateWords, entryWords, modeAt, entryPagesIn, stateIn, numbersBy, modePlaces, pendingPlaces}
+use Rattle.boundary_model.specs.Words.{changedBy, withWords, lendable, runAfter}
+use Rattle.boundary_model.proofs.LentLaws.{fitting-long, lent-fitting}
+use Rattle.boundary_model.proofs.StateLaws.{mode-decoded, page-decoded, pending-decoded}
+use Rattle.boundary_model.specs.Boundary.{replied, callAt, StateHeld}
+use Rattle.boundary_model.proofs.state_held.Statement.{statement}
+use Rattle.boundary_model.proofs.state_held.Tie as tie
 
 module _ (run : List ℕ) (t : Tables) where
   abbrev g : Guard
@@ -73,7 +73,7 @@ whole : (run numbers : List ℕ) (t : Tables) (call : Call) → lendable (number
 unfolding callAt replied answer
 whole run numbers t call lends =
     rw lends
-    (held run t (run-lent (numbersBy call) run numbers true (sym lends) refl) call (firstNo (questionsOf (seen (guardOf (stateIn run) t)) call)) refl)
+    (held run t (fitting-long (numbersBy call) run numbers (lent-fitting (numbersBy call) run numbers lends)) call (firstNo (questionsOf (seen (guardOf (stateIn run) t)) call)) refl)
 
 returns : tie.Need-returns
 unfolding StateHeld
