@@ -50,7 +50,7 @@ module _ (s : State) (long : length (s .«entry_pages») ≡ entryWords) where
   unfolding wordsOf
   entry-word i h = sym (getD-drop entryPagesAt (wordsOf s) i 0) ∙ List·getD-append (s .«entry_pages») (lastWords s) 0 i (omega arith)
 
-  last-word : (i : ℕ) → getD (wordsOf s) (modeAt + i) 0 ≡ getD (lastWords s) i 0
+  pub last-word : (i : ℕ) → getD (wordsOf s) (modeAt + i) 0 ≡ getD (lastWords s) i 0
   unfolding wordsOf
   last-word i = sym (getD-drop modeAt (wordsOf s) i 0) ∙ ap (λ (l : List ℕ). getD l i 0) (drop-at (s .«entry_pages») (lastWords s) entryWords long)
 

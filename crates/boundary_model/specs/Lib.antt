@@ -2,3 +2,4 @@
 pub mod Words
 pub mod Boundary
 pub mod ExportCases
+pub mod ExportedLists

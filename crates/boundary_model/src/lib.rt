@@ -3,6 +3,7 @@
 ghost use Rattle.model.specs.Cases.{Hold};
 ghost use Rattle.boundary_model.specs.Boundary.{StateHeld};
 ghost use Rattle.boundary_model.specs.ExportCases.{exportCases, walkExportCases, callExportCases};
+ghost use Rattle.boundary_model.specs.ExportedLists.{ExportedClaim, NumberReturned, RefusedLeaves};
 
 // What writing a record and walking a page return and leave, by their numbers run, and the words of a state run.
 pub fn export_cases()
@@ -12,4 +13,19 @@ pub fn export_cases()
 // The state goes from call to call in its run as the definitions hand it on.
 pub fn state_held()
     ensures { λ _. ⌜ StateHeld ⌝ }
+{}
+
+// Demand 3 at the C boundary: after an accepted start, along every list of exported calls, what C is lent holds the guard of the list.
+pub fn exported_claim()
+    ensures { λ _. ⌜ ExportedClaim ⌝ }
+{}
+
+// An exported call returns the guard's number, and 7 just where a run cannot be lent.
+pub fn number_returned()
+    ensures { λ _. ⌜ NumberReturned ⌝ }
+{}
+
+// A refused exported call leaves every run and table but its numbers run.
+pub fn refused_leaves()
+    ensures { λ _. ⌜ RefusedLeaves ⌝ }
 {}
