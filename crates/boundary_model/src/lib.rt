@@ -2,12 +2,12 @@
 
 ghost use Rattle.model.specs.Cases.{Hold};
 ghost use Rattle.boundary_model.specs.Boundary.{StateHeld};
-ghost use Rattle.boundary_model.specs.ExportCases.{exportCases, walkExportCases, callExportCases};
+ghost use Rattle.boundary_model.specs.ExportCases.{exportCases, walkExportCases, callExportCases, lentExportCases, eachExportCases};
 ghost use Rattle.boundary_model.specs.ExportedLists.{ExportedClaim, NumberReturned, RefusedLeaves};
 
-// What writing a record and walking a page return and leave, by their numbers run, and the words of a state run.
+// What writing a record and walking a page return and leave, by their numbers run; the words of a state run; each call on a state, accepted and refused.
 pub fn export_cases()
-    ensures { λ _. ⌜ Hold exportCases × Hold walkExportCases × Hold callExportCases ⌝ }
+    ensures { λ _. ⌜ Hold exportCases × Hold walkExportCases × Hold callExportCases × Hold lentExportCases × Hold eachExportCases ⌝ }
 {}
 
 // The state goes from call to call in its run as the definitions hand it on.
