@@ -32,7 +32,8 @@ use Rattle.boundary_model.proofs.LentLaws.{fitting-long, fitting-number
 use Rattle.boundary_model.proofs.HeldLaws.{words-lent, run-held}
 
 -- The numbers run of a call: of its length it has the numbers of the reply, and of another it is left.
-numbers-written : (numbers : List ℕ) (reply : Reply) → length numbers ≡ answerNumbers → withNumbers answerNumbers numbers reply ≡ reply .first ∷ reply .second ∷ []
+numbers-written : (numbers : List ℕ) (reply : Reply) → length numbers ≡ answerNumbers
+    → withNumbers answerNumbers numbers reply ≡ reply .first ∷ reply .second ∷ []
 unfolding withNumbers overwritten
 numbers-written numbers reply e = rw (eq-eqb (length numbers) answerNumbers e) refl
 

@@ -11,7 +11,7 @@ use Rattle.record_model.specs.Record.{policyBy}
 use Rattle.model.specs.Cases.{Row, row}
 use Rattle.model.specs.Further.{twoEntries, threeDevices, shadow6, started6, leaving, left6}
 use Rattle.model.specs.Tree.{Tree, treeOf}
-use Rattle.model.specs.TreeCases.{at, runOf, oneTable, twoTree, sixEntries}
+use Rattle.model.specs.TreeCases.{oneTable, twoTree, sixEntries}
 use Rattle.boundary_model.specs.Boundary.{Returned, returned, startAt, callAt, Recorded, recorded, recordAt, Walked, walked, walkAt}
 
 -- The policy of twoEntries (Further).
@@ -202,8 +202,8 @@ lentExportCases =
     (returned 0 (set (set (set (entryRun 18 2) 2 16) 19 0) 20 2) (4 ∷ 0 ∷ []) (shadowed6 leaving))
     ∷ []
 
--- A guard of 513 pages, none approved and no frame excluded, and a tree for it of depth 2: page 511 is the last of one table, page 512 the first of
--- another.
+-- A guard of 513 pages, none approved and no frame excluded, and a tree for it of depth 2 with three tables: page 511 is the last of table 1, page 512
+-- the first of table 2. Its words are written in a row, in which the prover computes 513 walks in half the time that a run made from places takes.
 unfoldable pub run513 : List ℕ
 run513 = 513 ∷ 8 ∷ 1 ∷ (replicate 16 0 ++ (0 ∷ 0 ∷ 1 ∷ 0 ∷ 0 ∷ 0 ∷ []))
 
@@ -211,7 +211,7 @@ unfoldable pub shadowed513 : List ℕ → Tables
 shadowed513 shadow = tables shadow (replicate 513 65535) (0 ∷ [])
 
 unfoldable pub tree513 : Tree
-tree513 = treeOf (runOf 3 (at 0 0 0x1007 ∷ at 0 1 0x2007 ∷ at 1 511 0x7005 ∷ at 2 0 0x6007 ∷ [])) 0 2
+tree513 = treeOf (0x1007 ∷ 0x2007 ∷ (replicate 1021 0 ++ (0x7005 ∷ 0x6007 ∷ replicate 511 0))) 0 2
 
 -- Each exported call on a state, accepted and refused; of a device write, an ask, a commit and a drop callExportCases has what is not here.
 unfoldable pub eachExportCases : List CallExportCase
@@ -231,7 +231,7 @@ eachExportCases =
     ∷ row (callAt (runWith 3 0 0 0) (9 ∷ 9 ∷ []) (started6 .tables) (syncPageTree (oneTable 511 0x7003) 3))
     (returned 17 (runWith 3 0 0 0) (0 ∷ 0 ∷ []) (started6 .tables))
     ∷ row (callAt run513 (9 ∷ 9 ∷ []) (shadowed513 (replicate 513 1)) (syncAllTree tree513))
-    (returned 0 run513 (513 ∷ 0 ∷ []) (shadowed513 (set (set (replicate 513 0) 511 0x8000000000007005) 512 0x8000000000006007)))
+    (returned 0 run513 (513 ∷ 0 ∷ []) (shadowed513 (replicate 511 0 ++ (0x8000000000007005 ∷ 0x8000000000006007 ∷ []))))
     ∷ row (callAt run513 (9 ∷ 9 ∷ []) (shadowed513 (replicate 513 1)) (syncAllTree (oneTable 513 0x7003)))
     (returned 17 run513 (0 ∷ 0 ∷ []) (shadowed513 (replicate 513 1)))
     -- Fetch and write; a fetch in user mode is above
