@@ -1,14 +1,12 @@
 -- Demand 3 at the C boundary, by induction on the list of exported calls; the number that an exported call returns; and what a refused one leaves.
 use Prim.Native.Nat.{ℕ, zero, suc}
-use mathlib.Core.Bool.{Bool, true, false, cond}
+use mathlib.Core.Bool.{Bool, true, false}
 use mathlib.Core.List.{List, [], _∷_, _++_}
 use mathlib.Core.Path.{_≡_, refl, sym, ap, _∙_}
 use lib.ListN.{length, drop}
 use lib.Dec.{eqb}
 use borrow.Author.Tests.{eqb-true, eqb-false, eq-eqb, ne-eqb}
 use native.Mathlib.Omega.{arith}
-use Rattle.model.specs.Basics.{both}
-use Rattle.model.specs.declared.State.{State}
 use Rattle.model.specs.Guard.{Tables, Guard, guardOf}
 use Rattle.model.specs.Policy.{Givens, Policy, policyOf, entryPages, startState, startGuard, zeroState}
 use Rattle.model.specs.Questions.{firstNo, seen, lengthsOf, startQuestions}
@@ -24,7 +22,7 @@ use Rattle.laws.proofs.QuestionLaws.{settle-accepted}
 use Rattle.laws.proofs.TableLaws.{length-table}
 use Rattle.boundary_model.specs.Words.{stateWords, entryWords, stateIn, wordsOf, answerNumbers, numbersBy, changedBy, overwritten, withNumbers, runsFit}
 use Rattle.boundary_model.specs.Words.{lendable, runAfter, runStarted}
-use Rattle.boundary_model.specs.Boundary.{Returned, returned, replied, startAt, callAt, recordAt, walkAt}
+use Rattle.boundary_model.specs.Boundary.{Returned, replied, startAt, callAt, recordAt, walkAt}
 use Rattle.boundary_model.specs.ExportedLists.{Lent, Held, Exported, reaches, callsMade, numberOwed, numbersOwed, guardOwed, exportedAfter, Along, leftBy}
 use Rattle.boundary_model.specs.ExportedLists.{Carried, ExportedClaim, CallNumber, StartNumber, NumberReturned, zeroed, Left, RefusedLeaves}
 use Rattle.boundary_model.proofs.StateLaws.{words-decoded}

@@ -21,7 +21,7 @@ use Rattle.model.specs.Calls.{pairCommitted}
 use Rattle.laws.proofs.StateLaws.{inUser-modeOf, running-modeOf}
 use Rattle.laws.proofs.CallLaws.{effects}
 use Rattle.laws.proofs.TableLaws.{length-table}
-use Rattle.boundary_model.specs.Words.{stateWords, entryWords, modeAt, pendingAt, entryPagesIn, pendingWords, stateIn, modeWord, lastWords, wordsOf}
+use Rattle.boundary_model.specs.Words.{stateWords, entryWords, modeAt, pendingAt, entryPagesIn, pendingWords, stateIn, modeWord, wordsOf}
 use Rattle.boundary_model.specs.Words.{withWords, modePlaces, pendingPlaces, changedBy, runAfter}
 use Rattle.boundary_model.specs.ExportedLists.{Lent}
 use Rattle.boundary_model.proofs.StateLaws.{pendingWord, last-word, mode-decoded, page-decoded, pending-decoded}

@@ -8,7 +8,7 @@ use lib.ListN.{length, getD}
 use lib.Dec.{eqb}
 use Rattle.model.specs.Guard.{Tables, Guard, guardOf}
 use Rattle.model.specs.Policy.{Givens, Policy, policyOf}
-use Rattle.model.specs.Calls.{Outcome, startOf, Call, answer}
+use Rattle.model.specs.Calls.{startOf, Call, answer}
 use Rattle.model.specs.Tree.{Tree}
 use Rattle.claim.specs.OnePage.{firstPage}
 use Rattle.claim.specs.Terms.{firstTerms}
