@@ -17,9 +17,9 @@ use Rattle.model.specs.Questions.{stateInOrder}
 use Rattle.model.specs.Calls.{replyOf, settle, outcomeBy, keptBy, Call, deviceWrite, answer}
 use Rattle.laws.proofs.QuestionLaws.{both-first}
 use Rattle.laws.proofs.CallLaws.{answer-unfit}
-use Rattle.decode.specs.Words.{stateWords, stateIn, answerNumbers, numbersBy, changedBy, withWords, withNumbers, lendable, runAfter}
+use Rattle.boundary_model.specs.Words.{stateWords, stateIn, answerNumbers, numbersBy, changedBy, withWords, withNumbers, lendable, runAfter}
 use Rattle.decode.proofs.WordLaws.{run-lent}
-use Rattle.boundary.specs.Boundary.{returned, replied, callAt}
+use Rattle.boundary_model.specs.Boundary.{returned, replied, callAt}
 
 -- What an answer returns and says to the numbers run of a call that gives count numbers.
 abbrev pub Says : ℕ → Answer → ℕ → List ℕ → List ℕ → Type 0

@@ -1,5 +1,5 @@
 // The calls on a lent state that neither synchronise nor approve, on numbers and lent runs: a number out. The crate `exports` hands them to C, and include/guard.h
-// documents them. The definitions of every exported call stand here, and the laws that all of them cite.
+// documents them. The definitions of every exported call stand in `boundary_model`, and the laws that all of them cite here.
 // Each promises what the model answers on the decoded state, by one equation on all inputs.
 
 ghost use mathlib.Core.List.{List};
@@ -11,9 +11,7 @@ ghost use Rattle.model.specs.Calls;
 ghost use Rattle.model.specs.declared.Device.{Device};
 ghost use Rattle.model.specs.Devices.{deviceAt};
 ghost use Rattle.model.specs.Calls.{deviceWrite};
-ghost use Rattle.model.specs.Cases.{Hold};
-ghost use Rattle.boundary.specs.Boundary.{returned, callAt, StateHeld};
-ghost use Rattle.boundary.specs.ExportCases.{exportCases, walkExportCases, callExportCases};
+ghost use Rattle.boundary_model.specs.Boundary.{returned, callAt};
 use model::Answer;
 use model::Device;
 
@@ -97,13 +95,3 @@ pub fn device_write(
     );
     encode::reply(numbers, answer)
 }
-
-// What writing a record and walking a page return and leave, by their numbers run, and the words of a state run.
-pub fn export_cases()
-    ensures { λ _. ⌜ Hold exportCases × Hold walkExportCases × Hold callExportCases ⌝ }
-{}
-
-// The state goes from call to call in its run as the definitions hand it on.
-pub fn state_held()
-    ensures { λ _. ⌜ StateHeld ⌝ }
-{}

@@ -8,8 +8,8 @@ use Rattle.model.specs.declared.Answer.{Answer}
 use Rattle.model.specs.Policy.{Policy}
 use Rattle.model.specs.Calls.{replyOf}
 use Rattle.record_model.specs.Record.{written, writeRecordOf}
-use Rattle.decode.specs.Words.{answerNumbers, withNumbers}
-use Rattle.boundary.specs.Boundary.{recorded, recordAt}
+use Rattle.boundary_model.specs.Words.{answerNumbers, withNumbers}
+use Rattle.boundary_model.specs.Boundary.{recorded, recordAt}
 
 pub record-replied : (policy : Policy) (buffer numbers buffer′ numbers′ : List ℕ) (r : ℕ) (a : Answer)
     → written (replyOf a) buffer′ ≡ writeRecordOf (eqb (length numbers) answerNumbers) policy buffer → r ≡ replyOf a .number

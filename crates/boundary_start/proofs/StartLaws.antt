@@ -13,8 +13,8 @@ use Rattle.model.specs.Questions.{firstNo, recordQuestions, Lengths, lengthsOf,
 use Rattle.model.specs.Calls.{replyOf, settle, Outcome, outcomeBy, startOf}
 use Rattle.laws.proofs.QuestionLaws.{settle-accepted, settle-number}
 use Rattle.policy.proofs.RecordLaws.{start-refused, start-asked}
-use Rattle.decode.specs.Words.{answerNumbers, runsFit, runStarted}
-use Rattle.boundary.specs.Boundary.{returned, replied, startAt}
+use Rattle.boundary_model.specs.Words.{answerNumbers, runsFit, runStarted}
+use Rattle.boundary_model.specs.Boundary.{returned, replied, startAt}
 use Rattle.boundary.proofs.BoundaryLaws.{Says}
 
 -- The number of a start is that of its first no.

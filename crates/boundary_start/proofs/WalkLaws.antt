@@ -8,8 +8,8 @@ use Rattle.model.specs.declared.Answer.{Answer}
 use Rattle.model.specs.Tree.{Tree}
 use Rattle.model.specs.Calls.{replyOf}
 use Rattle.model.specs.Walks.{walkReply}
-use Rattle.decode.specs.Words.{answerNumbers, withNumbers}
-use Rattle.boundary.specs.Boundary.{walked, walkAt}
+use Rattle.boundary_model.specs.Words.{answerNumbers, withNumbers}
+use Rattle.boundary_model.specs.Boundary.{walked, walkAt}
 
 pub walk-replied : (tree : Tree) (page : ℕ) (numbers numbers′ : List ℕ) (r : ℕ) (a : Answer)
     → replyOf a ≡ walkReply (eqb (length numbers) answerNumbers) tree page → r ≡ replyOf a .number

@@ -8,7 +8,7 @@ ghost use Rattle.model.specs.Questions.{firstNo, recordQuestions};
 ghost use Rattle.model.specs.Tree.{treeOf};
 ghost use Rattle.model.specs.Calls.{settle};
 ghost use Rattle.record_model.specs.Record.{policyBy};
-ghost use Rattle.boundary.specs.Boundary.{returned, startAt, recorded, recordAt, walked, walkAt};
+ghost use Rattle.boundary_model.specs.Boundary.{returned, startAt, recorded, recordAt, walked, walkAt};
 use model::Answer;
 
 // The refusal of a start whose runs do not fit: the record's questions come first.

@@ -8,8 +8,8 @@ use Rattle.model.specs.declared.Called.{Called}
 use Rattle.model.specs.declared.State.{State}
 use Rattle.model.specs.Guard.{Tables, withShadow, withMap, withExclusion, withThree, guardOf}
 use Rattle.model.specs.Calls.{replyOf, outcomeBy, keptBy, Call, answer}
-use Rattle.decode.specs.Words.{stateIn, numbersBy, changedBy, withNumbers, runAfter}
-use Rattle.boundary.specs.Boundary.{returned, callAt}
+use Rattle.boundary_model.specs.Words.{stateIn, numbersBy, changedBy, withNumbers, runAfter}
+use Rattle.boundary_model.specs.Boundary.{returned, callAt}
 use Rattle.boundary.proofs.BoundaryLaws.{Says, usable, called, kept}
 
 module _ (run numbers : List ℕ) (b : Bool) (call : Call) (asks : b ≡ usable (numbersBy call) run numbers) (used : not b ≡ false)

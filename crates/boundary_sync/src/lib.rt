@@ -6,7 +6,7 @@ ghost use Rattle.model.specs.Guard.{Tables, withShadow, withMap, withExclusion,
 ghost use Rattle.model.specs.Calls;
 ghost use Rattle.model.specs.Tree.{treeOf};
 ghost use Rattle.model.specs.Calls.{syncPage, syncAll, syncPageTree, syncAllTree};
-ghost use Rattle.boundary.specs.Boundary.{returned, callAt};
+ghost use Rattle.boundary_model.specs.Boundary.{returned, callAt};
 use model::Answer;
 
 // Synchronise one page.

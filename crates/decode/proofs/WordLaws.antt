@@ -6,17 +6,17 @@ use mathlib.Core.Path.{_≡_, refl, sym, _∙_}
 use lib.ListN.{length, getD, set}
 use lib.Seq.{getD-set-same, getD-set-other}
 use borrow.Author.Count.{below-more}
-use lib.Dec.{leb, eqb}
-use borrow.Author.Tests.{eqb-true, eq-eqb, ne-eqb, not-true, not-false}
+use borrow.Author.Tests.{eq-eqb, ne-eqb, not-true, not-false}
 use native.Mathlib.Omega.{arith}
 use Rattle.model.specs.declared.Pending.the-variants.{Nothing, Pair}
 use Rattle.model.specs.declared.State.{State}
 use Rattle.model.specs.Basics.{both}
 use Rattle.model.specs.Questions.{stateInOrder}
-use Rattle.laws.proofs.QuestionLaws.{both-no, both-first}
+use Rattle.laws.proofs.QuestionLaws.{both-no}
 use Rattle.laws.proofs.TableLaws.{is-table}
-use Rattle.decode.specs.Words.{stateWords, entryPagesAt, entryWords, modeAt, pendingAt, pendingPageAt, pendingFrameAt}
-use Rattle.decode.specs.Words.{entryPagesIn, pendingIn, stateIn, runsFit, lendable}
+use Rattle.boundary_model.proofs.LentLaws.{flagWords, fitting-long, lent-fitting}
+use Rattle.boundary_model.specs.Words.{stateWords, entryPagesAt, entryWords, modeAt, pendingAt, pendingPageAt, pendingFrameAt}
+use Rattle.boundary_model.specs.Words.{entryPagesIn, pendingIn, stateIn, runsFit, lendable}
 
 -- What is pending, by a test of its word.
 pub pair-read : (run : List ℕ) (page frame : ℕ) → getD run pendingAt 0 ≡ 1 → page ≡ getD run pendingPageAt 0 → frame ≡ getD run pendingFrameAt 0
@@ -41,10 +41,6 @@ pub entries-over : (run t : List ℕ) (i : ℕ) → length t ≡ entryWords → 
 unfolding entryPagesIn
 entries-over run t i n h below = is-table t entryWords (λ k. getD run (entryPagesAt + k) 0) n (λ k l. below k (omega arith))
 
--- The mode word and the pending word are each 0 or 1.
-abbrev flagWords : List ℕ → Bool
-flagWords run = both (leb (getD run modeAt 0) 1) (leb (getD run pendingAt 0) 1)
-
 -- The boundary's part of question 7, by the test of the lengths.
 module _ (count : ℕ) (run numbers : List ℕ) (b : Bool) where
   pub lengths-wrong : b ≡ runsFit count run numbers → not b ≡ true → false ≡ lendable count run numbers
@@ -56,8 +52,7 @@ module _ (count : ℕ) (run numbers : List ℕ) (b : Bool) where
   lengths-right r p q e = rw (sym p ∙ not-false b q) e
 
   pub run-fits : b ≡ runsFit count run numbers → not b ≡ false → length run ≡ stateWords
-  unfolding runsFit
-  run-fits p q = eqb-true (length run) stateWords (both-first (eqb (length run) stateWords) (eqb (length numbers) count) (sym p ∙ not-false b q))
+  run-fits p q = fitting-long count run numbers (sym p ∙ not-false b q)
 
   pub mode-inside : b ≡ runsFit count run numbers → not b ≡ false → modeAt < length run
   mode-inside p q = let n : length run ≡ stateWords = run-fits p q in omega arith
@@ -75,6 +70,4 @@ module _ (count : ℕ) (run numbers : List ℕ) (b : Bool) where
   lent-in-order s r p q e i = rw (sym p ∙ not-false b q, sym e) i
 
 pub run-lent : (count : ℕ) (run numbers : List ℕ) (b : Bool) → b ≡ lendable count run numbers → not b ≡ false → length run ≡ stateWords
-unfolding lendable
-run-lent count run numbers b p q =
-    run-fits count run numbers true (sym (both-first (runsFit count run numbers) (flagWords run) (sym p ∙ not-false b q))) refl
+run-lent count run numbers b p q = fitting-long count run numbers (lent-fitting count run numbers (sym p ∙ not-false b q))

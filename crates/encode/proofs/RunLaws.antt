@@ -13,8 +13,8 @@ use Rattle.model.specs.declared.Answer.the-variants.{Done, Refused}
 use Rattle.model.specs.declared.Mode.{Mode}
 use Rattle.model.specs.Guard.{inUser}
 use Rattle.model.specs.Calls.{replyOf}
-use Rattle.decode.specs.Words.{stateWords, entryPagesAt, entryWords, firstAt, secondAt, answerNumbers}
-use Rattle.decode.specs.Words.{modeWord, overwritten, withNumbers}
+use Rattle.boundary_model.specs.Words.{stateWords, entryPagesAt, entryWords, firstAt, secondAt, answerNumbers}
+use Rattle.boundary_model.specs.Words.{modeWord, overwritten, withNumbers}
 
 -- The mode word, by a test of the mode.
 pub mode-word-user : (mode : Mode) (b : Bool) → b ≡ inUser mode → b ≡ true → 1 ≡ modeWord mode

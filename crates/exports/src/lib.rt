@@ -7,7 +7,7 @@ ghost use Rattle.model.specs.Policy.{givenOf};
 ghost use Rattle.model.specs.Tree.{treeOf};
 ghost use Rattle.model.specs.Calls.{syncPage, syncAll, syncPageTree, syncAllTree, fetch, write, enter, leave, deviceWrite, ask, commit, drop};
 ghost use Rattle.record_model.specs.Record.{policyBy};
-ghost use Rattle.boundary.specs.Boundary.{returned, startAt, callAt, recorded, recordAt, walked, walkAt};
+ghost use Rattle.boundary_model.specs.Boundary.{returned, startAt, callAt, recorded, recordAt, walked, walkAt};
 use model::Device;
 
 // The number of the boundary, which is in the name too. include/guard.h and rust/guard refer to this function by its address, so a

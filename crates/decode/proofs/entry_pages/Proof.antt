@@ -4,7 +4,7 @@ use mathlib.Core.Path.{_≡_, refl}
 use lib.ListN.{length, getD, length-set}
 use borrow.Author.Count.{below-none}
 use native.Mathlib.Omega.{arith}
-use Rattle.decode.specs.Words.{entryPagesAt, entryWords}
+use Rattle.boundary_model.specs.Words.{entryPagesAt, entryWords}
 use Rattle.decode.proofs.WordLaws.{entries-more, entries-over}
 use borrow.Author.Needs.{needs}
 use Rattle.decode.proofs.entry_pages.Statement.{statement}

@@ -1,6 +1,6 @@
 -- `decode::runs_fit` meets its contract.
 use borrow.Author.Needs.{needs}
-use Rattle.decode.specs.Words.{runsFit}
+use Rattle.boundary_model.specs.Words.{runsFit}
 use Rattle.decode.proofs.runs_fit.Statement.{statement}
 use Rattle.decode.proofs.runs_fit.Tie as tie
 

@@ -1,5 +1,5 @@
 -- `decode::state_in` meets its contract.
-use Rattle.decode.specs.Words.{stateIn}
+use Rattle.boundary_model.specs.Words.{stateIn}
 use borrow.Author.Needs.{needs}
 use Rattle.decode.proofs.state_in.Statement.{statement}
 use Rattle.decode.proofs.state_in.Tie as tie

@@ -4,7 +4,7 @@ use mathlib.Core.Path.{_≡_, refl}
 use lib.ListN.{length, length-set}
 use lib.Seq.{paste, paste-zero}
 use native.Mathlib.Omega.{arith}
-use Rattle.decode.specs.Words.{entryPagesAt, entryWords}
+use Rattle.boundary_model.specs.Words.{entryPagesAt, entryWords}
 use Rattle.encode.proofs.RunLaws.{paste-more, paste-over}
 use borrow.Author.Needs.{needs}
 use Rattle.encode.proofs.put_entry_pages.Statement.{statement}

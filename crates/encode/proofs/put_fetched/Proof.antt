@@ -1,6 +1,6 @@
 -- `encode::put_fetched` meets its contract.
 use borrow.Author.Needs.{needs}
-use Rattle.decode.specs.Words.{runAfter}
+use Rattle.boundary_model.specs.Words.{runAfter}
 use Rattle.encode.proofs.SettleLaws.{settled-accepted, settled-refused}
 use Rattle.encode.proofs.put_fetched.Statement.{statement}
 use Rattle.encode.proofs.put_fetched.Tie as tie

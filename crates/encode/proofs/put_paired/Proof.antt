@@ -1,6 +1,6 @@
 -- `encode::put_paired` meets its contract.
 use borrow.Author.Needs.{needs}
-use Rattle.decode.specs.Words.{runAfter}
+use Rattle.boundary_model.specs.Words.{runAfter}
 use Rattle.encode.proofs.SettleLaws.{settled-accepted, settled-refused}
 use Rattle.encode.proofs.put_paired.Statement.{statement}
 use Rattle.encode.proofs.put_paired.Tie as tie

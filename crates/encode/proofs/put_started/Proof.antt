@@ -1,6 +1,6 @@
 -- `encode::put_started` meets its contract.
 use borrow.Author.Needs.{needs}
-use Rattle.decode.specs.Words.{runStarted}
+use Rattle.boundary_model.specs.Words.{runStarted}
 use Rattle.encode.proofs.SettleLaws.{settled-accepted, settled-refused}
 use Rattle.encode.proofs.put_started.Statement.{statement}
 use Rattle.encode.proofs.put_started.Tie as tie

@@ -1,8 +1,9 @@
 -- `encode::put_state` meets its contract.
 use mathlib.Core.Path.{ap, _∙_}
 use borrow.Author.Needs.{needs}
-use Rattle.decode.specs.Words.{stateIn}
-use Rattle.encode.proofs.StateLaws.{words-written, words-decoded}
+use Rattle.boundary_model.specs.Words.{stateIn}
+use Rattle.boundary_model.proofs.StateLaws.{words-decoded}
+use Rattle.encode.proofs.StateLaws.{words-written}
 use Rattle.encode.proofs.put_state.Statement.{statement}
 use Rattle.encode.proofs.put_state.Tie as tie
 

@@ -47,7 +47,7 @@ use Rattle.model.specs.Devices.{deviceAt}
 use Rattle.model.specs.Calls.{deviceWrite}
 use Rattle.model.proofs.Device as T
 use Rattle.model.proofs.Device.Laws as T′
-use Rattle.boundary.specs.Boundary.{returned, callAt}
+use Rattle.boundary_model.specs.Boundary.{returned, callAt}
 use Rattle.devices.proofs.look_up as look-up
 use Rattle.devices.proofs.look_up.Symbol as look-up-def
 use Rattle.devices.proofs.look_up.Symbol.{name as #devices·look-up}

@@ -12,7 +12,7 @@ use Rattle.model.specs.Calls.{Reply, refused, settle, Outcome, startOf, Call, a
 use Rattle.record_model.specs.Record.{Written, writeRecordOf}
 use Rattle.model.specs.Tree.{Tree}
 use Rattle.model.specs.Walks.{walkReply}
-use Rattle.decode.specs.Words.{stateIn, answerNumbers, numbersBy, changedBy, withNumbers, runsFit, lendable, runAfter, runStarted}
+use Rattle.boundary_model.specs.Words.{stateIn, answerNumbers, numbersBy, changedBy, withNumbers, runsFit, lendable, runAfter, runStarted}
 
 -- What a call returns, both runs at its exit, and the guard's tables then.
 pub record Returned : Type 0 where
@@ -28,8 +28,8 @@ returned number state numbers t = record { number = number; state = state; numbe
 unfoldable pub replied : ℕ → Reply → List ℕ → List ℕ → Tables → Returned
 replied count reply run numbers t = returned (reply .number) run (withNumbers count numbers reply) t
 
--- Every call on a state: all but the start, the call that writes a record and the call that walks a page. Question 7 comes first: where a run cannot be lent, it refuses, and
--- changes neither the state run nor a table. A call puts into the state run what it can change, and no other word.
+-- Every call on a state: all but the start, the call that writes a record and the call that walks a page. Question 7 comes first: where a run cannot be
+-- lent, it refuses, and changes neither the state run nor a table. A call puts into the state run what it can change, and no other word.
 unfoldable pub callAt : List ℕ → List ℕ → Tables → Call → Returned
 callAt run numbers t call =
     let o : Outcome = answer (guardOf (stateIn run) t) call in
@@ -75,8 +75,8 @@ walkAt tree page numbers =
     let reply : Reply = walkReply (eqb (length numbers) answerNumbers) tree page in
     walked (reply .number) (withNumbers answerNumbers numbers reply)
 
--- Where both runs can be lent, the state run holds after every call the state that the call's definition answers. An accepted start's words
--- decode to its state by `encode::put_state`.
+-- Where both runs can be lent, whatever else they hold, the state run holds after every call the state that the call's definition answers. From an accepted
+-- start on they can be lent, and hold the state of the list's guard: ExportedLists.
 unfoldable pub StateHeld : Type 0
 StateHeld =
     (run numbers : List ℕ) (t : Tables) (call : Call) → lendable (numbersBy call) run numbers ≡ true

@@ -1,2 +1,0 @@
--- The runs of words that cross the boundary.
-pub mod Words
