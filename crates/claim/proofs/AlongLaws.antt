@@ -1,6 +1,6 @@
 -- From what the claim says of a whole list to what it says at each point of it: the guard, the terms of frames and the one-page guards after the calls so far.
 use Prim.Native.Nat.{ℕ, zero, suc, _+_, _*_, _/_, _%_, _≤_, _<_}
-use mathlib.Core.Bool.{true, false}
+use mathlib.Core.Bool.{false}
 use mathlib.Core.List.{List, [], _∷_, _++_}
 use mathlib.Core.Path.{_≡_, refl, sym, subst, fun-ext, _∙_}
 use lib.Dec.{eqb}

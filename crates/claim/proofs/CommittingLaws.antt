@@ -1,9 +1,9 @@
 -- K6, from the claim alone: a frame that is committed was protected from its ask on, and stays so.
-use Prim.Native.Nat.{ℕ, zero, suc, _+_, _-_, _*_, _/_, _%_, _≤_, _<_}
-use mathlib.Core.Bool.{Bool, true, false, not, cond, true≢false}
+use Prim.Native.Nat.{ℕ, zero, suc, _+_, _-_, _*_, _/_, _≤_, _<_}
+use mathlib.Core.Bool.{Bool, true, false, cond, true≢false}
 use mathlib.Core.List.{List, [], _∷_, _++_, append-nil, append-assoc}
 use mathlib.Core.Path.{_≡_, refl, sym, ap, subst, _∙_}
-use lib.Dec.{ltb, eqb}
+use lib.Dec.{eqb}
 use lib.ListN.{length, getD}
 use borrow.Author.Tests.{lt-ltb, eq-eqb, eqb-true}
 use native.Mathlib.Omega.{arith}
@@ -12,17 +12,16 @@ use Rattle.model.specs.Basics.{both, everyFrom}
 use Rattle.model.specs.Sizes.{pageBytes, devicesInRange, lastByte, lastPage, touched}
 use Rattle.model.specs.Guard.{Tables, Guard}
 use Rattle.model.specs.Policy.{Givens, Policy, policyOf, named, startState, startGuard}
-use Rattle.model.specs.Bits.{frameOf}
 use Rattle.model.specs.Devices.{deviceOf, deviceAt, inWindow}
-use Rattle.model.specs.Questions.{View, firstNo, givensInRange, lengthsOf, inOrder, free, everyTouched, deviceWriteQuestions}
-use Rattle.model.specs.Calls.{settle, startOf, Call, fetch, write, deviceWrite, ask, commit, drop, questionsOf}
+use Rattle.model.specs.Questions.{View, givensInRange, lengthsOf, inOrder, free, everyTouched, deviceWriteQuestions}
+use Rattle.model.specs.Calls.{settle, startOf, Call, write, deviceWrite, ask, commit, drop, questionsOf}
 use Rattle.laws.specs.Windows.{DevicesKept}
 use Rattle.claim.specs.CallKinds.{touchOf, termChangeOf}
 use Rattle.claim.specs.OnePage.{reachedIn, seenBy, settled}
 use Rattle.claim.specs.Terms.{Term, pendingTerm, Terms, firstTerms, termAfter, termsAfter, inTerm, isCommitted, protected}
 use Rattle.claim.specs.Claim.{Claim}
 use Rattle.claim.specs.Lists.{outcomeOf, Accepts, guardAfter, termsAlong, EachAccepted}
-use Rattle.claim.specs.Committing.{Misses, Avoids, NoDrop, CommittedKept, CommittedMissed}
+use Rattle.claim.specs.Committing.{Avoids, NoDrop, CommittedKept, CommittedMissed}
 use Rattle.laws.proofs.QuestionLaws.{both-yes, within-low, within-yes, firstNo-yes, either-second}
 use Rattle.laws.proofs.AcceptedLaws.{ask-frame, ask-free}
 use Rattle.laws.proofs.CallLaws.{none-left}
@@ -144,8 +143,8 @@ module _ (claimed : Claim) (given : Givens) (bytes : List ℕ) (t : Tables) (acc
     free-unprotected : v .excluded f ≡ false → protected policy (termsNow calls) f ≡ false
     free-unprotected clear =
         rw its-frame at
-        (transfer-is-safe claimed given bytes t accepted calls devices 0 (f * pageBytes) 1 (numbered claimed given bytes t accepted calls transfer ∙ passes clear)
-        .bytes (f * pageBytes) (omega arith) (omega arith) .unprotected)
+        (transfer-is-safe claimed given bytes t accepted calls devices 0 (f * pageBytes) 1
+        (numbered claimed given bytes t accepted calls transfer ∙ passes clear) .bytes (f * pageBytes) (omega arith) (omega arith) .unprotected)
 
   -- So an ask for a protected frame is refused.
   ask-unprotected : (calls : List Call) (page frame : ℕ) → Accepts (now calls) (ask page frame) → protected policy (termsNow calls) frame ≡ false
@@ -267,7 +266,8 @@ committed-kept claimed given bytes t before between after page frame accepted as
     then = rw (← there-two, ← (guard-snoc start two commit)) (for-good claimed given bytes t accepted frame after three lasting)
 
 -- No accepted drop at any place of a list.
-no-drops : (g : Guard) (calls : List Call) → ((xs ys : List Call) → calls ≡ xs ++ (drop ∷ ys) → Accepts (guardAfter g xs) drop → ⊥) → EachAccepted NoDrop g calls
+no-drops : (g : Guard) (calls : List Call) → ((xs ys : List Call) → calls ≡ xs ++ (drop ∷ ys) → Accepts (guardAfter g xs) drop → ⊥)
+    → EachAccepted NoDrop g calls
 unfolding guardAfter
 no-drops g [] none = tt
 no-drops g (call ∷ calls) none = (

@@ -15,7 +15,8 @@ use Rattle.model.specs.declared.Mode.{Mode}
 use Rattle.model.specs.declared.Mode.the-variants.{Kernel, User}
 use Rattle.model.specs.Basics.{bit, both, either}
 use Rattle.model.specs.Bits.{present}
-use Rattle.model.specs.Guard.{none, Tables, withShadow, withMap, Guard, guardOf, hasBit, vectorOf, withBit, inUser, running, modeOf, isPending, pendingFrame, isAsked}
+use Rattle.model.specs.Guard.{none, Tables, withShadow, withMap, Guard, guardOf, hasBit, vectorOf, withBit, inUser, running, modeOf, isPending}
+use Rattle.model.specs.Guard.{pendingFrame, isAsked}
 use Rattle.model.specs.Guard.{inMode, withPending}
 use Rattle.model.specs.Policy.{Policy, named}
 use Rattle.model.specs.Tree.{flatAt}
@@ -190,7 +191,8 @@ module _ (policy : Policy) (terms : Terms) (g : Guard) (h : Invariant policy ter
 
   joins-code : (f : ℕ) → hasBit (g .tables .exclusion) f ≡ true → eqb f (pendingFrame (g .state .pending)) ≡ false → code policy terms f ≡ true
   unfolding code protected
-  joins-code f e other = term-code (named policy f) (terms f) (sym (excluded-is policy terms g h f) ∙ e) (h .waiting f ∙ awaited-other (g .state .pending) f other)
+  joins-code f e other =
+      term-code (named policy f) (terms f) (sym (excluded-is policy terms g h f) ∙ e) (h .waiting f ∙ awaited-other (g .state .pending) f other)
 
   good-with : (code′ : ℕ → Bool) → ((f : ℕ) → code policy terms f ≡ true → code′ f ≡ true) → ((f : ℕ) → code′ f ≡ true → f < policy .frames)
       → (call : Call) → settled policy (pageOf g) (reachedIn g) call ≡ 0 → ((p : ℕ) → Allows code′ (pageOf g p) (news policy p call))

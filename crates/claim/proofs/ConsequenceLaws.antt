@@ -4,16 +4,16 @@ use mathlib.Core.Bool.{Bool, true, false}
 use mathlib.Core.List.{List}
 use mathlib.Core.Logic.{_⊎_, inl, inr}
 use mathlib.Core.Path.{_≡_, refl, sym, ap, _∙_}
-use lib.ListN.{length, getD}
+use lib.ListN.{getD}
 use lib.Seq.{ext-getD}
 use native.Mathlib.Omega.{arith}
 use Rattle.model.specs.Basics.{either}
 use Rattle.model.specs.Sizes.{pageBytes, lastByte, lastPage}
-use Rattle.model.specs.Guard.{none, Tables, Guard, vectorBytes, inUser}
+use Rattle.model.specs.Guard.{none, Tables, Guard, inUser}
 use Rattle.model.specs.Policy.{Givens, Policy, policyOf, named}
 use Rattle.model.specs.Bits.{frameOf}
 use Rattle.model.specs.Questions.{lengthsOf}
-use Rattle.model.specs.Calls.{Reply, settle, startOf, Call, fetch, write, deviceWrite, questionsOf}
+use Rattle.model.specs.Calls.{Reply, settle, startOf, Call, fetch, write, questionsOf}
 use Rattle.claim.specs.OnePage.{Page, reachedIn, seenBy, settled, pagesAfter}
 use Rattle.claim.specs.Terms.{Terms, firstTerms, protected, code, isCommitted}
 use Rattle.claim.specs.Claim.{Agree, FetchSafe, Claim}
@@ -26,8 +26,8 @@ use Rattle.laws.proofs.VectorLaws.{vectorOf-length}
 use Rattle.claim.proofs.TermLaws.{term-named}
 use Rattle.claim.proofs.StartLaws.{start-settled}
 use Rattle.claim.proofs.HistoryLaws.{committed-in-list}
-use Rattle.claim.proofs.AlongLaws.{agrees, numbered, allows, settles, agrees-after, fetch-below, fetch-is-safe, write-below, write-is-safe, transfer-is-safe}
-use Rattle.claim.proofs.AlongLaws.{written-clear}
+use Rattle.claim.proofs.AlongLaws.{agrees, numbered, allows, settles, agrees-after, fetch-below, fetch-is-safe, write-below, write-is-safe}
+use Rattle.claim.proofs.AlongLaws.{transfer-is-safe, written-clear}
 
 -- A refused call tells the one-page guards nothing.
 untold : (policy : Policy) (n : ℕ) (call : Call) (ps : ℕ → Page) → (n ≡ 0 → ⊥) → pagesAfter policy n call ps ≡ ps

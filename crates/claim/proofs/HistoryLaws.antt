@@ -98,7 +98,9 @@ module _ (f : ℕ) (g : Guard) (calls : List Call) where
 
   asks-of : (t : Term) (page frame : ℕ) (b : Bool) → eqb f frame ≡ b → Accepts g (ask page frame)
       → History f (cond b pendingTerm t) (After (ask page frame)) calls → History f t g (ask page frame ∷ calls)
-  asks-of t page frame true same e h = rw (← (eqb-true f frame same)) (begins t page (rw (← (eqb-true f frame same)) at e) (rw (← (eqb-true f frame same)) at h))
+  asks-of t page frame true same e h =
+      let is : f ≡ frame = eqb-true f frame same in
+      rw (← is) (begins t page (rw (← is) at e) (rw (← is) at h))
   asks-of t page frame false same e h = later f t g (ask page frame) calls (λ a. ask-no-drop page frame) h
 
   -- A commit finds the frame pending, or committed already.
@@ -123,13 +125,15 @@ history f (call ∷ calls) terms g c =
     by ((outcomeOf g call) .reply .number) refl
     (history f calls (termsAfter ((outcomeOf g call) .reply .number) call terms) ((outcomeOf g call) .guard) c)
   where
-    by-kind : Changing call → Accepts g call → History f (termAfter (termChangeOf call) f (terms f)) ((outcomeOf g call) .guard) calls → History f (terms f) g (call ∷ calls)
+    by-kind : Changing call → Accepts g call → History f (termAfter (termChangeOf call) f (terms f)) ((outcomeOf g call) .guard) calls
+        → History f (terms f) g (call ∷ calls)
     by-kind (keeps e) a h = later f (terms f) g call calls (λ a. keeps-no-drop call e) (rw e at h)
     by-kind (asks page frame e) a h = rw e (asks-of f g calls (terms f) page frame (eqb f frame) refl (rw e at a) (rw e at h))
     by-kind (commits e) a h = rw e (confirms f g calls (terms f) (rw e at a) (rw e at h))
     by-kind (drops e) a h = rw e (ends f g calls (terms f) (rw e at h))
 
-    by : (n : ℕ) → (outcomeOf g call) .reply .number ≡ n → History f (termsAfter n call terms f) ((outcomeOf g call) .guard) calls → History f (terms f) g (call ∷ calls)
+    by : (n : ℕ) → (outcomeOf g call) .reply .number ≡ n → History f (termsAfter n call terms f) ((outcomeOf g call) .guard) calls
+        → History f (terms f) g (call ∷ calls)
     by zero e h = by-kind (kinds call .1) e h
     by (suc n) e h = later f (terms f) g call calls (λ a. absurd (omega arith)) h
 

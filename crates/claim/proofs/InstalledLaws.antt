@@ -1,12 +1,12 @@
 -- What the shadow table lets a processor do: what is true of every page's entry, that everything a one-page guard is told keeps it so, and so after every list.
 use Prim.Native.Nat.{ℕ, _≤_, _<_}
-use mathlib.Core.Bool.{Bool, true, false, not, cond, true≢false, false≢true}
+use mathlib.Core.Bool.{Bool, true, false, cond, true≢false, false≢true}
 use mathlib.Core.List.{List}
-use mathlib.Core.Path.{_≡_, refl, sym, ap, subst, _∙_}
+use mathlib.Core.Path.{_≡_, refl, sym, subst, _∙_}
 use lib.Dec.{ltb, eqb}
-use lib.ListN.{length, getD, List·getD-eq-default}
+use lib.ListN.{getD, List·getD-eq-default}
 use native.Mathlib.Omega.{arith}
-use borrow.Author.Tests.{ltb-true, ltb-false, eq-eqb, eqb-true}
+use borrow.Author.Tests.{ltb-true, ltb-false}
 use Rattle.model.specs.declared.Fields.{Fields}
 use Rattle.model.specs.Basics.{member, bit, both, either}
 use Rattle.model.specs.Guard.{none, Tables, Guard, hasBit, inUser}
@@ -14,16 +14,17 @@ use Rattle.model.specs.Policy.{Givens, Policy, policyOf, named, startGuard}
 use Rattle.model.specs.Bits.{present, writable, userBit, noExecute, frameOf, kernelNoExecute, approvedMark, fieldsOf, approvedNoExecute, approved}
 use Rattle.model.specs.Bits.{ordinaryNoExecute, ordinary, inspected}
 use Rattle.model.specs.Sync.{rules, Slot, slot, entryIn}
-use Rattle.model.specs.Switch.{noExecuteIn, switched}
+use Rattle.model.specs.Switch.{noExecuteIn}
 use Rattle.model.specs.Approvals.{maps, mapsWritable, committedSlot}
 use Rattle.model.specs.Tree.{flatAt}
 use Rattle.model.specs.Questions.{firstNo, Lengths, startQuestions, lengthsOf}
 use Rattle.model.specs.Calls.{startOf, Call, syncPage, syncAll, syncPageTree, syncAllTree, fetch, write, enter, leave, deviceWrite, ask, commit, drop}
 use Rattle.model.specs.Calls.{settle, questionsOf}
 use Rattle.claim.specs.CallKinds.{termChangeOf}
-use Rattle.claim.specs.OnePage.{Page, withSlot, withPair, News, synchronised, entered, exited, asked, committed, dropped, nothing, indexIn, firstPage, switchedPage}
-use Rattle.claim.specs.OnePage.{stepped, askedPage, committedPage, droppedPage, told, newsOfOne, newsOfAll, news, reachedIn, seenBy, settled, pagesAfter}
-use Rattle.claim.specs.Terms.{Terms, firstTerms, pendingTerm, termAfter, termsAfter, inTerm, protected, code}
+use Rattle.claim.specs.OnePage.{Page, withSlot, withPair, News, synchronised, entered, exited, asked, committed, dropped, nothing, indexIn, firstPage}
+use Rattle.claim.specs.OnePage.{switchedPage, stepped, askedPage, committedPage, droppedPage, told, newsOfOne, newsOfAll, news}
+use Rattle.claim.specs.OnePage.{reachedIn, seenBy, settled, pagesAfter}
+use Rattle.claim.specs.Terms.{Terms, firstTerms, termAfter, termsAfter, protected, code}
 use Rattle.claim.specs.Lists.{outcomeOf, guardAfter, termsAlong}
 use Rattle.claim.specs.Installed.{Harmless, Installed, SpareBitsZero}
 use Rattle.laws.proofs.QuestionLaws.{both-yes}
@@ -31,9 +32,9 @@ use Rattle.laws.proofs.TableLaws.{past-no}
 use Rattle.laws.proofs.PolicyLaws.{start-passed}
 use Rattle.laws.proofs.SyncLaws.{cond-cases, step-cases}
 use Rattle.laws.proofs.AcceptedLaws.{ask-unmapped, commit-pending}
-use Rattle.laws.proofs.BitLaws.{present-approved, frameOf-approved, noExecute-approved, approved-none, approvedMark-ordinary, noExecute-ordinary, kernelNoExecute-ordinary}
-use Rattle.laws.proofs.BitLaws.{present-ordinary, frameOf-ordinary, writable-ordinary, userBit-ordinary, switch-keeps, present-switched, approvedMark-switched, frameOf-switched}
-use Rattle.laws.proofs.BitLaws.{switched-absent, noExecute-switched}
+use Rattle.laws.proofs.BitLaws.{present-approved, frameOf-approved, noExecute-approved, approved-none, approvedMark-ordinary, noExecute-ordinary}
+use Rattle.laws.proofs.BitLaws.{kernelNoExecute-ordinary, present-ordinary, frameOf-ordinary, writable-ordinary, userBit-ordinary, switch-keeps}
+use Rattle.laws.proofs.BitLaws.{present-switched, approvedMark-switched, frameOf-switched, switched-absent, noExecute-switched}
 use Rattle.claim.proofs.KindLaws.{Changing, keeps, asks, commits, drops, kinds}
 use Rattle.claim.proofs.TermLaws.{commit-in, drop-none}
 use Rattle.claim.proofs.PageLaws.{good-code}
@@ -285,7 +286,8 @@ start-tame : (given : Givens) (bytes : List ℕ) (l : Lengths) → firstNo (star
     → AllTame (policyOf bytes) firstTerms (startGuard given (policyOf bytes))
 unfolding firstPage
 start-tame given bytes l passed p =
-    subst (λ (ps : ℕ → Page). Tame (policy .frames) (protected policy firstTerms) (ps p)) (sym (first-pages given bytes l passed)) (at (member p (policy .listedPages)) refl)
+    subst (λ (ps : ℕ → Page). Tame (policy .frames) (protected policy firstTerms) (ps p)) (sym (first-pages given bytes l passed))
+    (at (member p (policy .listedPages)) refl)
   where
     policy : Policy
     policy = policyOf bytes

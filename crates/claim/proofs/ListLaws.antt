@@ -8,7 +8,7 @@ use Rattle.model.specs.Guard.{Guard}
 use Rattle.model.specs.Policy.{Policy, policyOf, startGuard}
 use Rattle.model.specs.Questions.{firstNo, lengthsOf, startQuestions}
 use Rattle.model.specs.Calls.{Reply, refused, settle, Outcome, refusedOf, broughtBy, Call, effectOf, answer}
-use Rattle.claim.specs.OnePage.{firstPage, reachedIn, settled, pagesAfter}
+use Rattle.claim.specs.OnePage.{reachedIn, settled, pagesAfter}
 use Rattle.claim.specs.Claim.{Agree, Always, Claim}
 use Rattle.claim.specs.Terms.{Terms, firstTerms, termsAfter}
 use Rattle.claim.specs.Lists.{outcomeOf, guardAfter, termsAlong}

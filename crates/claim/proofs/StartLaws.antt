@@ -76,7 +76,8 @@ module _ (given : Givens) (bytes : List ℕ) (t : Tables) (accepted : (startOf g
   pub start-settled : firstNo (startQuestions given bytes (policyOf bytes) (lengthsOf t)) ≡ 0
   unfolding startOf
   start-settled =
-      sym (settle-number (λ (o : Outcome). o .reply .number) (firstNo (startQuestions given bytes (policyOf bytes) (lengthsOf t))) _ _ refl (λ k. refl)) ∙ accepted
+      sym (settle-number (λ (o : Outcome). o .reply .number) (firstNo (startQuestions given bytes (policyOf bytes) (lengthsOf t))) _ _ refl (λ k. refl))
+      ∙ accepted
 
   pub start-guard : (startOf given bytes t) .guard ≡ startGuard given (policyOf bytes)
   unfolding startOf

@@ -1,7 +1,7 @@
 -- Document 02, K6: "No write or transfer allowed from its ask onward covers a byte of a committed frame", said of every list of calls by itself, of the guard
 -- alone.
 use Prim.Native.Nat.{ℕ, _+_, _/_, _<_, _≤_}
-use mathlib.Core.List.{List, [], _∷_, _++_}
+use mathlib.Core.List.{List, _∷_, _++_}
 use mathlib.Core.Path.{_≡_}
 use lib.ListN.{getD}
 use Rattle.model.specs.declared.Device.{Device}

@@ -1,5 +1,5 @@
--- What the shadow table lets a processor do. With the table installed a processor asks no call: what it may do stands in the entries, whose bits it reads itself. So
--- they are named here by their numbers, and not by the guard's own readings of them.
+-- What the shadow table lets a processor do. With the table installed a processor asks no call: what it may do stands in the entries, whose bits it reads
+-- itself. So they are named here by their numbers, and not by the guard's own readings of them.
 use Prim.Native.Nat.{ℕ, _/_, _%_, _^_, _<_, _≤_}
 use mathlib.Core.Bool.{Bool, true, false}
 use mathlib.Core.Path.{_≡_}
