@@ -1,7 +1,7 @@
 -- Demand 3 at the C boundary, by induction on the list of exported calls; the number that an exported call returns; and what a refused one leaves.
 use Prim.Native.Nat.{ℕ, zero, suc}
 use mathlib.Core.Bool.{Bool, true, false}
-use mathlib.Core.List.{List, [], _∷_, _++_}
+use mathlib.Core.List.{List, [], _∷_, _++_, map}
 use mathlib.Core.Path.{_≡_, refl, sym, ap, _∙_}
 use lib.ListN.{length, drop}
 use lib.Dec.{eqb}
@@ -23,7 +23,7 @@ use Rattle.laws.proofs.TableLaws.{length-table}
 use Rattle.boundary_model.specs.Words.{stateWords, entryWords, stateIn, wordsOf, answerNumbers, numbersBy, changedBy, overwritten, withNumbers, runsFit}
 use Rattle.boundary_model.specs.Words.{lendable, runAfter, runStarted}
 use Rattle.boundary_model.specs.Boundary.{Returned, replied, startAt, callAt, recordAt, walkAt}
-use Rattle.boundary_model.specs.ExportedLists.{Lent, Held, Exported, reaches, callsMade, numberOwed, numbersOwed, guardOwed, exportedAfter, Along, leftBy}
+use Rattle.boundary_model.specs.ExportedLists.{AllFit, Lent, Held, Exported, reaches, callsMade, numberOwed, numbersOwed, guardOwed, exportedAfter, Along, leftBy}
 use Rattle.boundary_model.specs.ExportedLists.{Carried, ExportedClaim, CallNumber, StartNumber, NumberReturned, zeroed, Left, RefusedLeaves}
 use Rattle.boundary_model.proofs.StateLaws.{words-decoded}
 use Rattle.boundary_model.proofs.LentLaws.{fitting-long, fitting-numbers, fits, numbers-lent, lent, lends}
@@ -111,6 +111,13 @@ made-none : (g : Guard) → guardAfter g (callsMade []) ≡ g
 unfolding callsMade guardAfter
 made-none g = refl
 
+-- Where every numbers run has its length no call is left out.
+all-made : (calls : List Exported) → AllFit calls → callsMade calls ≡ map (λ x. x .call) calls
+unfolding callsMade
+all-made [] fit = refl
+all-made (x ∷ xs) fit =
+    rw (eq-eqb (length (x .numbers)) (numbersBy (x .call)) (fit .0)) (ap (λ (l : List Call). x .call ∷ l) (all-made xs (fit .1)))
+
 left-held : (calls : List Exported) (r : Returned) (g : Guard) → Held (r .state) (r .tables) g
     → Held (leftBy r calls .state) (leftBy r calls .tables) (guardAfter g (callsMade calls))
 unfolding leftBy
@@ -184,6 +191,7 @@ module _ (given : Givens) (bytes run numbers : List ℕ) (t : Tables) where
         numbers = start-numbers fit;
         along = along calls started (start .guard) h;
         after = left-held calls started (start .guard) h;
+        whole = all-made calls;
         claimed = claim given bytes t (callsMade calls) accepts;
       }
 

@@ -76,7 +76,7 @@ walkAt tree page numbers =
     walked (reply .number) (withNumbers answerNumbers numbers reply)
 
 -- Where both runs can be lent, whatever else they hold, the state run holds after every call the state that the call's definition answers. From an accepted
--- start on they can be lent, and hold the state of the list's guard: ExportedLists.
+-- start on the state run can be lent, and holds the state of the list's guard: ExportedLists.
 unfoldable pub StateHeld : Type 0
 StateHeld =
     (run numbers : List ℕ) (t : Tables) (call : Call) → lendable (numbersBy call) run numbers ≡ true

@@ -2,7 +2,7 @@
 -- refused one leaves, on lent runs of any length and contents.
 use Prim.Native.Nat.{ℕ, _≤_}
 use mathlib.Core.Bool.{Bool, cond}
-use mathlib.Core.List.{List, [], _∷_}
+use mathlib.Core.List.{List, [], _∷_, map}
 use mathlib.Core.Path.{_≡_}
 use lib.ListN.{length, getD}
 use lib.Dec.{eqb}
@@ -43,6 +43,11 @@ unfoldable pub callsMade : List Exported → List Call
 callsMade [] = []
 callsMade (x ∷ xs) = cond (reaches x) (x .call ∷ callsMade xs) (callsMade xs)
 
+-- Every numbers run of a list has its length.
+abbrev pub AllFit : List Exported → Type 0
+AllFit [] = Unit {0}
+AllFit (x ∷ xs) = (length (x .numbers) ≡ numbersBy (x .call)) × AllFit xs
+
 -- What an exported call has to return, its numbers run at its exit, and the guard after it, by the guard that it reaches.
 abbrev pub numberOwed : Guard → Exported → ℕ
 numberOwed g x = cond (reaches x) (answer g (x .call) .reply .number) 7
@@ -72,16 +77,18 @@ leftBy r [] = r
 leftBy r (x ∷ xs) = leftBy (exportedAfter r x) xs
 
 -- The start, by what its exported call returned, and a list of exported calls after it: the guard accepted the start, and its numbers are given; along the
--- list C is lent the guard, call by call; after it the guard of the whole list; and the claim of demand 3 is one about this list.
+-- list, call by call, what C lends holds the guard; after it that of the whole list; no call is left out where every numbers run has its length; and the claim
+-- of demand 3 is one about this list.
 pub record Carried (given : Givens) (bytes : List ℕ) (t : Tables) (r : Returned) (calls : List Exported) : Type 0 where
   pub accepted : startOf given bytes t .reply .number ≡ 0
   pub numbers : r .numbers ≡ startOf given bytes t .reply .first ∷ startOf given bytes t .reply .second ∷ []
   pub along : Along r (startOf given bytes t .guard) calls
   pub after : Held (leftBy r calls .state) (leftBy r calls .tables) (guardAfter (startOf given bytes t .guard) (callsMade calls))
+  pub whole : AllFit calls → callsMade calls ≡ map (λ x. x .call) calls
   pub claimed : Always (policyOf bytes) firstTerms (startOf given bytes t .guard) (firstPage (policyOf bytes)) (callsMade calls)
 
 -- Of every exported start that returns 0, on whatever runs and tables, and every list of exported calls: no other premise. A call that a request adds
--- joins by its clause of `changedBy`, and one that makes others by these, as members of the list.
+-- joins by its clause of `changedBy`; a call that makes several guard calls is several members of the list.
 unfoldable pub ExportedClaim : Type 0
 ExportedClaim =
     (given : Givens) (bytes run numbers : List ℕ) (t : Tables) (calls : List Exported) → startAt given bytes run numbers t .number ≡ 0
@@ -113,7 +120,7 @@ pub record Left (run numbers : List ℕ) (t : Tables) (r : Returned) : Type 0 wh
   pub tables : r .tables ≡ t
   pub numbersRun : r .numbers ≡ zeroed numbers
 
--- Of every exported call, whatever refused it: nothing is left otherwise but its numbers run. The walk is lent no other run that it may write.
+-- Of every exported call, whatever refused it: everything but its numbers run is as it was. The walk is lent no other run that it may write.
 unfoldable pub RefusedLeaves : Type 0
 RefusedLeaves =
     ((run numbers : List ℕ) (t : Tables) (call : Call) → (callAt run numbers t call .number ≡ 0 → ⊥) → Left run numbers t (callAt run numbers t call))

@@ -15,7 +15,7 @@ pub fn state_held()
     ensures { λ _. ⌜ StateHeld ⌝ }
 {}
 
-// Demand 3 at the C boundary: after an accepted start, along every list of exported calls, what C is lent holds the guard of the list.
+// Demand 3 at the C boundary: after an accepted start, along every list of exported calls, what C lends holds the guard of the list.
 pub fn exported_claim()
     ensures { λ _. ⌜ ExportedClaim ⌝ }
 {}

@@ -91,7 +91,7 @@ module _ (claimed : Claim) (given : Givens) (bytes : List ℕ) (t : Tables) (acc
       pub allows : (outcomeOf at call) .reply .allowed ≡ eqb ((outcomeOf at call) .reply .number) 0
       allows = rw numbered (point (call ∷ []) .2)
 
-      pub is-safe : Accepts at call → Safe policy termsAt pagesAt (touchOf call) ((outcomeOf at call) .reply)
+      is-safe : Accepts at call → Safe policy termsAt pagesAt (touchOf call) ((outcomeOf at call) .reply)
       is-safe e = point (call ∷ []) .3 (settles e)
 
       pub agrees-after : Agree policy ((outcomeOf at call) .guard) (pagesAfter policy ((outcomeOf at call) .reply .number) call pagesAt)

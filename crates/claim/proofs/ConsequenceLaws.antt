@@ -19,7 +19,7 @@ use Rattle.claim.specs.Terms.{Terms, firstTerms, protected, code, isComm
 use Rattle.claim.specs.Claim.{Agree, FetchSafe, Claim}
 use Rattle.claim.specs.Lists.{outcomeOf, Accepts, guardAfter, termsAlong}
 use Rattle.claim.specs.Consequences.{Committed, pageAfter, FetchReadsCode, WriteMissesPolicy, WriteAnswersFrames, TransferMissesPolicy, TransferInWindow}
-use Rattle.claim.specs.Consequences.{PageIsFold, ModeIsFold, LengthsKept, ExclusionIsFold, NumberIsSettled, RefusedLeaves}
+use Rattle.claim.specs.Consequences.{PageIsFold, ModeIsFold, LengthsKept, ExclusionIsFold, NumberIsSettled, RefusedKeepsTables}
 use Rattle.laws.proofs.AcceptedLaws.{write-some}
 use Rattle.laws.proofs.PolicyLaws.{start-passed}
 use Rattle.laws.proofs.VectorLaws.{vectorOf-length}
@@ -165,8 +165,9 @@ pub exclusion-is-fold : Claim → ExclusionIsFold
 exclusion-is-fold claimed given bytes t calls accepted = agrees claimed given bytes t accepted calls .exclusion
 
 pub number-is-settled : Claim → NumberIsSettled
+unfolding settled
 number-is-settled claimed given bytes t calls accepted call =
     (numbered claimed given bytes t accepted calls call, allows claimed given bytes t accepted calls call)
 
-pub refused-leaves : Claim → RefusedLeaves
-refused-leaves claimed given bytes t calls accepted call refused = left claimed given bytes t calls accepted call refused
+pub refused-keeps-tables : Claim → RefusedKeepsTables
+refused-keeps-tables claimed given bytes t calls accepted call refused = left claimed given bytes t calls accepted call refused

@@ -68,7 +68,7 @@ ask-no-drop page f same = let z : _≡_ {A = ℕ} 0 1 = cc in omega arith
 commit-no-drop : commit ≡ drop → ⊥
 commit-no-drop same = let z : _≡_ {A = ℕ} 0 1 = cc in omega arith
 
-pub keeps-no-drop : (call : Call) → termChangeOf call ≡ unchanged → call ≡ drop → ⊥
+keeps-no-drop : (call : Call) → termChangeOf call ≡ unchanged → call ≡ drop → ⊥
 unfolding termChangeOf
 keeps-no-drop call e same =
     let ends : unchanged ≡ ended = sym e ∙ ap termChangeOf same in

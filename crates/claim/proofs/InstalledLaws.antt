@@ -1,12 +1,13 @@
 -- What the shadow table lets a processor do: what is true of every page's entry, that everything a one-page guard is told keeps it so, and so after every list.
 use Prim.Native.Nat.{ℕ, _≤_, _<_}
 use mathlib.Core.Bool.{Bool, true, false, cond, true≢false, false≢true}
-use mathlib.Core.List.{List}
+use mathlib.Core.List.{List, [], _∷_, _++_}
+use mathlib.Core.Logic.{_⊎_, inl, inr}
 use mathlib.Core.Path.{_≡_, refl, sym, subst, _∙_}
 use lib.Dec.{ltb, eqb}
 use lib.ListN.{getD, List·getD-eq-default}
 use native.Mathlib.Omega.{arith}
-use borrow.Author.Tests.{ltb-true, ltb-false}
+use borrow.Author.Tests.{ltb-true, ltb-false, eq-eqb}
 use Rattle.model.specs.declared.Fields.{Fields}
 use Rattle.model.specs.Basics.{member, bit, both, either}
 use Rattle.model.specs.Guard.{none, Tables, Guard, hasBit, inUser}
@@ -24,10 +25,12 @@ use Rattle.claim.specs.CallKinds.{termChangeOf}
 use Rattle.claim.specs.OnePage.{Page, withSlot, withPair, News, synchronised, entered, exited, asked, committed, dropped, nothing, indexIn, firstPage}
 use Rattle.claim.specs.OnePage.{switchedPage, stepped, askedPage, committedPage, droppedPage, told, newsOfOne, newsOfAll, news}
 use Rattle.claim.specs.OnePage.{reachedIn, seenBy, settled, pagesAfter}
-use Rattle.claim.specs.Terms.{Terms, firstTerms, termAfter, termsAfter, protected, code}
-use Rattle.claim.specs.Lists.{outcomeOf, guardAfter, termsAlong}
-use Rattle.claim.specs.Installed.{Harmless, Installed, SpareBitsZero}
-use Rattle.laws.proofs.QuestionLaws.{both-yes}
+use Rattle.claim.specs.Terms.{Terms, firstTerms, pendingTerm, termAfter, termsAfter, inTerm, isCommitted, protected, code}
+use Rattle.claim.specs.Lists.{outcomeOf, Accepts, guardAfter, termsAlong}
+use Rattle.claim.specs.Consequences.{Committed}
+use Rattle.claim.specs.Installed.{Harmless, Installed, InstalledMaps, InstalledWrites, InstalledRuns, SpareBitsZero}
+use Rattle.laws.specs.Cache.{digit, frameField}
+use Rattle.laws.proofs.QuestionLaws.{both-yes, either-second}
 use Rattle.laws.proofs.TableLaws.{past-no}
 use Rattle.laws.proofs.PolicyLaws.{start-passed}
 use Rattle.laws.proofs.SyncLaws.{cond-cases, step-cases}
@@ -36,12 +39,14 @@ use Rattle.laws.proofs.BitLaws.{present-approved, frameOf-approved, noExecute-a
 use Rattle.laws.proofs.BitLaws.{kernelNoExecute-ordinary, present-ordinary, frameOf-ordinary, writable-ordinary, userBit-ordinary, switch-keeps}
 use Rattle.laws.proofs.BitLaws.{present-switched, approvedMark-switched, frameOf-switched, switched-absent, noExecute-switched}
 use Rattle.claim.proofs.KindLaws.{Changing, keeps, asks, commits, drops, kinds}
-use Rattle.claim.proofs.TermLaws.{commit-in, drop-none}
+use Rattle.claim.proofs.TermLaws.{commit-in, drop-none, term-named, code-protected}
 use Rattle.claim.proofs.PageLaws.{good-code}
 use Rattle.claim.proofs.Invariant.{Invariant, pageOf, excluded-is, code-below}
 use Rattle.claim.proofs.CommuteLaws.{most, pending-small}
 use Rattle.claim.proofs.StartLaws.{start-settled, start-guard, first-pages, start-kept, own-below}
 use Rattle.claim.proofs.ListLaws.{kept-along}
+use Rattle.claim.proofs.HistoryLaws.{committed-in-list}
+use Rattle.claim.proofs.AlongLaws.{guard-snoc, terms-snoc}
 
 -- A page whose entry does no harm, by the protected frames: beside what kernel mode may execute, which a good page has.
 record Tame (frames : ℕ) (guarded : ℕ → Bool) (page : Page) : Type 0 where
@@ -269,8 +274,8 @@ module _ (policy : Policy) (terms : Terms) (g : Guard) (h : Invariant policy ter
 
   -- So each entry does no harm, with what a good page has of kernel mode.
   entry-harmless : AllTame policy terms g → (p : ℕ) → let entry : ℕ = getD (g .tables .shadow) p 0 in
-      (bit 0 entry ≡ true → Harmless policy terms (inUser (g .state .mode)) entry) × (bit 0 entry ≡ false → entry ≡ 0)
-  unfolding present writable userBit noExecute frameOf kernelNoExecute approvedMark
+      (digit 0 entry ≡ true → Harmless policy terms (inUser (g .state .mode)) entry) × (digit 0 entry ≡ false → entry ≡ 0)
+  unfolding present writable userBit noExecute frameOf kernelNoExecute approvedMark bit
   entry-harmless tame p = (
     (λ there. record {
       below = tame p .below there;
@@ -328,9 +333,70 @@ installed given bytes t calls accepted p below =
     let always = always-tame given bytes t calls accepted in
     entry-harmless (policyOf bytes) _ _ (always .0) (always .1) p
 
+-- From it alone: the frames that entries map, those that they may write to, and those that they may execute.
+pub installed-maps : Installed → InstalledMaps
+installed-maps all given bytes t calls accepted p below =
+    let entry = all given bytes t calls accepted p below in ((λ there. entry .0 there .below), entry .1)
+
+pub installed-writes : Installed → InstalledWrites
+unfolding protected termsAfter settle termAfter termChangeOf inTerm
+installed-writes all given bytes t calls accepted = (
+  (λ p below there w. term-named (named policy _) (termsAlong start firstTerms calls _) (all given bytes t calls accepted p below .0 there .unprotected w)),
+  asked-frame,
+)
+  where
+    policy : Policy
+    policy = policyOf bytes
+
+    start : Guard
+    start = (startOf given bytes t) .guard
+
+    asked-frame : (page frame : ℕ) → Accepts (guardAfter start calls) (ask page frame) → (p : ℕ) → p < policy .pages
+        → let entry : ℕ = getD ((outcomeOf (guardAfter start calls) (ask page frame)) .guard .tables .shadow) p 0 in
+        digit 0 entry ≡ true → digit 1 entry ≡ true → frameField entry ≡ frame → ⊥
+    asked-frame page frame e p below there w is =
+        let harmless = rw (guard-snoc start calls (ask page frame), terms-snoc start firstTerms calls (ask page frame)) at
+        (all given bytes t (calls ++ (ask page frame ∷ [])) accepted p below .0) in
+        let free = rw e at (rw is at (harmless there .unprotected w)) in
+        true≢false (sym (either-second (named policy frame) (rw (eq-eqb frame frame refl) refl)) ∙ free)
+
+pub installed-runs : Installed → InstalledRuns
+unfolding code either
+installed-runs all given bytes t calls accepted p below there runs = (
+  (λ kernel. (unwritable kernel (digit 1 entry) refl, code-of (named policy (frameField entry)) refl (h .kernelRuns kernel runs))),
+  (λ user. h .userRuns user runs),
+)
+  where
+    policy : Policy
+    policy = policyOf bytes
+
+    start : Guard
+    start = (startOf given bytes t) .guard
+
+    terms : Terms
+    terms = termsAlong start firstTerms calls
+
+    g : Guard
+    g = guardAfter start calls
+
+    entry : ℕ
+    entry = getD (g .tables .shadow) p 0
+
+    h : Harmless policy terms (inUser (g .state .mode)) entry
+    h = all given bytes t calls accepted p below .0 there
+
+    unwritable : inUser (g .state .mode) ≡ false → (b : Bool) → digit 1 entry ≡ b → b ≡ false
+    unwritable kernel false e = refl
+    unwritable kernel true e = absurd (true≢false (sym (code-protected policy terms (frameField entry) (h .kernelRuns kernel runs)) ∙ h .unprotected e))
+
+    code-of : (b : Bool) → named policy (frameField entry) ≡ b → either b (isCommitted (terms (frameField entry))) ≡ true
+        → (named policy (frameField entry) ≡ true) ⊎ Committed (frameField entry) start calls
+    code-of true e c = inl e
+    code-of false e c = inr (committed-in-list (frameField entry) calls start c)
+
 -- The exclusion vector has the bits of the protected frames, and these are below F.
 pub spare-bits-zero : SpareBitsZero
-unfolding hasBit
+unfolding hasBit bit
 spare-bits-zero given bytes t calls accepted f over =
     let always = always-tame given bytes t calls accepted .0 in
     excluded-is (policyOf bytes) _ _ always f ∙ past-no (protected (policyOf bytes) _) (policyOf bytes .frames) (always .below) f over

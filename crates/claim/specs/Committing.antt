@@ -29,8 +29,8 @@ abbrev pub NoDrop : Guard → Call → Type 0
 NoDrop g call = call ≡ drop → ⊥
 
 -- After an accepted start and any calls, an ask for a frame is accepted; then come calls with no accepted drop among them, an accepted commit, and any
--- calls. No allowed write or transfer after the ask covers a byte of the frame. The first accepted commit after the ask is the frame's own, so that this
--- holds of a later one too.
+-- calls. No allowed write or transfer after the ask covers a byte of the frame. The calls between may hold the frame's own commit already: the theorem
+-- then speaks of a later one.
 abbrev pub CommittedKept : Type 0
 CommittedKept =
     (given : Givens) (bytes : List ℕ) (t : Tables) (before between after : List Call) (page frame : ℕ)

@@ -10,11 +10,12 @@ use lib.ListN.{length, getD}
 use Rattle.model.specs.declared.Device.{Device}
 use Rattle.model.specs.Sizes.{pageBytes}
 use Rattle.model.specs.Guard.{none, Guard, vectorBytes, vectorOf, inUser}
-use Rattle.model.specs.Policy.{Policy, named}
+use Rattle.model.specs.Policy.{Policy, named, entryPages}
+use Rattle.model.specs.Questions.{View, firstNo}
 use Rattle.model.specs.Bits.{frameOf}
 use Rattle.model.specs.Devices.{deviceOf}
-use Rattle.model.specs.Calls.{Reply, settle, Call, fetch, write, deviceWrite, ask, commit}
-use Rattle.claim.specs.OnePage.{Page, News, firstPage, told, news, reachedIn, settled}
+use Rattle.model.specs.Calls.{Reply, settle, Call, fetch, write, deviceWrite, ask, commit, questionsOf}
+use Rattle.claim.specs.OnePage.{Page, News, firstPage, told, news}
 use Rattle.claim.specs.Lists.{outcomeOf, Accepts, guardAfter, EachAccepted, AfterEvery}
 use Rattle.claim.specs.Committing.{NoDrop}
 
@@ -110,11 +111,29 @@ abbrev pub NumberIsSettled : Type 0
 NumberIsSettled = AfterEvery λ policy start calls g.
     (call : Call) →
     let reply : Reply = (outcomeOf g call) .reply in
-    (reply .number ≡ settled policy (pageAfter policy start calls) (reachedIn g) call) × (reply .allowed ≡ eqb (reply .number) 0)
+    let ps : ℕ → Page = pageAfter policy start calls in
+    let view : View =
+    record {
+      pages = policy .pages;
+      frames = policy .frames;
+      entryCount = policy .entryCount;
+      entryPage = λ i. getD (entryPages policy) i 0;
+      devices = g .state .devices;
+      pending = g .state .pending;
+      user = (ps 0) .user;
+      shadow = λ p. (ps p) .entry;
+      approval = λ p. (ps p) .approval;
+      excluded = (ps 0) .excluded;
+      stateFits = true;
+      shadowFits = true;
+      mapFits = true;
+      exclusionFits = true;
+    } in
+    (reply .number ≡ firstNo (questionsOf view call)) × (reply .allowed ≡ eqb (reply .number) 0)
 
 -- A refused call leaves the three tables, and kernel or user.
-abbrev pub RefusedLeaves : Type 0
-RefusedLeaves = AfterEvery λ policy start calls g.
+abbrev pub RefusedKeepsTables : Type 0
+RefusedKeepsTables = AfterEvery λ policy start calls g.
     (call : Call) → (Accepts g call → ⊥) →
     let after : Guard = (outcomeOf g call) .guard in
     (after .tables .shadow ≡ g .tables .shadow) × (after .tables .map ≡ g .tables .map) × (after .tables .exclusion ≡ g .tables .exclusion)

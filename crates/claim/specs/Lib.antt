@@ -1,4 +1,4 @@
--- Demand 3: the one-page guards, the terms of frames, the claim about every list of calls, and what follows from it of committed frames.
+-- Demand 3: the one-page guards, the terms of frames, the claim about every list of calls, what follows from it, and what the installed table lets a processor do.
 pub mod CallKinds
 pub mod OnePage
 pub mod Terms

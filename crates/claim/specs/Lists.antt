@@ -7,7 +7,7 @@ use Rattle.model.specs.Policy.{Givens, Policy, policyOf}
 use Rattle.model.specs.Calls.{Outcome, startOf, Call, answer}
 use Rattle.claim.specs.Terms.{Terms, termsAfter}
 
--- What the guard gives for a call of a list, and hands on to the next one. Every statement about lists runs the guard here.
+-- What the guard gives for a call of a list, and hands on to the next one. Every statement of this crate about lists runs the guard here.
 abbrev pub outcomeOf : Guard → Call → Outcome
 outcomeOf g call = answer g call
 

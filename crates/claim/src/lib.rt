@@ -1,10 +1,10 @@
-// Demand 3: the functions that carry the claim about every list of calls, and the theorems that follow from it. The definitions stand in specs/.
+// Demand 3: the functions that carry the claim about every list of calls, and the theorems beside it. The definitions stand in specs/.
 
 ghost use Rattle.claim.specs.Claim.{Claim};
 ghost use Rattle.claim.specs.Committing.{CommittedKept, CommittedMissed};
 ghost use Rattle.claim.specs.Consequences.{FetchReadsCode, WriteMissesPolicy, WriteAnswersFrames, TransferMissesPolicy, TransferInWindow};
-ghost use Rattle.claim.specs.Consequences.{PageIsFold, ModeIsFold, LengthsKept, ExclusionIsFold, NumberIsSettled, RefusedLeaves};
-ghost use Rattle.claim.specs.Installed.{Installed, SpareBitsZero};
+ghost use Rattle.claim.specs.Consequences.{PageIsFold, ModeIsFold, LengthsKept, ExclusionIsFold, NumberIsSettled, RefusedKeepsTables};
+ghost use Rattle.claim.specs.Installed.{Installed, InstalledMaps, InstalledWrites, InstalledRuns, SpareBitsZero};
 
 // Demand 3: one claim about every list of calls after an accepted start.
 pub fn every_list()
@@ -35,7 +35,7 @@ pub fn tables_are_folds()
 
 // The number of an answer is the one that the one-page guards settle, and a refused call leaves the tables and the mode.
 pub fn numbers_are_settled()
-    ensures { λ _. ⌜ NumberIsSettled × RefusedLeaves ⌝ }
+    ensures { λ _. ⌜ NumberIsSettled × RefusedKeepsTables ⌝ }
 {}
 
 // Document 02, K6: "No write or transfer allowed from its ask onward covers a byte of a committed frame."
@@ -43,7 +43,7 @@ pub fn committed_kept()
     ensures { λ _. ⌜ CommittedKept × CommittedMissed ⌝ }
 {}
 
-// What the shadow table lets a processor do after every list of calls, asked or not, and that the exclusion vector's spare bits stay 0.
+// What the shadow table lets a processor do after every list of calls: which frames its entries map, write to and execute. The exclusion vector's spare bits stay 0.
 pub fn installed()
-    ensures { λ _. ⌜ Installed × SpareBitsZero ⌝ }
+    ensures { λ _. ⌜ Installed × InstalledMaps × InstalledWrites × InstalledRuns × SpareBitsZero ⌝ }
 {}

@@ -5,7 +5,7 @@ use mathlib.Core.List.{List, [], _∷_, _++_}
 use mathlib.Core.Path.{_≡_, refl, sym, _∙_}
 use lib.Dec.{leb, eqb}
 use native.Mathlib.Omega.{arith}
-use borrow.Author.Tests.{leb-true, le-leb, lt-leb, eq-eqb}
+use borrow.Author.Tests.{leb-true, le-leb, eq-eqb}
 use Rattle.model.specs.Basics.{both, either, within}
 use Rattle.model.specs.Questions.{Question, question, firstNo}
 use Rattle.model.specs.Calls.{settle}
@@ -51,10 +51,6 @@ within-low low high x p = leb-true low x (both-first (leb low x) (leb x high) p)
 pub within-high : (low high x : ℕ) → within low high x ≡ true → x ≤ high
 unfolding within
 within-high low high x p = leb-true x high (both-second (leb low x) (leb x high) p)
-
-pub within-above : (low high x : ℕ) → high < x → within low high x ≡ false
-unfolding within
-within-above low high x p = both-no-after (leb low x) (lt-leb x high p)
 
 -- The first no: past a yes, and at a no.
 pub firstNo-yes : (n : ℕ) {b : Bool} (qs : List Question) → b ≡ true → firstNo (question n b ∷ qs) ≡ firstNo qs
