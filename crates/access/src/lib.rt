@@ -1,6 +1,8 @@
 // Document 01, "Calls and their two numbers": fetch and write.
 // Each call goes down its questions in order, and does what an accepted call does where none refuses it.
 
+#![tactic(auto)]
+
 ghost use Rattle.std.specs.Prelude.{◌≡◌, true, not, [], ◌≤◌};
 ghost use lib.ListN.{length};
 ghost use Rattle.model.specs.Basics.{either};

@@ -1,5 +1,7 @@
 // Document 02, K6: approval of a driver's frame while the guard runs, as ask, then commit or drop.
 
+#![tactic(auto)]
+
 ghost use Rattle.std.specs.Prelude.{◌≡◌, false, not, ◌≤◌, ◌<◌, eqb, length, get_or};
 ghost use Rattle.model.specs.Basics.{both, every_from};
 ghost use Rattle.model.specs.Guard.{none, Tables, with_shadow, with_map, with_exclusion, with_three, guard_of, is_pending};

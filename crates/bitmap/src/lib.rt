@@ -1,6 +1,8 @@
 // Document 01, "What the guard keeps": the exclusion vector, a bit for each frame, read, set and cleared.
 // `test_bit`, `set_bit` and `clear_bit` are total: a byte past the vector's end counts as 0 and is not written.
 
+#![tactic(auto)]
+
 ghost use Rattle.std.specs.Prelude.{◌≡◌, true, false, not, cond, suc, ◌-◌, ◌*◌, ◌/◌, ◌≤◌, ◌<◌, eqb, length};
 ghost use Rattle.model.specs.Basics.{bit, every_from};
 ghost use Rattle.model.specs.Guard.{has_bit, byte_of, with_bit};

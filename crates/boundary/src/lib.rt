@@ -2,6 +2,8 @@
 // documents them. The definitions of every exported call stand in `boundary_model`, and the laws that all of them cite here.
 // Each promises what the model answers on the decoded state, by one equation on all inputs.
 
+#![tactic(auto)]
+
 ghost use Rattle.std.specs.Prelude.{List, ◌<◌, ◌≡◌};
 ghost use Rattle.std.proofs.Math.ListN;
 ghost use Rattle.model.specs.Guard.{Tables, with_shadow, with_exclusion};

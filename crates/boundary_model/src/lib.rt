@@ -1,5 +1,7 @@
 // The functions that carry the theorems about the exported calls: what they return and leave on lent runs. The definitions stand in specs/.
 
+#![tactic(auto)]
+
 ghost use Rattle.model.specs.Cases.{Hold};
 ghost use Rattle.boundary_model.specs.Boundary.{StateHeld};
 ghost use Rattle.boundary_model.specs.ExportCases.{export_cases, walk_export_cases, call_export_cases, lent_export_cases, each_export_cases};

@@ -1,6 +1,8 @@
 // The calls on numbers and lent runs that read no state: the start, which writes one, the record and the walk. The crate `exports` hands them to C beside those
 // of `boundary`, whose definitions they share; they are a crate of their own so that an edit of either is checked in less time.
 
+#![tactic(auto)]
+
 ghost use Rattle.std.specs.Prelude.{◌≡◌};
 ghost use Rattle.model.specs.Guard.{tables};
 ghost use Rattle.model.specs.Policy.{given_of, policy_of};

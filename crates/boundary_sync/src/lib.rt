@@ -1,6 +1,8 @@
 // The calls on a lent state that synchronise or approve, on numbers and lent runs: a number out. The crate `exports` hands them to C beside those of `boundary`,
 // whose definitions and laws they cite.
 
+#![tactic(auto)]
+
 ghost use Rattle.std.specs.Prelude.{◌≡◌};
 ghost use Rattle.model.specs.Guard.{Tables, with_shadow, with_map, with_exclusion, with_three};
 ghost use Rattle.model.specs.Calls;

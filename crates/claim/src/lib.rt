@@ -1,5 +1,7 @@
 // Demand 3: the functions that carry the claim about every list of calls, and the theorems beside it. The definitions stand in specs/.
 
+#![tactic(auto)]
+
 ghost use Rattle.claim.specs.Claim.{Claim};
 ghost use Rattle.claim.specs.Committing.{CommittedKept, CommittedMissed};
 ghost use Rattle.claim.specs.Consequences.{FetchReadsCode, WriteMissesPolicy, WriteAnswersFrames, TransferMissesPolicy, TransferInWindow};

@@ -1,6 +1,8 @@
 // The runs of words that cross the boundary: the state in one, and a call's two numbers in another. They are read and asked about here; `encode` writes them.
 // A function that takes a state run has a `requires`: its callers have asked for the length.
 
+#![tactic(auto)]
+
 ghost use Rattle.std.specs.Prelude.{◌≡◌, length, eqb};
 ghost use Rattle.model.specs.Basics;
 ghost use Rattle.model.specs.Guard.{mode_of};

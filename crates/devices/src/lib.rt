@@ -1,5 +1,7 @@
 // Document 02, K5: the list of devices, lent as a slice of their records, and the record of one. The calls above are on plain data.
 
+#![tactic(auto)]
+
 ghost use Rattle.std.specs.Prelude.{◌≡◌};
 ghost use Rattle.model.specs.Devices.{device_at};
 

@@ -1,6 +1,8 @@
 // Document 01, "The drill program": reads a policy and at most 1,024 calls, and writes a line for each and the closing lines.
 // Everything that it computes is proved in the crates below: here it reads, calls them, writes and counts.
 
+#![tactic(auto)]
+
 ghost use Rattle.std.specs.Prelude.{◌≤◌, ◌≡◌, length};
 
 use drill_calls::{CALL_BYTES, POLICY_BYTES, TurnResult};

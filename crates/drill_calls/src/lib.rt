@@ -1,6 +1,8 @@
 // Document 01, "The drill program": the policy's extent, the start, a call's fields, and the turn that one call makes.
 // Each function promises a definition of `drill_model` on all inputs, a call of any length included.
 
+#![tactic(auto)]
+
 ghost use Rattle.std.specs.Prelude.{◌≡◌, ◌+◌, ◌*◌, ◌^◌, ◌≤◌, ◌<◌, false, List, eqb};
 ghost use Rattle.model.specs.Guard.{tables, Guard, guard_of};
 ghost use Rattle.model.specs.declared.Device.{Device};

@@ -1,5 +1,7 @@
 // Document 01, "The drill program": the decisions of the loop over the drill's calls, which the program asks.
 
+#![tactic(auto)]
+
 ghost use Rattle.std.specs.Prelude.{◌≡◌};
 ghost use Rattle.drill_model.specs.Drill.{call_limit};
 ghost use Rattle.drill_loop.specs.Loop.{goes_on, left_after, LoopsAsDefined};

@@ -1,5 +1,7 @@
 // The functions that carry the theorems about the drill's definitions, which stand in specs/.
 
+#![tactic(auto)]
+
 ghost use Rattle.std.specs.Prelude.{◌≡◌, ◌++◌};
 ghost use Rattle.model.specs.Cases.{Hold};
 ghost use Rattle.drill_model.specs.Drill.{drill_output};

@@ -1,6 +1,8 @@
 // What is written into the runs of words that cross the boundary: the state in one, and a call's two numbers in another.
 // A function that takes a state run has a `requires`: its callers have asked for the length.
 
+#![tactic(auto)]
+
 ghost use Rattle.std.specs.Prelude.{◌≡◌, [], ◌∷◌, ◌++◌, length, take};
 ghost use Rattle.std.proofs.Math.Seq.{paste};
 ghost use Rattle.model.specs.Calls.{reply_of};

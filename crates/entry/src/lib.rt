@@ -2,6 +2,8 @@
 // switches shadow entries.
 // Every function gives what its definition in the model gives; one asks for a kernel entry that is valid.
 
+#![tactic(auto)]
+
 ghost use Rattle.std.specs.Prelude.{◌≡◌, ◌+◌, ◌*◌, ◌%◌, ◌^◌, ◌<◌, true};
 ghost use Rattle.model.specs.Basics.{bit};
 ghost use Rattle.model.specs.Bits.{present, writable, user_bit, no_execute, kernel_no_execute, approved_mark, frame_of, fields_of, valid, taken_apart};

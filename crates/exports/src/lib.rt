@@ -1,6 +1,8 @@
 // The guard's calls for C and Rust: an archive has the exported functions of its own crate alone, so each is handed on here.
 // include/guard.h documents them. Each promises what the crate below it promises.
 
+#![tactic(auto)]
+
 ghost use Rattle.std.specs.Prelude.{◌≡◌};
 ghost use Rattle.model.specs.Guard.{Tables, tables, with_shadow, with_map, with_exclusion, with_three};
 ghost use Rattle.model.specs.Policy.{given_of};

@@ -1,6 +1,8 @@
 // The functions that carry the theorems about every entry, tree and list of devices. Their statements stand in specs/, the laws about the
 // definitions of model in proofs/.
 
+#![tactic(auto)]
+
 ghost use Rattle.laws.specs.Cache.{ApartYields, OrdinaryCarries, StepCarries, StepWrites, SwitchKeeps};
 ghost use Rattle.laws.specs.Trees.{ReadsWithin, TreeAsFlat, TreeRefused};
 ghost use Rattle.laws.specs.Windows.{WindowsIndependent, DevicesKept};

@@ -1,6 +1,8 @@
 // The tests behind question 7, by call, each a function that a call or a crate above can ask: the length of every table that it is lent. `ranges` has the
 // test of the state, which these ask first: F is then known to be in its range, so that the length of a vector can be computed from it.
 
+#![tactic(auto)]
+
 ghost use Rattle.std.specs.Prelude.{◌≡◌, [], ◌∷◌, true, ◌^◌, ◌<◌, eqb};
 ghost use Rattle.model.specs.Guard.{vector_bytes};
 ghost use Rattle.model.specs.Questions.{state_in_order, in_order};

@@ -1,6 +1,8 @@
 // The tests behind questions 8 and 9, each a function that a call or a crate above can ask.
 // Sums of address and length are exact: no test computes one. `last_page` does, once both questions are settled.
 
+#![tactic(auto)]
+
 ghost use Rattle.std.specs.Prelude.{◌≡◌, ◌*◌, ◌≤◌, ◌<◌, ltb, get_or};
 ghost use Rattle.model.specs.Basics;
 ghost use Rattle.model.specs.Basics.{within};

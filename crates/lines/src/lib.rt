@@ -1,6 +1,8 @@
 // The bytes of the drill's lines: numbers in decimal, a call's line, the closing lines.
 // A line is built by value; its room of 96 bytes holds the longest.
 
+#![tactic(auto)]
+
 ghost use Rattle.std.specs.Prelude.{◌+◌, ◌≤◌, ◌<◌, ◌%◌, cond, ◌≡◌, [], ◌∷◌, ◌++◌, take};
 ghost use Rattle.model.specs.Guard.{in_user, running};
 ghost use Rattle.model.specs.Calls.{reply_of};

@@ -2,6 +2,8 @@
 // The definitions themselves stand in specs/, one file for each section of document 01 and for a request that adds to none; those of demand 3, of the
 // drill and of the record that is written (K2) are crates of their own, and so are the laws about the definitions.
 
+#![tactic(auto)]
+
 ghost use Rattle.std.specs.Prelude.{◌++◌};
 ghost use Rattle.model.specs.ApprovalCases.{ask_cases, commit_cases, drop_cases, pending_cases};
 ghost use Rattle.model.specs.Cases.{cases, Hold};
@@ -34,21 +36,21 @@ pub const MOST_TRANSFERRED: u64 = 1048576;
 pub const MOST_DEVICES: usize = 64;
 
 // Document 01, "What the guard keeps": the mode, kernel or user, together with the page now running.
-#[derive(Drop)]
+#[derive(Clone, Copy)]
 pub enum Mode {
     Kernel(u64),
     User(u64),
 }
 
 // Document 02, K6: "the state holds at most one pending pair": the page and the frame of an ask, until it is committed or dropped.
-#[derive(Drop)]
+#[derive(Clone, Copy)]
 pub enum Pending {
     Nothing,
     Pair(u64, u64),
 }
 
 // Document 01, "What the guard keeps": the state. Its numbers have the 64 bits with which they come across the boundary, so that none is cut before question 7.
-#[derive(Drop)]
+#[derive(Clone, Copy)]
 pub struct State {
     // V, the number of virtual pages.
     pub pages: u64,
@@ -66,14 +68,14 @@ pub struct State {
 
 // Document 02, K5: "a list of devices, one record each, with first and last permitted frame". C lays it out as it stands.
 #[repr(C)]
-#[derive(Drop)]
+#[derive(Clone, Copy)]
 pub struct Device {
     pub first: u16,
     pub last: u16,
 }
 
 // Document 01, "Entry bits": the fields of a kernel entry that is present.
-#[derive(Drop)]
+#[derive(Clone, Copy)]
 pub struct Fields {
     pub writable: bool,
     pub user: bool,
@@ -86,21 +88,21 @@ pub struct Fields {
 }
 
 // Document 01, "Entry bits": a kernel entry taken apart.
-#[derive(Drop)]
+#[derive(Clone, Copy)]
 pub enum Entry {
     Absent,
     Present(Fields),
 }
 
 // What a call answers: its two numbers, or the number of the question that refused it.
-#[derive(Drop)]
+#[derive(Clone, Copy)]
 pub enum Answer {
     Done(u64, u64),
     Refused(u64),
 }
 
 // What a call that may change the state gives: its answer, and the state after it.
-#[derive(Drop)]
+#[derive(Clone, Copy)]
 pub struct Called {
     pub answer: Answer,
     pub state: State,

@@ -1,6 +1,8 @@
 // Document 01, "Calls and their two numbers": enter and leave, and the mode switch of the whole shadow table.
 // Each call goes down its questions in order, and switches the mode where none refuses it.
 
+#![tactic(auto)]
+
 ghost use Rattle.std.specs.Prelude.{◌≡◌, true, ◌<◌, length, get_or};
 ghost use Rattle.model.specs.Guard.{Tables, with_shadow, guard_of};
 ghost use Rattle.model.specs.Switch.{switched_all};

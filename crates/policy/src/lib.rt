@@ -2,6 +2,8 @@
 // Every number of the record is taken by a reader that moves on, with no test of the length: the questions before it have settled it. One reader
 // takes the four sizes; a loop goes on from where it stopped, and carries how far the reader has come from number to number.
 
+#![tactic(auto)]
+
 ghost use Rattle.std.specs.Prelude.{◌≡◌, true, ◌+◌, ◌*◌, ◌<◌, ◌≤◌, min, leb, ltb, length};
 ghost use Rattle.model.specs.Basics.{both, within};
 ghost use Rattle.model.specs.Sizes.{pages_in_range, frames_in_range};

@@ -1,5 +1,7 @@
 // The ranges of a state's numbers, each a function that a call or a crate above can ask, and the state in order by them.
 
+#![tactic(auto)]
+
 ghost use Rattle.std.specs.Prelude.{◌≡◌};
 ghost use Rattle.model.specs.Basics;
 ghost use Rattle.model.specs.Basics.{within};

@@ -1,6 +1,8 @@
 // Document 02, K2, "Making the policy at the factory": a policy record written into a lent buffer.
 // All questions come before the first byte is written. Those of the sizes, of one page and of one frame are the policy crate's.
 
+#![tactic(auto)]
+
 ghost use Rattle.std.specs.Prelude.{◌≡◌, true, [], ◌∷◌, ◌+◌, ◌*◌, ◌<◌, ◌≤◌, max, eqb, length};
 ghost use Rattle.std.proofs.lemmas.List.Edits.{sets};
 ghost use Rattle.model.specs.Basics.{both};

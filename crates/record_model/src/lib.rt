@@ -1,5 +1,7 @@
 // The functions that carry the theorems about the record that a call writes (document 02, K2), whose definitions stand in specs/.
 
+#![tactic(auto)]
+
 ghost use Rattle.model.specs.Cases.{Hold};
 ghost use Rattle.record_model.specs.Record.{WrittenStarts, WrittenAgain};
 ghost use Rattle.record_model.specs.RecordCases.{record_cases};

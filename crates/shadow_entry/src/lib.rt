@@ -1,6 +1,8 @@
 // Document 01, "Entry bits", with requests K3 and K6: shadow entries made, and switched from one mode to the other.
 // Every function gives what its definition in the model gives; two ask for a kernel entry that is valid.
 
+#![tactic(auto)]
+
 ghost use Rattle.std.specs.Prelude.{◌≡◌, true, cond, not, ◌/◌, ◌^◌, ◌≤◌};
 ghost use Rattle.std.specs.Int.Bits.{bit_xor};
 ghost use Rattle.model.specs.Basics.{differs, flag};

@@ -1,5 +1,7 @@
 // The share of excluded frames that the drill prints.
 
+#![tactic(auto)]
+
 ghost use Rattle.std.specs.Prelude.{◌*◌, ◌≤◌, cond, ◌≡◌};
 ghost use Rattle.model.specs.Guard.{has_bit};
 ghost use Rattle.drill_model.specs.Drill.{count_from, nearest, share};

@@ -1,6 +1,8 @@
 // Document 01, "The policy record": the start. It asks questions 1 to 7, sets every table and answers the first state.
 // Each loop is a function, and the record is read through the policy crate's reader alone.
 
+#![tactic(auto)]
+
 ghost use Rattle.std.specs.Prelude.{◌≡◌, true, ◌+◌, ◌*◌, ◌≤◌, length, take, replicate};
 ghost use Rattle.model.specs.Guard.{none, tables, vector_bytes};
 ghost use Rattle.model.specs.Policy.{given_of, number_at, numbers_at, policy_of, start_tables};

@@ -1,5 +1,7 @@
 // The mode of a state and its pending pair, read and set, and a refused answer with a state as it was.
 
+#![tactic(auto)]
+
 ghost use Rattle.std.specs.Prelude.{◌≡◌};
 ghost use Rattle.model.specs.declared.Answer.TheVariants.{Refused};
 ghost use Rattle.model.specs.Guard;

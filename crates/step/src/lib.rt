@@ -1,6 +1,8 @@
 // Document 01, "Synchronising one page": steps 1 to 5 on a page's kernel entry, stored in both tables and counted. They read an entry and no kernel table,
 // so that every synchronisation has them in common. Document 02, K6: what a commit makes of a page, stored and counted in the same way.
 
+#![tactic(auto)]
+
 ghost use Rattle.std.specs.Prelude.{◌≡◌, true, false, ◌+◌, ◌^◌, ◌<◌, ◌≤◌, length, get_or, set};
 ghost use Rattle.model.specs.Basics.{differs};
 ghost use Rattle.model.specs.Guard.{none, vector_bytes};

@@ -1,5 +1,7 @@
 // Document 01, "Synchronising one page", and the same for all pages of a flat table. The step of a page is `step`'s.
 
+#![tactic(auto)]
+
 ghost use Rattle.std.specs.Prelude.{◌≡◌, true, ◌≤◌, length};
 ghost use Rattle.model.specs.Guard.{Tables, with_three, guard_of, vector_bytes};
 ghost use Rattle.model.specs.Sync.{sweep, sweep_from, entry_in, step_from};

@@ -1,6 +1,8 @@
 // Document 02, K4: synchronising one page, and all pages, from a tree. The step of a page is `step`'s, and the loop goes over a run of pages: the 512 that
 // share every entry above level 1.
 
+#![tactic(auto)]
+
 ghost use Rattle.std.specs.Prelude.{◌≡◌, true, ◌+◌, ◌-◌, ◌%◌, ◌<◌, ◌≤◌, length};
 ghost use Rattle.model.specs.Bits.{taken_apart};
 ghost use Rattle.model.specs.Guard.{Tables, with_three, guard_of, vector_bytes};

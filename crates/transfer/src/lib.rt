@@ -1,6 +1,8 @@
 // Document 01, "Calls and their two numbers": device write (K5). It goes down its questions in order, and answers its first and last frame
 // where none refuses it.
 
+#![tactic(auto)]
+
 ghost use Rattle.std.specs.Prelude.{◌≡◌, List, ◌≤◌, ◌<◌};
 ghost use lib.ListN.{length};
 ghost use Rattle.model.specs.Basics;

@@ -1,6 +1,8 @@
 // Document 02, K4: the walk of a page down a tree of tables.
 // The 512 pages that differ in page bits 0 to 8 alone share every entry above level 1: the walk down to there serves them all.
 
+#![tactic(auto)]
+
 ghost use Rattle.std.specs.Prelude.{◌≡◌, true, ℕ, ◌+◌, ◌-◌, ◌*◌, ◌/◌, ◌%◌, ◌^◌, ◌≤◌, ◌<◌, ltb, length};
 ghost use Rattle.model.specs.Bits.{valid, taken_apart};
 ghost use Rattle.model.specs.declared.Answer.TheVariants.{Done};

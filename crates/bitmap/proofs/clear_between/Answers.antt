@@ -1,0 +1,7 @@
+-- `bitmap::clear_between` meets its contract.
+use Rattle.bitmap.proofs.RangeLaws.{clear-part}
+use borrow.Author.Rules.{rules}
+use Rattle.bitmap.proofs.clear_between.Goals as goal
+
+pub returns : goal.returns
+returns c = clear-part _ _ _ _ c.clear-up-to.ensures

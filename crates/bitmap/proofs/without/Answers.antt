@@ -1,0 +1,10 @@
+-- Two laws of a byte and a bit.
+use Rattle.bitmap.proofs.BitmapLaws.{without-fits, without_is}
+use borrow.Author.Rules.{rules}
+use Rattle.bitmap.proofs.without.Goals as goal
+
+pub overflow-sub-result : goal.overflow-sub-result
+overflow-sub-result c = search (rules, without-fits)
+
+pub returns : goal.returns
+returns c = search (rules, without_is)

@@ -1,0 +1,13 @@
+-- `boundary::write` meets its contract.
+use borrow.Author.Rules.{rules}
+use Rattle.boundary.proofs.BoundaryLaws.{unused, run-used, write_kept}
+use Rattle.boundary.proofs.write.Goals as goal
+
+pub returns : goal.returns
+returns c = search (rules, unused)
+
+pub state-in-requires : goal.state-in-requires
+state-in-requires c = search (rules, run-used)
+
+pub returns-2 : goal.returns-2
+returns-2 c = search (rules, write_kept)

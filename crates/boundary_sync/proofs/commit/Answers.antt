@@ -1,0 +1,17 @@
+-- `boundary_sync::commit` meets its contract.
+use Rattle.boundary.proofs.BoundaryLaws.{unused, run-used}
+use Rattle.boundary_sync.proofs.SyncLaws.{commit-called}
+use borrow.Author.Rules.{rules}
+use Rattle.boundary_sync.proofs.commit.Goals as goal
+
+pub returns : goal.returns
+returns c = search (rules, unused)
+
+pub state-in-requires : goal.state-in-requires
+state-in-requires c = search (rules, run-used)
+
+pub put-paired-requires : goal.put-paired-requires
+put-paired-requires c = search (rules, run-used)
+
+pub returns-2 : goal.returns-2
+returns-2 c = search (rules, commit-called)

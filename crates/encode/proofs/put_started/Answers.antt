@@ -1,0 +1,13 @@
+-- `encode::put_started` meets its contract.
+use borrow.Author.Rules.{rules}
+use Rattle.boundary_model.specs.Words.{run_started}
+use Rattle.encode.proofs.SettleLaws.{settled-accepted, settled-refused}
+use Rattle.encode.proofs.put_started.Goals as goal
+
+pub returns : goal.returns
+unfolding run_started
+returns c = search (rules, settled-accepted)
+
+pub returns-2 : goal.returns-2
+unfolding run_started
+returns-2 c = search (rules, settled-refused)

@@ -1,0 +1,6 @@
+-- `limits::entry_exists` meets its contract.
+use borrow.Author.Rules.{rules}
+use Rattle.limits.proofs.entry_exists.Goals as goal
+
+pub returns : goal.returns
+returns c = cc

@@ -1,0 +1,16 @@
+-- `limits::last_page` meets its contract.
+use native.Mathlib.Omega.{arith}
+use mathlib.Core.Path.{refl}
+use Rattle.model.specs.Sizes.{last_byte, last_page}
+use Rattle.limits.proofs.last_page.Goals as goal
+
+pub overflow-add-result : goal.overflow-add-result
+unfolding last_page last_byte
+overflow-add-result c = omega arith
+
+pub overflow-sub-result : goal.overflow-sub-result
+overflow-sub-result c = omega arith
+
+pub returns : goal.returns
+unfolding last_page last_byte
+returns c = refl

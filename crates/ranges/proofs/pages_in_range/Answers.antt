@@ -1,0 +1,8 @@
+-- `ranges::pages_in_range` meets its contract.
+use Rattle.model.specs.Sizes.{pages_in_range}
+use borrow.Author.Rules.{rules}
+use Rattle.ranges.proofs.pages_in_range.Goals as goal
+
+pub returns : goal.returns
+unfolding pages_in_range
+returns c = c.in-range.ensures

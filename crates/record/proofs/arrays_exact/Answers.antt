@@ -1,0 +1,5 @@
+use borrow.Author.Rules.{rules}
+use Rattle.record.proofs.arrays_exact.Goals as goal
+
+pub returns : goal.returns
+returns c = cc

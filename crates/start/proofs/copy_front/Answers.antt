@@ -1,0 +1,14 @@
+-- The places passed hold the bytes read, and the others what they held.
+use Prim.Native.Nat.{◌-◌, ◌≤◌}
+use mathlib.Core.List.{◌++◌}
+use mathlib.Core.Path.{◌≡◌}
+use lib.ListN.{length, take, drop}
+use borrow.Author.Rules.{rules}
+use Rattle.start.proofs.LoopLaws.{copy_step, copy-ends}
+use Rattle.start.proofs.copy_front.Goals as goal
+
+pub loop-preserved : goal.loop-preserved
+loop-preserved c = search (rules, copy_step)
+
+pub returns : goal.returns
+returns c = search (rules, copy-ends)

@@ -1,0 +1,40 @@
+-- The places that are left are set as all of them were to be, the frames that are left are excluded so too, and every one is inside its table.
+use Prim.Native.Nat.{◌+◌, ◌*◌}
+use mathlib.Core.Bool.{true}
+use mathlib.Core.Path.{◌≡◌}
+use lib.ListN.{length}
+use borrow.Author.Rules.{rules}
+use Rattle.model.specs.Policy.{numbers_at}
+use Rattle.model.specs.Questions.{all_below}
+use Rattle.start.specs.Start.{stored_each, approved_each, with_each}
+use Rattle.start.proofs.LoopLaws.{page-inside, pages-inside, frame-inside, listed-map, listed-shadow, listed-end, gather-step, gather-ends}
+use Rattle.start.proofs.set_listed.Goals as goal
+
+pub loop-init : goal.loop-init
+loop-init c = (search rules, search rules, search rules, search rules, search rules, cc, cc, cc, cc, cc)
+
+pub slice-write-shadow : goal.slice-write-shadow
+slice-write-shadow c = search (rules, page-inside)
+
+pub slice-write-map : goal.slice-write-map
+slice-write-map c = search (rules, page-inside)
+
+pub set-bit-within-requires : goal.set-bit-within-requires
+set-bit-within-requires c = search (rules, frame-inside)
+
+pub loop-preserved : goal.loop-preserved
+loop-preserved c = (
+  search rules,
+  search rules,
+  search rules,
+  search rules,
+  search rules,
+  search (rules, pages-inside),
+  search (rules, pages-inside),
+  search (rules, listed-shadow),
+  search (rules, listed-map),
+  search (rules, gather-step),
+)
+
+pub returns : goal.returns
+returns c = search (rules, listed-end, gather-ends)

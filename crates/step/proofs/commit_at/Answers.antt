@@ -1,0 +1,14 @@
+-- The page's entry has not the frame, or it has a number, and it stays; or it is approved.
+use native.Mathlib.Omega.{arith}
+use Rattle.step.proofs.StepLaws.{commit-numbered, commit-left, commit-joins}
+use borrow.Author.Rules.{rules}
+use Rattle.step.proofs.commit_at.Goals as goal
+
+pub returns : goal.returns
+returns c = (search (rules, commit-left), omega arith, omega arith)
+
+pub returns-2 : goal.returns-2
+returns-2 c = (search (rules, commit-numbered), omega arith, omega arith)
+
+pub returns-3 : goal.returns-3
+returns-3 c = search (rules, commit-joins)

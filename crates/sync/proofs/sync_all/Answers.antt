@@ -1,0 +1,13 @@
+-- Question 7 refuses, or the three tables have one length and the vector its own.
+use Rattle.sync.proofs.FlatLaws.{all-refused, flat-covers, flat_map, flat-vector, flat-few, all-accepted}
+use borrow.Author.Rules.{rules}
+use Rattle.sync.proofs.sync_all.Goals as goal
+
+pub returns : goal.returns
+returns c = search (rules, all-refused)
+
+pub sync-flat-requires : goal.sync-flat-requires
+sync-flat-requires c = (search flat-covers, search flat_map, search flat-vector, search flat-few)
+
+pub returns-2 : goal.returns-2
+returns-2 c = search (rules, all-accepted)

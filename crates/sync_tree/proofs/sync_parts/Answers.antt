@@ -1,0 +1,56 @@
+-- Before a part the tables and counts, with the run over what is left, are the run over all pages.
+use Prim.Native.Nat.{◌≤◌, ◌<◌, ◌-◌, ◌%◌}
+use mathlib.Core.Path.{◌≡◌, refl}
+use native.Mathlib.Omega.{arith}
+use lib.ListN.{length}
+use Rattle.model.specs.Tree.{tree_of, flat_at}
+use Rattle.model.specs.Sync.{sweep, step_from}
+use Rattle.sync_tree.specs.Runs.{rules_in, swept_from}
+use Rattle.sync_tree.proofs.SourceLaws.{parts_more, parts-over}
+use borrow.Author.Rules.{rules}
+use Rattle.sync_tree.proofs.sync_parts.Goals as goal
+
+pub loop-init : goal.loop-init
+loop-init c = (omega arith, refl, search rules, omega arith, omega arith, λ l. refl, refl)
+
+pub part-end-requires : goal.part-end-requires
+part-end-requires c = search rules
+
+pub part-of-requires : goal.part-of-requires
+part-of-requires c = search rules
+
+pub sync-part-requires : goal.sync-part-requires
+sync-part-requires c =
+    let inv = c.loop.invariant in
+    let end = c.part-end.ensures in
+    let part = c.part_of.ensures in
+    let begins = inv.5 (omega (arith, inv)) in
+    (omega (arith, end), omega (arith, end, inv), omega (arith, inv), omega (arith, inv), omega (arith, inv), search rules, begins, omega (arith, end), part.0, search rules)
+
+pub loop-smaller : goal.loop-smaller
+loop-smaller c = let end = c.part-end.ensures in omega (arith, end)
+
+pub loop-preserved : goal.loop-preserved
+loop-preserved c =
+    let inv = c.loop.invariant in
+    let end = c.part-end.ensures in
+    let begins = inv.5 (omega (arith, inv, c.loop-test.true)) in
+    let run = c.sync-part.ensures in (
+      omega (arith, end),
+      omega arith,
+      omega arith,
+      run.1,
+      run.2,
+      λ l. (let at = end.3 (omega (arith, inv, l)) in omega (arith, at, begins)),
+      parts_more _ _ _ _ _ _ _ _ _ _ inv.6 (omega (arith, end)) (omega (arith, end, inv)) (omega (arith, end)) begins
+          c.part_of.ensures.1 run.0,
+    )
+
+pub same-length : goal.same-length
+same-length c = search rules
+
+pub same-length-2 : goal.same-length-2
+same-length-2 c = search rules
+
+pub returns : goal.returns
+returns c = parts-over _ _ _ _ _ _ _ _ _ c.loop.invariant.6 (omega arith) (search rules)
