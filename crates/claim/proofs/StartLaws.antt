@@ -40,10 +40,12 @@ frame_for-listed (p ∷ ps) (f ∷ fs) page other same listed =
     here r (inl e) = member-here r f fs e
     here r (inr m) = member-later r f fs m
 
-    at : (b : Bool) → eqb page p ≡ b → (member page ps ≡ true → member (frame_for ps fs page other) fs ≡ true)
-        → member (frame_for ps fs page (cond (eqb page p) f other)) (f ∷ fs) ≡ true
-    at true e rest = rw e (here (frame_for ps fs page f) (frame_for-member ps fs page f))
-    at false e rest = rw e (member-later (frame_for ps fs page other) f fs (rest (sym (member-there page p ps e) ∙ listed)))
+    given : Bool → Type 0
+    given b = member (frame_for ps fs page (cond b f other)) (f ∷ fs) ≡ true
+
+    at : (b : Bool) → eqb page p ≡ b → (member page ps ≡ true → member (frame_for ps fs page other) fs ≡ true) → given (eqb page p)
+    at true e rest = subst given (sym e) (here (frame_for ps fs page f) (frame_for-member ps fs page f))
+    at false e rest = subst given (sym e) (member-later (frame_for ps fs page other) f fs (rest (sym (member-there page p ps e) ∙ listed)))
 
 -- A page below all that a rising array still lists is not listed there.
 rising-unlisted : (pages least : ℕ) (ps : List ℕ) (page : ℕ) → rising pages least ps ≡ true → page < least → member page ps ≡ false

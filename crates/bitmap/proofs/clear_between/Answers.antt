@@ -4,4 +4,4 @@ use borrow.Author.Rules.{rules}
 use Rattle.bitmap.proofs.clear_between.Goals as goal
 
 pub returns : goal.returns
-returns c = clear-part _ _ _ _ c.clear-up-to.ensures
+returns c = clear-part _ _ _ _ c.clear_up_to.ensures

@@ -6,21 +6,21 @@ use Rattle.bitmap.proofs.RangeLaws.{free_from, rest_clear, rest-start, rest_more
 use borrow.Author.Rules.{rules}
 use Rattle.bitmap.proofs.clear_bytes.Goals as goal
 
-pub loop-init : goal.loop-init
-loop-init c = (rest-start _ _ _, omega arith)
+pub loop-i-init : goal.loop-i-init
+loop-i-init c = (rest-start _ _ _, omega arith)
 
-pub shared-slice-read-all : goal.shared-slice-read-all
-shared-slice-read-all c = omega arith
+pub bounds-exclusion-i : goal.bounds-exclusion-i
+bounds-exclusion-i c = omega arith
 
-pub overflow-add-i : goal.overflow-add-i
-overflow-add-i c = omega arith
+pub overflow_add-i : goal.overflow_add-i
+overflow_add-i c = omega arith
 
-pub loop-smaller : goal.loop-smaller
-loop-smaller c = omega arith
+pub loop-i-smaller : goal.loop-i-smaller
+loop-i-smaller c = omega arith
 
-pub loop-preserved : goal.loop-preserved
-loop-preserved c =
-    (rest_more _ _ _ c.loop.i c.loop.all c.loop.invariant.0 c.loop-test.true (c.shared-slice-known.given _).fits, omega arith)
+pub loop-i-preserved : goal.loop-i-preserved
+loop-i-preserved c =
+    (rest_more _ _ _ c.loop-i.i c.loop-i.all c.loop-i.invariant.0 c.loop-i-test.true (c.shared_slice_known-1.given _).fits, omega arith)
 
 pub returns : goal.returns
 returns c = search (rules, rest_over)

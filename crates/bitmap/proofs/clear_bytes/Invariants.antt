@@ -5,8 +5,8 @@ use Rattle.bitmap.proofs.RangeLaws.{free_from, rest_clear, rest-start, rest_more
 use borrow.Author.Rules.{rules}
 use Rattle.bitmap.proofs.clear_bytes.Given as goal
 
-abbrev pub invariant-loop : goal.invariant-loop
-invariant-loop exclusion from to all₀ i₀ all i = (rest_clear exclusion to i all ≡ free_from exclusion (from * 8) ((to - from) * 8)) × (i ≤ to)
+abbrev pub invariant-loop-i : goal.invariant-loop-i
+invariant-loop-i l = (rest_clear l.exclusion l.to l.i l.all ≡ free_from l.exclusion (l.from * 8) ((l.to - l.from) * 8)) × (l.i ≤ l.to)
 
-abbrev pub decreases-loop : goal.decreases-loop
-decreases-loop exclusion from to all₀ i₀ all i = to - i
+abbrev pub decreases-loop-i : goal.decreases-loop-i
+decreases-loop-i l = l.to - l.i

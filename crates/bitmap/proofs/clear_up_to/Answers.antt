@@ -3,8 +3,8 @@ use Rattle.bitmap.proofs.RangeLaws.{weight-positive, clear-below}
 use borrow.Author.Rules.{rules}
 use Rattle.bitmap.proofs.clear_up_to.Goals as goal
 
-pub nonzero-rem-result : goal.nonzero-rem-result
-nonzero-rem-result c = search (rules, weight-positive)
+pub nonzero_rem-result : goal.nonzero_rem-result
+nonzero_rem-result c = search (rules, weight-positive)
 
 pub returns : goal.returns
 returns c = search (rules, clear-below)

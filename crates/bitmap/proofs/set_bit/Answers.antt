@@ -3,5 +3,5 @@ use Rattle.bitmap.proofs.BitmapLaws.{set-bit-past}
 use borrow.Author.Rules.{rules}
 use Rattle.bitmap.proofs.set_bit.Goals as goal
 
-pub returns-2 : goal.returns-2
-returns-2 c = search (rules, set-bit-past)
+pub returns-else-at-exclusion : goal.returns-else-at-exclusion
+returns-else-at-exclusion c = search (rules, set-bit-past)

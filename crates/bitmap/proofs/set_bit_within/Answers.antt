@@ -4,4 +4,4 @@ use borrow.Author.Rules.{rules}
 use Rattle.bitmap.proofs.set_bit_within.Goals as goal
 
 pub returns : goal.returns
-returns c = set-bit-in _ _ (c.slice-known.given _).fits
+returns c = set-bit-in _ _ (c.slice_known-1.given _).fits

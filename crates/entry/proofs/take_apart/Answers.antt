@@ -3,11 +3,11 @@ use Rattle.entry.proofs.ApartLaws.{valid-yes, apart-present, apart-absent}
 use Rattle.std.proofs.Common.{rules}
 use Rattle.entry.proofs.take_apart.Goals as goal
 
-pub fields-of-requires : goal.fields-of-requires
-fields-of-requires c = search (rules, valid-yes)
+pub fields_of-requires : goal.fields_of-requires
+fields_of-requires c = search (rules, valid-yes)
 
-pub returns : goal.returns
-returns c = search (rules, apart-present)
+pub returns-then-valid : goal.returns-then-valid
+returns-then-valid c = search (rules, apart-present)
 
-pub returns-2 : goal.returns-2
-returns-2 c = search (rules, apart-absent)
+pub returns-else-valid : goal.returns-else-valid
+returns-else-valid c = search (rules, apart-absent)

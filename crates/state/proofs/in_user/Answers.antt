@@ -3,10 +3,10 @@ use Rattle.model.specs.Guard.{in_user}
 use borrow.Author.Rules.{rules}
 use Rattle.state.proofs.in_user.Goals as goal
 
-pub returns : goal.returns
+pub returns-in-Kernel : goal.returns-in-Kernel
 unfolding in_user
-returns c = cc
+returns-in-Kernel c = cc
 
-pub returns-2 : goal.returns-2
+pub returns-in-User : goal.returns-in-User
 unfolding in_user
-returns-2 c = cc
+returns-in-User c = cc

@@ -3,10 +3,10 @@ use Rattle.model.specs.Guard.{pending_frame}
 use borrow.Author.Rules.{rules}
 use Rattle.state.proofs.pending_frame.Goals as goal
 
-pub returns : goal.returns
+pub returns-in-Nothing : goal.returns-in-Nothing
 unfolding pending_frame
-returns c = cc
+returns-in-Nothing c = cc
 
-pub returns-2 : goal.returns-2
+pub returns-in-Pair : goal.returns-in-Pair
 unfolding pending_frame
-returns-2 c = cc
+returns-in-Pair c = cc

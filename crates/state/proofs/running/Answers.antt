@@ -3,10 +3,10 @@ use Rattle.model.specs.Guard.{running}
 use borrow.Author.Rules.{rules}
 use Rattle.state.proofs.running.Goals as goal
 
-pub returns : goal.returns
+pub returns-in-Kernel : goal.returns-in-Kernel
 unfolding running
-returns c = cc
+returns-in-Kernel c = cc
 
-pub returns-2 : goal.returns-2
+pub returns-in-User : goal.returns-in-User
 unfolding running
-returns-2 c = cc
+returns-in-User c = cc
