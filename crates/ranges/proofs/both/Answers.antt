@@ -2,10 +2,10 @@
 use Rattle.ranges.proofs.both.Goals as goal
 use Rattle.model.specs.Basics.{both}
 
-pub returns : goal.returns
+pub returns-then-a : goal.returns-then-a
 unfolding both
-returns c = rw c.if1.taken
+returns-then-a c = rw c.if-a.true
 
-pub returns-2 : goal.returns-2
+pub returns-else-a : goal.returns-else-a
 unfolding both
-returns-2 c = rw c.if1.left
+returns-else-a c = rw c.if-a.false

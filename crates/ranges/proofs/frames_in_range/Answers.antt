@@ -5,4 +5,4 @@ use Rattle.ranges.proofs.frames_in_range.Goals as goal
 
 pub returns : goal.returns
 unfolding frames_in_range
-returns c = c.in-range.ensures
+returns c = c.in_range.ensures

@@ -3,10 +3,10 @@ use Rattle.model.specs.Questions.{pending_in_range}
 use borrow.Author.Rules.{rules}
 use Rattle.ranges.proofs.pending_in_range.Goals as goal
 
-pub returns : goal.returns
+pub returns-in-Nothing : goal.returns-in-Nothing
 unfolding pending_in_range
-returns c = cc
+returns-in-Nothing c = cc
 
-pub returns-2 : goal.returns-2
+pub returns-in-Pair : goal.returns-in-Pair
 unfolding pending_in_range
-returns-2 c = cc
+returns-in-Pair c = cc

@@ -3,8 +3,8 @@ use Rattle.shadow_entry.proofs.SwitchLaws.{executable-user, executable-kernel}
 use borrow.Author.Rules.{rules}
 use Rattle.shadow_entry.proofs.executable.Goals as goal
 
-pub returns : goal.returns
-returns c = search (rules, executable-user)
+pub returns-then-user : goal.returns-then-user
+returns-then-user c = search (rules, executable-user)
 
-pub returns-2 : goal.returns-2
-returns-2 c = search (rules, executable-kernel)
+pub returns-else-user : goal.returns-else-user
+returns-else-user c = search (rules, executable-kernel)

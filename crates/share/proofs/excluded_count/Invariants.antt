@@ -7,9 +7,9 @@ use Rattle.drill_model.specs.Drill.{count_from}
 use Rattle.share.proofs.CountLaws.{count-begins, count-more, count-over}
 use Rattle.share.proofs.excluded_count.Given as goal
 
-abbrev pub invariant-loop : goal.invariant-loop
-invariant-loop frames exclusion count₀ frame₀ end count frame =
-    (count + count_from (has_bit exclusion) frame (end - frame) ≡ count_from (has_bit exclusion) 0 end) × (frame ≤ end) × (count ≤ frame)
+abbrev pub invariant-loop-frame : goal.invariant-loop-frame
+invariant-loop-frame l =
+    (l.count + count_from (has_bit l.exclusion) l.frame (l.end - l.frame) ≡ count_from (has_bit l.exclusion) 0 l.end) × (l.frame ≤ l.end) × (l.count ≤ l.frame)
 
-abbrev pub decreases-loop : goal.decreases-loop
-decreases-loop frames exclusion count₀ frame₀ end count frame = end - frame
+abbrev pub decreases-loop-frame : goal.decreases-loop-frame
+decreases-loop-frame l = l.end - l.frame

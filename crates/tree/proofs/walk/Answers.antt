@@ -3,31 +3,31 @@ use Rattle.tree.proofs.OrderLaws.{walk-7, walk-17, third-depth, order-by, walk-b
 use borrow.Author.Rules.{rules}
 use Rattle.tree.proofs.walk.Goals as goal
 
+pub returns-then-not-numbers_fit : goal.returns-then-not-numbers_fit
+returns-then-not-numbers_fit c = search (rules, walk-7)
+
+pub returns-then-not-in_order : goal.returns-then-not-in_order
+returns-then-not-in_order c = search (rules, walk-17)
+
+pub walk_down-requires : goal.walk_down-requires
+walk_down-requires c = order-by _ _ _ _ c.in_order.ensures c.if-not-in_order.false _ c.if-depth-eq1.true
+
+pub returns-then-depth-eq1 : goal.returns-then-depth-eq1
+returns-then-depth-eq1 c = walk-by _ _ _ _ c.in_order.ensures c.if-not-in_order.false _ _ _
+    c.if-not-numbers_fit.false c.if-depth-eq1.true _ c.walk_down.ensures
+
+pub walk_down-requires-then-depth-eq2 : goal.walk_down-requires-then-depth-eq2
+walk_down-requires-then-depth-eq2 c = order-by _ _ _ _ c.in_order.ensures c.if-not-in_order.false _ c.if-depth-eq2.true
+
+pub returns-then-depth-eq2 : goal.returns-then-depth-eq2
+returns-then-depth-eq2 c = walk-by _ _ _ _ c.in_order.ensures c.if-not-in_order.false _ _ _
+    c.if-not-numbers_fit.false c.if-depth-eq2.true _ c.walk_down-then-depth-eq2.ensures
+
+pub walk_down-requires-2 : goal.walk_down-requires-2
+walk_down-requires-2 c = order-by _ _ _ _ c.in_order.ensures c.if-not-in_order.false _
+    (third-depth _ _ _ _ c.in_order.ensures c.if-not-in_order.false c.if-depth-eq1.false c.if-depth-eq2.false)
+
 pub returns : goal.returns
-returns c = search (rules, walk-7)
-
-pub returns-2 : goal.returns-2
-returns-2 c = search (rules, walk-17)
-
-pub walk-down-requires : goal.walk-down-requires
-walk-down-requires c = order-by _ _ _ _ c.in_order.ensures c.if2.false _ c.if3.true
-
-pub returns-3 : goal.returns-3
-returns-3 c = walk-by _ _ _ _ c.in_order.ensures c.if2.false _ _ _
-    c.if1.false c.if3.true _ c.walk-down.ensures
-
-pub walk-down-requires-2 : goal.walk-down-requires-2
-walk-down-requires-2 c = order-by _ _ _ _ c.in_order.ensures c.if2.false _ c.if4.true
-
-pub returns-4 : goal.returns-4
-returns-4 c = walk-by _ _ _ _ c.in_order.ensures c.if2.false _ _ _
-    c.if1.false c.if4.true _ c.walk-down2.ensures
-
-pub walk-down-requires-3 : goal.walk-down-requires-3
-walk-down-requires-3 c = order-by _ _ _ _ c.in_order.ensures c.if2.false _
-    (third-depth _ _ _ _ c.in_order.ensures c.if2.false c.if3.false c.if4.false)
-
-pub returns-5 : goal.returns-5
-returns-5 c = walk-by _ _ _ _ c.in_order.ensures c.if2.false _ _ _
-    c.if1.false (third-depth _ _ _ _ c.in_order.ensures
-    c.if2.false c.if3.false c.if4.false) _ c.walk-down3.ensures
+returns c = walk-by _ _ _ _ c.in_order.ensures c.if-not-in_order.false _ _ _
+    c.if-not-numbers_fit.false (third-depth _ _ _ _ c.in_order.ensures
+    c.if-not-in_order.false c.if-depth-eq1.false c.if-depth-eq2.false) _ c.walk_down-2.ensures

@@ -7,20 +7,20 @@ use Rattle.tree.proofs.word_at.Goals as goal
 pub reaches-requires : goal.reaches-requires
 reaches-requires c = depth-most _ _ _ c.requires
 
-pub returns : goal.returns
-returns c = none_apart _ _ _ _ (depth-most _ _ _ c.requires) _ c.reaches.ensures c.if1.true
+pub returns-then-not-reaches : goal.returns-then-not-reaches
+returns-then-not-reaches c = none_apart _ _ _ _ (depth-most _ _ _ c.requires) _ c.reaches.ensures c.if-not-reaches.true
 
-pub overflow-cast-walk-from : goal.overflow-cast-walk-from
-overflow-cast-walk-from c = omega (arith, depth-most _ _ _ c.requires)
+pub overflow_cast-depth : goal.overflow_cast-depth
+overflow_cast-depth c = omega (arith, depth-most _ _ _ c.requires)
 
-pub walk-from-requires : goal.walk-from-requires
-walk-from-requires c = (
+pub walk_from-requires : goal.walk_from-requires
+walk_from-requires c = (
   depth-least _ _ _ c.requires,
   omega
       (arith, depth-most _ _ _ c.requires),
   omega arith,
 )
 
-pub returns-2 : goal.returns-2
-returns-2 c = word-apart _ _ _ _ (depth-most _ _ _ c.requires) _ c.reaches.ensures
-    c.if1.false _ c.walk_from.ensures
+pub returns : goal.returns
+returns c = word-apart _ _ _ _ (depth-most _ _ _ c.requires) _ c.reaches.ensures
+    c.if-not-reaches.false _ c.walk_from.ensures
