@@ -9,32 +9,32 @@ use Rattle.decode.proofs.WordLaws.{entries-more, entries_over}
 use borrow.Author.Rules.{rules}
 use Rattle.decode.proofs.entry_pages.Goals as goal
 
-pub loop-init : goal.loop-init
-loop-init c = (search rules, refl, below_none _)
+pub loop-i-init : goal.loop-i-init
+loop-i-init c = (search rules, refl, below_none _)
 
-pub overflow-add-entry : goal.overflow-add-entry
-overflow-add-entry c = omega arith
+pub overflow_add-entry : goal.overflow_add-entry
+overflow_add-entry c = omega arith
 
-pub overflow-mul-entry : goal.overflow-mul-entry
-overflow-mul-entry c = omega arith
+pub offset_bounds-run-i : goal.offset_bounds-run-i
+offset_bounds-run-i c = omega arith
 
-pub shared-slice-read-entry : goal.shared-slice-read-entry
-shared-slice-read-entry c = omega arith
+pub bounds-run-i : goal.bounds-run-i
+bounds-run-i c = omega arith
 
-pub overflow-mul-entry-2 : goal.overflow-mul-entry-2
-overflow-mul-entry-2 c = omega arith
+pub offset_bounds-entry-i : goal.offset_bounds-entry-i
+offset_bounds-entry-i c = omega arith
 
-pub array-write-entry : goal.array-write-entry
-array-write-entry c = search rules
+pub bounds-entry-i : goal.bounds-entry-i
+bounds-entry-i c = search rules
 
-pub overflow-add-i : goal.overflow-add-i
-overflow-add-i c = omega arith
+pub overflow_add-i : goal.overflow_add-i
+overflow_add-i c = omega arith
 
-pub loop-smaller : goal.loop-smaller
-loop-smaller c = omega arith
+pub loop-i-smaller : goal.loop-i-smaller
+loop-i-smaller c = omega arith
 
-pub loop-preserved : goal.loop-preserved
-loop-preserved c = (omega arith, simp length-set c.loop.invariant.1, search (rules, entries-more))
+pub loop-i-preserved : goal.loop-i-preserved
+loop-i-preserved c = (omega arith, simp length-set c.loop-i.invariant.1, search (rules, entries-more))
 
 pub returns : goal.returns
 returns c = search (rules, entries_over)

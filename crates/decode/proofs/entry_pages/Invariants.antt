@@ -8,9 +8,9 @@ use Rattle.decode.proofs.WordLaws.{entries-more, entries_over}
 use borrow.Author.Rules.{rules}
 use Rattle.decode.proofs.entry_pages.Given as goal
 
-abbrev pub invariant-loop : goal.invariant-loop
-invariant-loop run entry₀ i₀ entry i =
-    (i ≤ entry_words) × (length entry ≡ entry_words) × ((k : ℕ) → k < i → get_or entry k 0 ≡ get_or run (entry_pages_at + k) 0)
+abbrev pub invariant-loop-i : goal.invariant-loop-i
+invariant-loop-i l =
+    (l.i ≤ entry_words) × (length l.entry ≡ entry_words) × ((k : ℕ) → k < l.i → get_or l.entry k 0 ≡ get_or l.run (entry_pages_at + k) 0)
 
-abbrev pub decreases-loop : goal.decreases-loop
-decreases-loop run entry₀ i₀ entry i = entry_words - i
+abbrev pub decreases-loop-i : goal.decreases-loop-i
+decreases-loop-i l = entry_words - l.i

@@ -3,8 +3,8 @@ use Rattle.decode.proofs.WordLaws.{pair_read, nothing_read}
 use borrow.Author.Rules.{rules}
 use Rattle.decode.proofs.pending_in.Goals as goal
 
-pub returns : goal.returns
-returns c = search (rules, pair_read)
+pub returns-then-run-eq-PENDING : goal.returns-then-run-eq-PENDING
+returns-then-run-eq-PENDING c = search (rules, pair_read)
 
-pub returns-2 : goal.returns-2
-returns-2 c = search (rules, nothing_read)
+pub returns-else-run-eq-PENDING : goal.returns-else-run-eq-PENDING
+returns-else-run-eq-PENDING c = search (rules, nothing_read)

@@ -9,32 +9,32 @@ use Rattle.encode.proofs.RunLaws.{paste_more, paste-over}
 use borrow.Author.Rules.{rules}
 use Rattle.encode.proofs.put_entry_pages.Goals as goal
 
-pub loop-init : goal.loop-init
-loop-init c = (search rules, refl, paste-zero c.args.run.now entry_pages_at c.args.t2)
+pub loop-i-init : goal.loop-i-init
+loop-i-init c = (search rules, refl, paste-zero c.args.run.now entry_pages_at c.args.t2)
 
-pub overflow-mul-run : goal.overflow-mul-run
-overflow-mul-run c = omega arith
+pub offset_bounds-entry-i : goal.offset_bounds-entry-i
+offset_bounds-entry-i c = omega arith
 
-pub array-read-run : goal.array-read-run
-array-read-run c = search rules
+pub bounds-entry-i : goal.bounds-entry-i
+bounds-entry-i c = search rules
 
-pub overflow-add-run : goal.overflow-add-run
-overflow-add-run c = omega arith
+pub overflow_add-run : goal.overflow_add-run
+overflow_add-run c = omega arith
 
-pub overflow-mul-run-2 : goal.overflow-mul-run-2
-overflow-mul-run-2 c = omega arith
+pub offset_bounds-run-i : goal.offset_bounds-run-i
+offset_bounds-run-i c = omega arith
 
-pub slice-write-run : goal.slice-write-run
-slice-write-run c = omega arith
+pub bounds-run-i : goal.bounds-run-i
+bounds-run-i c = omega arith
 
-pub overflow-add-i : goal.overflow-add-i
-overflow-add-i c = omega arith
+pub overflow_add-i : goal.overflow_add-i
+overflow_add-i c = omega arith
 
-pub loop-smaller : goal.loop-smaller
-loop-smaller c = omega arith
+pub loop-i-smaller : goal.loop-i-smaller
+loop-i-smaller c = omega arith
 
-pub loop-preserved : goal.loop-preserved
-loop-preserved c = (omega arith, simp length-set c.loop.invariant.1, search (rules, paste_more))
+pub loop-i-preserved : goal.loop-i-preserved
+loop-i-preserved c = (omega arith, simp length-set c.loop-i.invariant.1, search (rules, paste_more))
 
 pub same-length : goal.same-length
 same-length c = search rules

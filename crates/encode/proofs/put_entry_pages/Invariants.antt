@@ -8,8 +8,8 @@ use Rattle.encode.proofs.RunLaws.{paste_more, paste-over}
 use borrow.Author.Rules.{rules}
 use Rattle.encode.proofs.put_entry_pages.Given as goal
 
-abbrev pub invariant-loop : goal.invariant-loop
-invariant-loop run₀ entry i₀ run i = (i ≤ entry_words) × (length run ≡ length run₀) × (run ≡ paste run₀ entry_pages_at entry i)
+abbrev pub invariant-loop-i : goal.invariant-loop-i
+invariant-loop-i l = (l.i ≤ entry_words) × (length l.run ≡ length l.initial.run) × (l.run ≡ paste l.initial.run entry_pages_at l.entry l.i)
 
-abbrev pub decreases-loop : goal.decreases-loop
-decreases-loop run₀ entry i₀ run i = entry_words - i
+abbrev pub decreases-loop-i : goal.decreases-loop-i
+decreases-loop-i l = entry_words - l.i

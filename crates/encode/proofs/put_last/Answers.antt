@@ -3,8 +3,8 @@ use Rattle.encode.proofs.StateLaws.{devices-kept, last-kept, last_written}
 use borrow.Author.Rules.{rules}
 use Rattle.encode.proofs.put_last.Goals as goal
 
-pub put-pending-requires : goal.put-pending-requires
-put-pending-requires c = search (rules, devices-kept)
+pub put_pending-requires : goal.put_pending-requires
+put_pending-requires c = search (rules, devices-kept)
 
 pub same-length : goal.same-length
 same-length c = search (rules, last-kept)

@@ -4,10 +4,10 @@ use Rattle.boundary_model.specs.Words.{run_after}
 use Rattle.encode.proofs.SettleLaws.{settled-accepted, settled-refused}
 use Rattle.encode.proofs.put_paired.Goals as goal
 
-pub returns : goal.returns
+pub returns-then-number-eq0 : goal.returns-then-number-eq0
 unfolding run_after
-returns c = search (rules, settled-accepted)
+returns-then-number-eq0 c = search (rules, settled-accepted)
 
-pub returns-2 : goal.returns-2
+pub returns-else-number-eq0 : goal.returns-else-number-eq0
 unfolding run_after
-returns-2 c = search (rules, settled-refused)
+returns-else-number-eq0 c = search (rules, settled-refused)

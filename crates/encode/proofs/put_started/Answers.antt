@@ -4,10 +4,10 @@ use Rattle.boundary_model.specs.Words.{run_started}
 use Rattle.encode.proofs.SettleLaws.{settled-accepted, settled-refused}
 use Rattle.encode.proofs.put_started.Goals as goal
 
-pub returns : goal.returns
+pub returns-then-refusal-eq0 : goal.returns-then-refusal-eq0
 unfolding run_started
-returns c = search (rules, settled-accepted)
+returns-then-refusal-eq0 c = search (rules, settled-accepted)
 
-pub returns-2 : goal.returns-2
+pub returns-else-refusal-eq0 : goal.returns-else-refusal-eq0
 unfolding run_started
-returns-2 c = search (rules, settled-refused)
+returns-else-refusal-eq0 c = search (rules, settled-refused)

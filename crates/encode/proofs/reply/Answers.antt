@@ -4,10 +4,10 @@ use Rattle.model.specs.Calls.{reply_of}
 use Rattle.encode.proofs.RunLaws.{says-done, says-refused}
 use Rattle.encode.proofs.reply.Goals as goal
 
-pub returns : goal.returns
+pub returns-in-Done : goal.returns-in-Done
 unfolding reply_of
-returns c = (cc, search (rules, says-done))
+returns-in-Done c = (cc, search (rules, says-done))
 
-pub returns-2 : goal.returns-2
+pub returns-in-Refused : goal.returns-in-Refused
 unfolding reply_of
-returns-2 c = (cc, search (rules, says-refused))
+returns-in-Refused c = (cc, search (rules, says-refused))

@@ -3,11 +3,11 @@ use borrow.Author.Rules.{rules}
 use Rattle.lengths.proofs.FitLaws.{state-refuses, frames-bounded, two-fit}
 use Rattle.lengths.proofs.device_write_in_order.Goals as goal
 
+pub returns-then-not-state_in_order : goal.returns-then-not-state_in_order
+returns-then-not-state_in_order c = search (rules, state-refuses)
+
+pub vector_fits-requires : goal.vector_fits-requires
+vector_fits-requires c = search (rules, frames-bounded)
+
 pub returns : goal.returns
-returns c = search (rules, state-refuses)
-
-pub vector-fits-requires : goal.vector-fits-requires
-vector-fits-requires c = search (rules, frames-bounded)
-
-pub returns-2 : goal.returns-2
-returns-2 c = search (rules, two-fit)
+returns c = search (rules, two-fit)

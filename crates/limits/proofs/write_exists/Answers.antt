@@ -5,4 +5,4 @@ use borrow.Author.Rules.{rules}
 use Rattle.limits.proofs.write_exists.Goals as goal
 
 pub returns : goal.returns
-returns c = c.ends-below.ensures ∙ last-page-below _ _ _
+returns c = c.ends_below.ensures ∙ last-page-below _ _ _

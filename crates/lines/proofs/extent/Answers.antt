@@ -5,10 +5,10 @@ use Rattle.lines.specs.Text.{text}
 use Rattle.lines.proofs.LineLaws.{take-room}
 use Rattle.lines.proofs.extent.Goals as goal
 
-pub returns : goal.returns
+pub returns-then-len-lt96 : goal.returns-then-len-lt96
 unfolding text
-returns c = search rules
+returns-then-len-lt96 c = search rules
 
-pub returns-2 : goal.returns-2
+pub returns-else-len-lt96 : goal.returns-else-len-lt96
 unfolding text
-returns-2 c = search (rules, take-room, length_unmapped)
+returns-else-len-lt96 c = search (rules, take-room, length_unmapped)

@@ -3,8 +3,8 @@ use borrow.Author.Rules.{rules}
 use Rattle.lines.proofs.LineLaws.{hex_digit-low, hex_digit-high}
 use Rattle.lines.proofs.hex.Goals as goal
 
-pub returns : goal.returns
-returns c = search (rules, hex_digit-low)
+pub returns-then-d-lt10 : goal.returns-then-d-lt10
+returns-then-d-lt10 c = search (rules, hex_digit-low)
 
-pub returns-2 : goal.returns-2
-returns-2 c = search (rules, hex_digit-high)
+pub returns-else-d-lt10 : goal.returns-else-d-lt10
+returns-else-d-lt10 c = search (rules, hex_digit-high)

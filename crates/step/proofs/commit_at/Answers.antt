@@ -4,11 +4,11 @@ use Rattle.step.proofs.StepLaws.{commit-numbered, commit-left, commit-joins}
 use borrow.Author.Rules.{rules}
 use Rattle.step.proofs.commit_at.Goals as goal
 
+pub returns-then-not-maps : goal.returns-then-not-maps
+returns-then-not-maps c = (search (rules, commit-left), omega arith, omega arith)
+
+pub returns-then-map-i : goal.returns-then-map-i
+returns-then-map-i c = (search (rules, commit-numbered), omega arith, omega arith)
+
 pub returns : goal.returns
-returns c = (search (rules, commit-left), omega arith, omega arith)
-
-pub returns-2 : goal.returns-2
-returns-2 c = (search (rules, commit-numbered), omega arith, omega arith)
-
-pub returns-3 : goal.returns-3
-returns-3 c = search (rules, commit-joins)
+returns c = search (rules, commit-joins)

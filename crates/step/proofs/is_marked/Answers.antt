@@ -3,11 +3,11 @@ use Rattle.step.proofs.StepLaws.{frame-in, marked-above, marked_by}
 use borrow.Author.Rules.{rules}
 use Rattle.step.proofs.is_marked.Goals as goal
 
+pub returns-then-frames-pending : goal.returns-then-frames-pending
+returns-then-frames-pending c = search (rules, marked-above)
+
+pub test_bit_within-requires : goal.test_bit_within-requires
+test_bit_within-requires c = search (rules, frame-in)
+
 pub returns : goal.returns
-returns c = search (rules, marked-above)
-
-pub test-bit-within-requires : goal.test-bit-within-requires
-test-bit-within-requires c = search (rules, frame-in)
-
-pub returns-2 : goal.returns-2
-returns-2 c = search (rules, marked_by)
+returns c = search (rules, marked_by)

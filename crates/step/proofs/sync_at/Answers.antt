@@ -3,5 +3,5 @@ use mathlib.Core.Bool.{false≢true}
 use borrow.Author.Rules.{rules}
 use Rattle.step.proofs.sync_at.Goals as goal
 
-pub sync-by-requires : goal.sync-by-requires
-sync-by-requires c = (search rules, search rules, search rules, search rules, search rules, search rules, λ p. absurd (false≢true p))
+pub sync_by-requires : goal.sync_by-requires
+sync_by-requires c = (search rules, search rules, search rules, search rules, search rules, search rules, λ p. absurd (false≢true p))

@@ -3,20 +3,20 @@ use Rattle.step.proofs.StepLaws.{free-above, free-pending, free-pending-unmarked
 use borrow.Author.Rules.{rules}
 use Rattle.step.proofs.unapproved.Goals as goal
 
+pub returns-then-frames-frame : goal.returns-then-frames-frame
+returns-then-frames-frame c = search (rules, free-above)
+
+pub returns-then-marked-frame : goal.returns-then-marked-frame
+returns-then-marked-frame c = search (rules, free-pending-unmarked)
+
+pub test_bit_within-requires : goal.test_bit_within-requires
+test_bit_within-requires c = search (rules, frame-in)
+
+pub returns-then-not-test_bit_within : goal.returns-then-not-test_bit_within
+returns-then-not-test_bit_within c = search (rules, free-ordinary)
+
+pub returns-then-frame-pending : goal.returns-then-frame-pending
+returns-then-frame-pending c = search (rules, free-pending)
+
 pub returns : goal.returns
-returns c = search (rules, free-above)
-
-pub returns-2 : goal.returns-2
-returns-2 c = search (rules, free-pending-unmarked)
-
-pub test-bit-within-requires : goal.test-bit-within-requires
-test-bit-within-requires c = search (rules, frame-in)
-
-pub returns-3 : goal.returns-3
-returns-3 c = search (rules, free-ordinary)
-
-pub returns-4 : goal.returns-4
-returns-4 c = search (rules, free-pending)
-
-pub returns-5 : goal.returns-5
-returns-5 c = search (rules, free-excluded)
+returns c = search (rules, free-excluded)
