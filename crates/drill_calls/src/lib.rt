@@ -86,7 +86,7 @@ pub fn open(bytes: &[u8], shadow: &mut [u64], map: &mut [u16], exclusion: &mut [
     let mode = state.mode;
     TurnResult {
         state,
-        line: lines::call_line(b's', answer, mode),
+        line: lines::call_line(b'S', answer, mode),
         goes: was_accepted(answer),
     }
 }
@@ -232,7 +232,7 @@ fn ended(s: State, number: u64) -> TurnResult
     let mode = s.mode;
     TurnResult {
         state: s,
-        line: lines::call_line(b'x', Answer::Refused(number), mode),
+        line: lines::call_line(b'X', Answer::Refused(number), mode),
         goes: false,
     }
 }

@@ -100,8 +100,8 @@ fn with_mode(l: Line, mode: Mode) -> Line
     ensures { text result ≡ text l ++ (32 ∷ cond (in_user mode) 85 75 ∷ 32 ∷ decimal (running mode)) ++ (10 ∷ []) }
 {
     match mode {
-        Mode::Kernel(page) => with_page(l, b'k', page),
-        Mode::User(page) => with_page(l, b'u', page),
+        Mode::Kernel(page) => with_page(l, b'K', page),
+        Mode::User(page) => with_page(l, b'U', page),
     }
 }
 

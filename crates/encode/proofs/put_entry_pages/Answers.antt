@@ -10,7 +10,7 @@ use borrow.Author.Rules.{rules}
 use Rattle.encode.proofs.put_entry_pages.Goals as goal
 
 pub loop-i-init : goal.loop-i-init
-loop-i-init c = (search rules, refl, paste-zero c.args.run.now entry_pages_at c.args.t2)
+loop-i-init c = (search rules, refl, paste-zero c.args.run.now entry_pages_at c.args.entry)
 
 pub offset_bounds-entry-i : goal.offset_bounds-entry-i
 offset_bounds-entry-i c = omega arith
@@ -35,9 +35,6 @@ loop-i-smaller c = omega arith
 
 pub loop-i-preserved : goal.loop-i-preserved
 loop-i-preserved c = (omega arith, simp length-set c.loop-i.invariant.1, search (rules, paste_more))
-
-pub same-length : goal.same-length
-same-length c = search rules
 
 pub returns : goal.returns
 returns c = search (rules, paste-over)

@@ -3,8 +3,5 @@ use Rattle.encode.proofs.StateLaws.{front_kept, front-written}
 use borrow.Author.Rules.{rules}
 use Rattle.encode.proofs.put_front.Goals as goal
 
-pub same-length : goal.same-length
-same-length c = search (rules, front_kept)
-
 pub returns : goal.returns
 returns c = search (rules, front-written)

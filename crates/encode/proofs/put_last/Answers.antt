@@ -6,8 +6,5 @@ use Rattle.encode.proofs.put_last.Goals as goal
 pub put_pending-requires : goal.put_pending-requires
 put_pending-requires c = search (rules, devices-kept)
 
-pub same-length : goal.same-length
-same-length c = search (rules, last-kept)
-
 pub returns : goal.returns
 returns c = search (rules, last_written)

@@ -7,8 +7,7 @@ use Rattle.encode.proofs.StateLaws.{words-written}
 use Rattle.encode.proofs.put_state.Goals as goal
 
 pub returns : goal.returns
-returns c = (
-  search (rules, words-written),
-  ap state_in (search (rules, words-written))
-      ∙ words-decoded _ (search rules),
-)
+returns c = record {
+  encoded = search (rules, words-written);
+  decoded = ap state_in (search (rules, words-written)) ∙ words-decoded _ (search rules);
+}

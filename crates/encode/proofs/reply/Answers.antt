@@ -6,8 +6,8 @@ use Rattle.encode.proofs.reply.Goals as goal
 
 pub returns-in-Done : goal.returns-in-Done
 unfolding reply_of
-returns-in-Done c = (cc, search (rules, says-done))
+returns-in-Done c = record { number = cc; both = search (rules, says-done) }
 
 pub returns-in-Refused : goal.returns-in-Refused
 unfolding reply_of
-returns-in-Refused c = (cc, search (rules, says-refused))
+returns-in-Refused c = record { number = cc; both = search (rules, says-refused) }
