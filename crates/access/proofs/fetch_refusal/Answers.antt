@@ -3,20 +3,20 @@ use Rattle.access.proofs.FetchLaws.{fetch-absent, fetch-not-present, fetch-not-p
 use borrow.Author.Rules.{rules}
 use Rattle.access.proofs.fetch_refusal.Goals as goal
 
+pub returns-then-not-page_exists : goal.returns-then-not-page_exists
+returns-then-not-page_exists c = search (rules, fetch-absent)
+
+pub offset_bounds-shadow-page : goal.offset_bounds-shadow-page
+offset_bounds-shadow-page c = search (rules, found_in)
+
+pub bounds-shadow-page : goal.bounds-shadow-page
+bounds-shadow-page c = search (rules, found_in)
+
+pub returns-then-not-present : goal.returns-then-not-present
+returns-then-not-present c = search (rules, fetch-not-present)
+
+pub returns-then-not-fetch_permitted : goal.returns-then-not-fetch_permitted
+returns-then-not-fetch_permitted c = search (rules, fetch-not-permitted)
+
 pub returns : goal.returns
-returns c = search (rules, fetch-absent)
-
-pub overflow-mul-entry : goal.overflow-mul-entry
-overflow-mul-entry c = search (rules, found_in)
-
-pub shared-slice-read-entry : goal.shared-slice-read-entry
-shared-slice-read-entry c = search (rules, found_in)
-
-pub returns-2 : goal.returns-2
-returns-2 c = search (rules, fetch-not-present)
-
-pub returns-3 : goal.returns-3
-returns-3 c = search (rules, fetch-not-permitted)
-
-pub returns-4 : goal.returns-4
-returns-4 c = search (rules, fetch-none-refuses)
+returns c = search (rules, fetch-none-refuses)

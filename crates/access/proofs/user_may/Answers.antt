@@ -3,8 +3,8 @@ use Rattle.access.proofs.UserLaws.{user-asks, kernel-asks}
 use borrow.Author.Rules.{rules}
 use Rattle.access.proofs.user_may.Goals as goal
 
-pub returns : goal.returns
-returns c = search (rules, user-asks)
+pub returns-then-user : goal.returns-then-user
+returns-then-user c = search (rules, user-asks)
 
-pub returns-2 : goal.returns-2
-returns-2 c = search (rules, kernel-asks)
+pub returns-else-user : goal.returns-else-user
+returns-else-user c = search (rules, kernel-asks)

@@ -3,11 +3,11 @@ use Rattle.sync.proofs.FlatLaws.{all-refused, flat-covers, flat_map, flat-vector
 use borrow.Author.Rules.{rules}
 use Rattle.sync.proofs.sync_all.Goals as goal
 
+pub returns-then-not-sync_in_order : goal.returns-then-not-sync_in_order
+returns-then-not-sync_in_order c = search (rules, all-refused)
+
+pub sync_flat-all-requires : goal.sync_flat-all-requires
+sync_flat-all-requires c = (search flat-covers, search flat_map, search flat-vector, search flat-few)
+
 pub returns : goal.returns
-returns c = search (rules, all-refused)
-
-pub sync-flat-requires : goal.sync-flat-requires
-sync-flat-requires c = (search flat-covers, search flat_map, search flat-vector, search flat-few)
-
-pub returns-2 : goal.returns-2
-returns-2 c = search (rules, all-accepted)
+returns c = search (rules, all-accepted)

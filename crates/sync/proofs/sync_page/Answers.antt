@@ -4,39 +4,39 @@ use borrow.Author.Rules.{rules}
 use native.Mathlib.Omega.{arith}
 use Rattle.sync.proofs.sync_page.Goals as goal
 
-pub returns : goal.returns
-returns c = search (rules, page-refused)
+pub returns-then-not-sync_in_order : goal.returns-then-not-sync_in_order
+returns-then-not-sync_in_order c = search (rules, page-refused)
 
-pub returns-2 : goal.returns-2
-returns-2 c = search (rules, page-absent)
+pub returns-then-not-page_exists : goal.returns-then-not-page_exists
+returns-then-not-page_exists c = search (rules, page-absent)
 
-pub overflow-mul-sync-at : goal.overflow-mul-sync-at
-overflow-mul-sync-at c =
+pub offset_bounds-kernel-i : goal.offset_bounds-kernel-i
+offset_bounds-kernel-i c =
     let inside =
-    flat-page-kernel _ _ _ _ _ _ c.sync-in-order.ensures c.if1.false _ _
-    c.page-exists.ensures c.if2.false in
+    flat-page-kernel _ _ _ _ _ _ c.sync_in_order.ensures c.if-not-sync_in_order.false _ _
+    c.page_exists.ensures c.if-not-page_exists.false in
     omega arith
 
-pub shared-slice-read-sync-at : goal.shared-slice-read-sync-at
-shared-slice-read-sync-at c =
-    flat-page-kernel _ _ _ _ _ _ c.sync-in-order.ensures
-    c.if1.false _ _ c.page-exists.ensures c.if2.false
+pub bounds-kernel-i : goal.bounds-kernel-i
+bounds-kernel-i c =
+    flat-page-kernel _ _ _ _ _ _ c.sync_in_order.ensures
+    c.if-not-sync_in_order.false _ _ c.page_exists.ensures c.if-not-page_exists.false
 
-pub sync-at-requires : goal.sync-at-requires
-sync-at-requires c = (
-  flat-page-shadow _ _ _ _ _ _ c.sync-in-order.ensures
-      c.if1.false _ _ c.page-exists.ensures
-      c.if2.false,
-  flat-page-map _ _ _ _ _ _ c.sync-in-order.ensures
-      c.if1.false _ _ c.page-exists.ensures
-      c.if2.false,
+pub sync_at-one-requires : goal.sync_at-one-requires
+sync_at-one-requires c = (
+  flat-page-shadow _ _ _ _ _ _ c.sync_in_order.ensures
+      c.if-not-sync_in_order.false _ _ c.page_exists.ensures
+      c.if-not-page_exists.false,
+  flat-page-map _ _ _ _ _ _ c.sync_in_order.ensures
+      c.if-not-sync_in_order.false _ _ c.page_exists.ensures
+      c.if-not-page_exists.false,
   search rules,
   search rules,
-  flat-vector _ _ _ _ _ _ c.sync-in-order.ensures
-      c.if1.false,
-  flat-few _ _ _ _ _ _ c.sync-in-order.ensures
-      c.if1.false,
+  flat-vector _ _ _ _ _ _ c.sync_in_order.ensures
+      c.if-not-sync_in_order.false,
+  flat-few _ _ _ _ _ _ c.sync_in_order.ensures
+      c.if-not-sync_in_order.false,
 )
 
-pub returns-3 : goal.returns-3
-returns-3 c = search (rules, page-accepted)
+pub returns : goal.returns
+returns c = search (rules, page-accepted)

@@ -10,11 +10,11 @@ use Rattle.sync.proofs.FlatLaws.{sweep-more, sweep-over}
 use borrow.Author.Rules.{rules}
 use Rattle.sync.proofs.sync_pages.Goals as goal
 
-pub loop-init : goal.loop-init
-loop-init c = search (rules, whole-start)
+pub loop-i-init : goal.loop-i-init
+loop-i-init c = search (rules, whole-start)
 
-pub loop-preserved : goal.loop-preserved
-loop-preserved c = (omega arith, omega arith, omega arith, omega arith, omega arith, search (rules, sweep-more))
+pub loop-i-preserved : goal.loop-i-preserved
+loop-i-preserved c = (omega arith, omega arith, omega arith, omega arith, omega arith, search (rules, sweep-more))
 
 pub returns : goal.returns
 returns c = search (rules, sweep-over)

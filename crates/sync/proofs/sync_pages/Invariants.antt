@@ -9,11 +9,11 @@ use Rattle.sync.proofs.FlatLaws.{sweep-more, sweep-over}
 use borrow.Author.Rules.{rules}
 use Rattle.sync.proofs.sync_pages.Given as goal
 
-abbrev pub invariant-loop : goal.invariant-loop
-invariant-loop marked user frames pending exclusion kernel shadow₀ map₀ counts₀ i₀ shadow map counts i =
-    (i ≤ length kernel) × (length shadow ≡ length kernel) × (length map ≡ length kernel) × (counts.changed ≤ i) × (counts.joined ≤ i)
-    × (whole (step_from (rules_by user frames pending exclusion) (entry_in kernel)) i (sweep shadow map counts.changed counts.joined)
-    ≡ sweep_from (step_from (rules_by user frames pending exclusion) (entry_in kernel)) 0 shadow₀ map₀)
+abbrev pub invariant-loop-i : goal.invariant-loop-i
+invariant-loop-i l =
+    (l.i ≤ length l.kernel) × (length l.shadow ≡ length l.kernel) × (length l.map ≡ length l.kernel) × (l.counts.changed ≤ l.i) × (l.counts.joined ≤ l.i)
+    × (whole (step_from (rules_by l.user l.frames l.pending l.exclusion) (entry_in l.kernel)) l.i (sweep l.shadow l.map l.counts.changed l.counts.joined)
+    ≡ sweep_from (step_from (rules_by l.user l.frames l.pending l.exclusion) (entry_in l.kernel)) 0 l.initial.shadow l.initial.map)
 
-abbrev pub decreases-loop : goal.decreases-loop
-decreases-loop marked user frames pending exclusion kernel shadow₀ map₀ counts₀ i₀ shadow map counts i = length kernel - i
+abbrev pub decreases-loop-i : goal.decreases-loop-i
+decreases-loop-i l = length l.kernel - l.i
