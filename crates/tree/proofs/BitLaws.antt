@@ -1,5 +1,5 @@
 -- The bits of rights gathered in words, of a flat entry and of a large page's entry.
-use Prim.Native.Nat.{ℕ, zero, suc, ◌+◌, ◌*◌, ◌/◌, ◌%◌, ◌^◌, ◌<◌, ◌≤◌}
+use Prim.Native.Nat.{ℕ, zero, suc, ◌+◌, ◌*◌, ◌/◌, ◌%◌, ◌^◌, ◌<◌}
 use mathlib.Core.Bool.{Bool, true, false, cond}
 use mathlib.Core.Logic.{◌⊎◌, inl, inr}
 use mathlib.Core.Path.{◌≡◌, refl, sym, ap, ap₂, ◌∙◌}
@@ -8,12 +8,11 @@ use lib.Bits.{bit_and, bit_or, and_shr, or_shr, and_mod, or_mod, or_lt, or_comm,
 use lib.Dec.{eqb}
 use Rattle.model.specs.declared.Entry.{Entry}
 use Rattle.model.specs.declared.Entry.TheVariants.{Absent, Present}
-use Rattle.model.specs.declared.Fields.{Fields}
 use Rattle.model.specs.Basics.{both, either, bit, flag}
 use Rattle.model.specs.Bits.{present, writable, user_bit, write_through, cache_disable, no_execute, frame_of, fields_of, reserved, valid, taken_apart}
 use Rattle.model.specs.Tree.{Rights, gathered, flat_entry}
 use Rattle.laws.proofs.VectorLaws.{flag-weight, flag-bit}
-use Rattle.laws.proofs.BitLaws.{bits_below, taken-apart, present-valid, valid-parts, fields-apart}
+use Rattle.laws.proofs.BitLaws.{bits_below, taken-apart, present-valid, valid-parts}
 use Rattle.tree.specs.Parts.{rights_by, last_flat}
 
 -- What is made of two digits, by the four cases.

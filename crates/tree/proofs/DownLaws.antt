@@ -1,14 +1,13 @@
 -- What each way out of a level gives to the walk of a page, in one word, and what the word of a walk from the root says.
 use Prim.Native.Nat.{ℕ, zero, suc, ◌+◌, ◌-◌, ◌*◌, ◌/◌, ◌%◌, ◌^◌, ◌≤◌, ◌<◌}
-use mathlib.Core.Bool.{Bool, true, false, not, cond}
+use mathlib.Core.Bool.{Bool, true, false, cond}
 use mathlib.Core.List.{List}
 use mathlib.Core.Path.{◌≡◌, refl, sym, ap, ap₂, ◌∙◌}
 use native.Mathlib.Omega.{arith}
 use lib.Bits.{bit_and, bit_or}
 use lib.Dec.{eqb, ltb}
 use lib.ListN.{length, get_or}
-use borrow.Author.Tests.{ltb-true, ltb-false, eqb-true, eqb-false, not-true, not-false, eq-eqb, ne_eqb, lt-ltb, le-ltb}
-use Rattle.model.specs.declared.Answer.{Answer}
+use borrow.Author.Tests.{ltb-true, ltb-false, eqb-true, eqb-false, eq-eqb, ne_eqb, lt-ltb, le-ltb}
 use Rattle.model.specs.declared.Answer.TheVariants.{Done}
 use Rattle.model.specs.declared.Entry.{Entry}
 use Rattle.model.specs.declared.Entry.TheVariants.{Absent, Present}
@@ -208,11 +207,11 @@ reached page (suc (suc (suc zero))) l = by (ltb page (2 ^ 27)) refl
 reached page (suc (suc (suc (suc depth)))) l = absurd (omega arith)
 
 module _ (page depth : ℕ) (most : depth ≤ 3) (b : Bool) (asked : b ≡ ltb page (2 ^ (9 * depth))) where
-  pub few-bits-asked : not b ≡ false → page / 2 ^ (9 * depth) ≡ 0
-  few-bits-asked few = eqb-true (page / 2 ^ (9 * depth)) 0 (reached page depth most ∙ sym asked ∙ not-false b few)
+  pub few-bits-asked : b ≡ true → page / 2 ^ (9 * depth) ≡ 0
+  few-bits-asked few = eqb-true (page / 2 ^ (9 * depth)) 0 (reached page depth most ∙ sym asked ∙ few)
 
-  pub many-bits-asked : not b ≡ true → page / 2 ^ (9 * depth) ≡ 0 → ⊥
-  many-bits-asked many = eqb-false (page / 2 ^ (9 * depth)) 0 (reached page depth most ∙ sym asked ∙ not-true b many)
+  pub many-bits-asked : b ≡ false → page / 2 ^ (9 * depth) ≡ 0 → ⊥
+  many-bits-asked many = eqb-false (page / 2 ^ (9 * depth)) 0 (reached page depth most ∙ sym asked ∙ many)
 
 -- The flat entry of a walk has nothing in bits 5 to 11 either.
 either-low : (b : Bool) (x y : Walk) → x.flat % 2 ^ 12 < 2 ^ 5 → y.flat % 2 ^ 12 < 2 ^ 5 → (cond b x y).flat % 2 ^ 12 < 2 ^ 5
@@ -278,23 +277,23 @@ module _ (words : List ℕ) (root depth page : ℕ) (most : depth ≤ 3) (b : Bo
   abbrev from-root : Walk
   from-root = walk_from words page depth (rights_by (2 ^ 64 - 1) 0) root
 
-  walk_none : not b ≡ true → walk_of tree page ≡ ending 0
+  walk_none : b ≡ false → walk_of tree page ≡ ending 0
   unfolding walk_of
-  walk_none many = rw (sym asked ∙ not-true b many)
+  walk_none many = rw (sym asked ∙ many)
 
-  walk-some : not b ≡ false → walk_of tree page ≡ from-root
+  walk-some : b ≡ true → walk_of tree page ≡ from-root
   unfolding walk_of rights_by bit
-  walk-some few = rw (sym asked ∙ not-false b few)
+  walk-some few = rw (sym asked ∙ few)
 
-  pub none_apart : not b ≡ true → taken_apart 0 ≡ taken_apart (flat_at tree page)
+  pub none_apart : b ≡ false → taken_apart 0 ≡ taken_apart (flat_at tree page)
   unfolding flat_at
   none_apart many = ap (λ (w : Walk). taken_apart w.flat) (sym (walk_none many))
 
-  pub none-walked : not b ≡ true → Done 0 0 ≡ Done (flat_at tree page) (reads_at tree page)
+  pub none-walked : b ≡ false → Done 0 0 ≡ Done (flat_at tree page) (reads_at tree page)
   unfolding flat_at reads_at
   none-walked many = ap (λ (w : Walk). Done w.flat (length w.met)) (sym (walk_none many))
 
-  module _ (few : not b ≡ false) (r : ℕ) (walked : r ≡ walk_word from-root + 0) where
+  module _ (few : b ≡ true) (r : ℕ) (walked : r ≡ walk_word from-root + 0) where
     low : from-root.flat % 2 ^ 12 < 2 ^ 5
     low = walk-low words page depth (rights_by (2 ^ 64 - 1) 0) root
 

@@ -2,11 +2,11 @@
 use Prim.Native.Nat.{ℕ, ◌/◌, ◌%◌, ◌≤◌, ◌<◌}
 use mathlib.Core.Bool.{Bool, true, false, not}
 use mathlib.Core.List.{List, [], ◌∷◌}
-use mathlib.Core.Path.{◌≡◌, refl, sym, ◌∙◌}
+use mathlib.Core.Path.{◌≡◌, refl, sym, ap, ◌∙◌}
 use native.Mathlib.Omega.{arith}
 use lib.Dec.{ltb}
 use lib.ListN.{length}
-use borrow.Author.Tests.{eq-eqb, ne_eqb, lt-leb, ltb-true, not-false}
+use borrow.Author.Tests.{eq-eqb, ne_eqb, lt-leb, ltb-true}
 use Rattle.model.specs.Basics.{both, within}
 use Rattle.model.specs.Bits.{taken_apart}
 use Rattle.model.specs.declared.Answer.{Answer}
@@ -62,29 +62,29 @@ module _ (words : List ℕ) (root depth : ℕ) where
 
 -- The walk as a call: refused with 7, with 17, and accepted.
 module _ (fit : Bool) (tree : Tree) (page : ℕ) where
-  pub walk-7 : not fit ≡ true → reply_of (Refused 7) ≡ walk_reply fit tree page
+  pub walk-7 : fit ≡ false → reply_of (Refused 7) ≡ walk_reply fit tree page
   unfolding reply_of walk_reply walk_questions settle
-  walk-7 p = rw (sym (stopped 7 fit fit (question 17 (tree_in_order tree) ∷ []) refl p))
+  walk-7 p = rw (sym (stopped 7 fit fit (question 17 (tree_in_order tree) ∷ []) refl (ap not p)))
 
-  module _ (r : Bool) (fits : not fit ≡ false) (asked : r ≡ tree_in_order tree) where
-    pub walk-17 : not r ≡ true → reply_of (Refused 17) ≡ walk_reply fit tree page
+  module _ (r : Bool) (fits : fit ≡ true) (asked : r ≡ tree_in_order tree) where
+    pub walk-17 : r ≡ false → reply_of (Refused 17) ≡ walk_reply fit tree page
     unfolding reply_of walk_reply walk_questions settle
-    walk-17 p = rw (sym (passed 7 17 fit fit (question 17 (tree_in_order tree) ∷ []) refl fits (stopped 17 r (tree_in_order tree) [] asked p)))
+    walk-17 p = rw (sym (passed 7 17 fit fit (question 17 (tree_in_order tree) ∷ []) refl (ap not fits) (stopped 17 r (tree_in_order tree) [] asked (ap not p))))
 
-    walk-done : (x y : ℕ) → not r ≡ false → x ≡ flat_at tree page → y ≡ reads_at tree page → reply_of (Done x y) ≡ walk_reply fit tree page
+    walk-done : (x y : ℕ) → r ≡ true → x ≡ flat_at tree page → y ≡ reads_at tree page → reply_of (Done x y) ≡ walk_reply fit tree page
     unfolding reply_of walk_reply walk_questions settle
     walk-done x y p q s =
-        rw (sym (passed 7 0 fit fit (question 17 (tree_in_order tree) ∷ []) refl fits (passed 17 0 r (tree_in_order tree) [] asked p none_left)), q, s)
+        rw (sym (passed 7 0 fit fit (question 17 (tree_in_order tree) ∷ []) refl (ap not fits) (passed 17 0 r (tree_in_order tree) [] asked (ap not p) none_left)), q, s)
 
 -- A tree in order, by the number that its depth is.
-module _ (words : List ℕ) (root depth : ℕ) (r : Bool) (asked : r ≡ tree_in_order (tree_of words root depth)) (passes : not r ≡ false) where
+module _ (words : List ℕ) (root depth : ℕ) (r : Bool) (asked : r ≡ tree_in_order (tree_of words root depth)) (passes : r ≡ true) where
   pub third-depth : (depth ≡ 1 → ⊥) → (depth ≡ 2 → ⊥) → depth ≡ 3
-  third-depth = third-left words root depth (sym asked ∙ not-false r passes)
+  third-depth = third-left words root depth (sym asked ∙ passes)
 
   pub order-by : (d : ℕ) → depth ≡ d → tree_in_order (tree_of words root d) ≡ true
-  order-by = order-at words root depth (sym asked ∙ not-false r passes)
+  order-by = order-at words root depth (sym asked ∙ passes)
 
-  pub walk-by : (fit : Bool) (page d : ℕ) → not fit ≡ false → depth ≡ d → (a : Answer)
+  pub walk-by : (fit : Bool) (page d : ℕ) → fit ≡ true → depth ≡ d → (a : Answer)
       → a ≡ Done (flat_at (tree_of words root d) page) (reads_at (tree_of words root d) page) → reply_of a ≡ walk_reply fit (tree_of words root depth) page
   walk-by fit page d fits same a walked =
       rw (walked, ← same) (walk-done fit (tree_of words root depth) page r fits asked _ _ passes refl refl)

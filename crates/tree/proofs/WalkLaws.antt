@@ -15,7 +15,6 @@ use Rattle.model.specs.Basics.{both, bit}
 use Rattle.model.specs.Bits.{frame_of, fields_of, taken_apart}
 use Rattle.model.specs.Tree.{tables_in, place_above, Rights, gathered, flat_entry, large_entry, tree_of, Walk, ending, meeting, onward, walk_from, walk_of, flat_at}
 use Rattle.laws.proofs.BitLaws.{present-valid, valid-parts, fields-apart}
-use Rattle.tree.specs.declared.Below.{Below}
 use Rattle.tree.specs.declared.Below.TheVariants.{Table, Large, Nowhere}
 use Rattle.tree.specs.declared.Part.{Part}
 use Rattle.tree.specs.Parts.{rights_by, last_flat, flat_below, flat_in, Alike}
@@ -215,10 +214,6 @@ module _ (words : List ℕ) (page level all any number : ℕ) (e : Entry) (apart
 pub table-sound : (words : List ℕ) (number : ℕ) → number < length words / 512 → number < tables_in words
 unfolding tables_in
 table-sound words number h = h
-
--- The entry that is met lies in the run.
-pub met-in : (long number q : ℕ) → number < long / 512 → number * 512 + q % 512 < long
-met-in long number q h = omega arith
 
 -- The bits that a page's number needs, and those of a depth.
 few_bits : (p d : ℕ) → 1 ≤ d → d ≤ 3 → p / 2 ^ (9 * d) ≡ 0 → p < 2 ^ (9 * d)

@@ -1,6 +1,5 @@
 -- What a word says, by its bits 0 and 7.
 use Rattle.tree.proofs.WordLaws.{says-absent, says-large, says-table}
-use borrow.Author.Rules.{rules}
 use Rattle.tree.proofs.part_in.Goals as goal
 
 pub returns-then-word-eq0 : goal.returns-then-word-eq0

@@ -5,7 +5,6 @@ use Rattle.tree.proofs.OrderLaws.{depth-least, depth-most, root_in}
 use Rattle.tree.proofs.WordLaws.{alike_same}
 use Rattle.tree.proofs.WalkLaws.{gives-table, table-sound, too-many-bits, from-root}
 use Rattle.tree.proofs.DownLaws.{few-bits-asked, many-bits-asked}
-use borrow.Author.Rules.{rules}
 use Rattle.tree.proofs.part_of.Goals as goal
 
 pub reaches-requires : goal.reaches-requires

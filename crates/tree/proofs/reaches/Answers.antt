@@ -1,6 +1,5 @@
 -- A page's number has no bit above those of the depth.
 use Rattle.tree.proofs.DownLaws.{reached}
-use borrow.Author.Rules.{rules}
 use Rattle.tree.proofs.reaches.Goals as goal
 
 pub returns : goal.returns

@@ -1,7 +1,6 @@
 -- A word of a table.
 use native.Mathlib.Omega.{arith}
 use Rattle.tree.proofs.WordLaws.{table-said}
-use borrow.Author.Rules.{rules}
 use Rattle.tree.proofs.table_word.Goals as goal
 
 pub returns : goal.returns

@@ -2,7 +2,6 @@
 use native.Mathlib.Omega.{arith}
 use Rattle.tree.proofs.OrderLaws.{depth-least, depth-most}
 use Rattle.tree.proofs.DownLaws.{none-walked, word-walked}
-use borrow.Author.Rules.{rules}
 use Rattle.tree.proofs.walk_down.Goals as goal
 
 pub reaches-requires : goal.reaches-requires
