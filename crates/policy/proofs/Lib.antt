@@ -1,3 +1,2 @@
--- Laws of the policy record that this crate and the start cite, and what the walks by hand that call `take` share.
+-- Laws of the policy record that this crate and the start cite.
 pub mod RecordLaws
-pub mod TakeCall

@@ -13,7 +13,7 @@ use Rattle.model.specs.Sizes.{pages_in_range, frames_in_range, devices_in_range}
 use Rattle.model.specs.Policy.{Policy, Givens, number_at, numbers_at, policy_of}
 use Rattle.model.specs.Questions.{Question, question, first_no, sizes_in_range, counts_in_range, rising, all_below, policy_questions, givens_in_range, record_questions}
 use Rattle.model.specs.Questions.{Lengths, lengths_fit, start_questions}
-use Rattle.laws.proofs.QuestionLaws.{both_true, first_no-yes, first_no-no, first_no-front, first_no-back, numbered}
+use Rattle.laws.proofs.QuestionLaws.{first_no-yes, first_no-no, first_no-front, first_no-back, numbered}
 use Rattle.laws.proofs.CallLaws.{passed, stopped, none_left}
 use Rattle.laws.proofs.PolicyLaws.{numbers_at-none, numbers_at-more, rising-refuses, all_below-none, all_below-more, all_below-no}
 

@@ -1,4 +1,3 @@
-use borrow.Author.Rules.{rules}
 use Rattle.policy.proofs.page_rises.Goals as goal
 
 pub returns : goal.returns

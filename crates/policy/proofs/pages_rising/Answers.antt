@@ -1,28 +1,25 @@
 -- The pages that are left are asked as all of them were.
-use Prim.Native.Nat.{◌+◌, ◌*◌}
-use mathlib.Core.Bool.{false≢true}
-use mathlib.Core.Path.{◌≡◌}
+use mathlib.Core.Bool.{false≢true, not}
+use mathlib.Core.Path.{ap}
 use native.Mathlib.Omega.{arith}
 use borrow.Author.Rules.{rules}
-use Rattle.model.specs.Policy.{numbers_at}
-use Rattle.model.specs.Questions.{rising}
 use Rattle.laws.proofs.PolicyLaws.{rising-ends, rising-goes-on, rising-page}
 use Rattle.policy.proofs.RecordLaws.{numbers-none, numbers-front, page-refused}
 use Rattle.policy.proofs.pages_rising.Goals as goal
 
-pub returns : goal.returns
-returns c = (search (rules, page-refused), λ yes. absurd (false≢true yes))
+pub returns-then-not-page_rises : goal.returns-then-not-page_rises
+returns-then-not-page_rises c = (search (rules, page-refused), λ yes. absurd (false≢true yes))
 
-pub overflow-add-least : goal.overflow-add-least
-overflow-add-least c =
+pub overflow_add-least : goal.overflow_add-least
+overflow_add-least c =
     omega (
       arith,
-      rising-page c.args.pages c.loop.least
-          c.next-number.result.number c.page-rises.ensures c.if1.false,
+      rising-page c.args.pages c.loop-left.least
+          c.next_number-page.result.number c.page_rises.ensures (ap not c.if-not-page_rises.false),
     )
 
-pub loop-preserved : goal.loop-preserved
-loop-preserved c = search (rules, rising-goes-on, numbers-front)
+pub loop-left-preserved : goal.loop-left-preserved
+loop-left-preserved c = search (rules, rising-goes-on, numbers-front)
 
-pub returns-2 : goal.returns-2
-returns-2 c = (search (rules, rising-ends, numbers-none), λ yes. search rules)
+pub returns : goal.returns
+returns c = (search (rules, rising-ends, numbers-none), λ yes. search rules)

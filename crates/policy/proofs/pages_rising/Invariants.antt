@@ -1,17 +1,12 @@
 use Prim.Native.Nat.{◌+◌, ◌*◌}
-use mathlib.Core.Bool.{false≢true}
 use mathlib.Core.Path.{◌≡◌}
-use native.Mathlib.Omega.{arith}
-use borrow.Author.Rules.{rules}
 use Rattle.model.specs.Policy.{numbers_at}
 use Rattle.model.specs.Questions.{rising}
-use Rattle.laws.proofs.PolicyLaws.{rising-ends, rising-goes-on, rising-page}
-use Rattle.policy.proofs.RecordLaws.{numbers-none, numbers-front, page-refused}
 use Rattle.policy.proofs.pages_rising.Given as goal
 
-abbrev pub invariant-loop : goal.invariant-loop
-invariant-loop bytes from pages count at₀ least₀ left₀ at least left =
-    (at + 2 * left ≡ from + 2 * count) × (rising pages least (numbers_at bytes at left) ≡ rising pages 0 (numbers_at bytes from count))
+abbrev pub invariant-loop-left : goal.invariant-loop-left
+invariant-loop-left l =
+    (l.at + 2 * l.left ≡ l.from + 2 * l.count) × (rising l.pages l.least (numbers_at l.bytes l.at l.left) ≡ rising l.pages 0 (numbers_at l.bytes l.from l.count))
 
-abbrev pub decreases-loop : goal.decreases-loop
-decreases-loop bytes from pages count at₀ least₀ left₀ at least left = left
+abbrev pub decreases-loop-left : goal.decreases-loop-left
+decreases-loop-left l = l.left

@@ -1,4 +1,3 @@
-use borrow.Author.Rules.{rules}
 use Rattle.policy.proofs.sizes_in_range.Goals as goal
 
 pub returns : goal.returns
