@@ -1,4 +1,3 @@
-use borrow.Author.Rules.{rules}
 use Rattle.record.proofs.arrays_exact.Goals as goal
 
 pub returns : goal.returns

@@ -1,15 +1,11 @@
 use Prim.Native.Nat.{◌-◌, ◌≤◌}
 use mathlib.Core.Path.{◌≡◌}
-use lib.ListN.{length, get_or, drop}
-use native.Mathlib.Omega.{arith}
-use borrow.Author.Rules.{rules}
+use lib.ListN.{length, drop}
 use Rattle.model.specs.Questions.{rising}
-use Rattle.laws.proofs.PolicyLaws.{rising-ends, rising-goes-on, rising-page}
-use Rattle.record.proofs.ArrayLaws.{array-front, array-ends, page-refused}
 use Rattle.record.proofs.pages_rising.Given as goal
 
-abbrev pub invariant-loop : goal.invariant-loop
-invariant-loop listed pages least₀ i₀ least i = (i ≤ length listed) × (rising pages least (drop i listed) ≡ rising pages 0 listed)
+abbrev pub invariant-loop-i : goal.invariant-loop-i
+invariant-loop-i l = (l.i ≤ length l.listed) × (rising l.pages l.least (drop l.i l.listed) ≡ rising l.pages 0 l.listed)
 
-abbrev pub decreases-loop : goal.decreases-loop
-decreases-loop listed pages least₀ i₀ least i = length listed - i
+abbrev pub decreases-loop-i : goal.decreases-loop-i
+decreases-loop-i l = length l.listed - l.i
