@@ -2,7 +2,7 @@
 use Prim.Native.Nat.{ℕ, zero, suc, ◌+◌, ◌≤◌, ◌<◌}
 use mathlib.Core.Bool.{Bool, true, false}
 use mathlib.Core.List.{List, [], ◌∷◌}
-use mathlib.Core.Path.{◌≡◌, refl, ap, ◌∙◌}
+use mathlib.Core.Path.{◌≡◌, refl, sym, subst, ap, ◌∙◌}
 use native.Mathlib.Nat.{not-suc-le-zero, le_of_suc-le-suc, add-zero, zero-add, suc-add, add-suc}
 use native.Mathlib.Omega.{arith}
 use lib.ListN.{length, get_or, set}
@@ -74,6 +74,13 @@ module _ (user : Bool) (frame : ℕ) (few : frame < 4096) where
   unfolding before appended
   first-later a b s m q r = rw (exchanged a (differs s q.entry) r.changed, exchanged b (differs m q.approval) r.joined) refl
 
+  first-alone : (k s m : ℕ) (shadow map : List ℕ) → appended (sweep [] [] (differs s e) (differs m frame))
+      (sweep_from (joining user frame) k (e ∷ shadow) (frame ∷ map)) ≡ sweep_from (committing user k frame) k (s ∷ shadow) (m ∷ map)
+  unfolding sweep_from
+  first-alone k s m shadow map =
+      rw (eq-eqb k k refl, asked_is s m, ← (past-asked k (suc k) shadow map (omega arith)), approved-stays)
+      (first-here s m (sweep_from (joining user frame) (suc k) shadow map))
+
   -- Page p approved, and then a commit that asks for no page, is a commit that asks for p.
   first_then : (p k : ℕ) (shadow map : List ℕ) → p < length shadow → p < length map
       → appended (sweep [] [] (differs (get_or shadow p 0) e) (differs (get_or map p 0) frame))
@@ -82,16 +89,18 @@ module _ (user : Bool) (frame : ℕ) (few : frame < 4096) where
   first_then p k [] map a b = absurd (not-suc-le-zero a)
   first_then p k (s ∷ shadow) [] a b = absurd (not-suc-le-zero b)
   first_then zero k (s ∷ shadow) (m ∷ map) a b =
-      rw (zero-add k, eq-eqb k k refl, asked_is s m, ← (past-asked k (suc k) shadow map (omega arith)), approved-stays)
-      (first-here s m (sweep_from (joining user frame) (suc k) shadow map))
+      subst
+      (λ (j : ℕ). appended (sweep [] [] (differs s e) (differs m frame)) (sweep_from (joining user frame) k (e ∷ shadow) (frame ∷ map))
+      ≡ sweep_from (committing user j frame) k (s ∷ shadow) (m ∷ map))
+      (sym (zero-add k)) (first-alone k s m shadow map)
   first_then (suc p) k (s ∷ shadow) (m ∷ map) a b =
-      rw (
-        suc-add p k,
-        ne_eqb k (suc (p + k)) (λ q. omega arith),
-        ← (add-suc p k),
-        ← (first_then p (suc k) shadow map (le_of_suc-le-suc a) (le_of_suc-le-suc b)),
-      )
-      (first-later _ _ s m (joining user frame k s m) (sweep_from (joining user frame) (suc k) (set shadow p e) (set map p frame)))
+      let later : p + suc k ≡ suc p + k = omega (arith, add-suc p k, suc-add p k) in
+      subst
+      (λ (j : ℕ). appended (sweep [] [] (differs (get_or shadow p 0) e) (differs (get_or map p 0) frame))
+      (sweep_from (joining user frame) k (s ∷ set shadow p e) (m ∷ set map p frame)) ≡ sweep_from (committing user j frame) k (s ∷ shadow) (m ∷ map))
+      later
+      (rw (ne_eqb k (p + suc k) (λ q. omega arith), ← (first_then p (suc k) shadow map (le_of_suc-le-suc a) (le_of_suc-le-suc b)))
+      (first-later _ _ s m (joining user frame k s m) (sweep_from (joining user frame) (suc k) (set shadow p e) (set map p frame))))
 
   -- The same of the tables that the code has.
   pub asked-first : (page x y u v : ℕ) (shadow map shadow₁ map₁ shadow₂ map₂ : List ℕ) → page < length shadow → length map ≡ length shadow

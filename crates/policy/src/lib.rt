@@ -65,7 +65,7 @@ fn take<'a>(r: Reader<'a>) -> Taken<'a>
 }
 
 // V, F, n and e of a record, and how far their reader has come: the first listed page is there.
-#[derive(Drop)]
+#[derive(Clone, Copy)]
 pub struct Sizes {
     pub pages: u16,
     pub frames: u16,

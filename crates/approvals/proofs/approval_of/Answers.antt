@@ -3,8 +3,8 @@ use Rattle.approvals.proofs.ApprovalLaws.{approval-in, approval-past}
 use borrow.Author.Rules.{rules}
 use Rattle.approvals.proofs.approval_of.Goals as goal
 
-pub returns : goal.returns
-returns c = search (rules, approval-in)
+pub returns-then-page-map : goal.returns-then-page-map
+returns-then-page-map c = search (rules, approval-in)
 
-pub returns-2 : goal.returns-2
-returns-2 c = search (rules, approval-past)
+pub returns-else-page-map : goal.returns-else-page-map
+returns-else-page-map c = search (rules, approval-past)

@@ -9,26 +9,20 @@ use Rattle.approvals.proofs.CommitLaws.{joining, commit-more, commit-over}
 use borrow.Author.Rules.{rules}
 use Rattle.approvals.proofs.commit_others.Goals as goal
 
-pub loop-init : goal.loop-init
-loop-init c = search (rules, whole-start)
+pub loop-i-init : goal.loop-i-init
+loop-i-init c = search (rules, whole-start)
 
-pub commit-at-requires : goal.commit-at-requires
-commit-at-requires c = (omega arith, omega arith, omega arith, omega arith)
+pub commit_at-counts-requires : goal.commit_at-counts-requires
+commit_at-counts-requires c = (omega arith, omega arith, omega arith, omega arith)
 
-pub overflow-add-i : goal.overflow-add-i
-overflow-add-i c = omega arith
+pub overflow_add-i : goal.overflow_add-i
+overflow_add-i c = omega arith
 
-pub loop-smaller : goal.loop-smaller
-loop-smaller c = omega arith
+pub loop-i-smaller : goal.loop-i-smaller
+loop-i-smaller c = omega arith
 
-pub loop-preserved : goal.loop-preserved
-loop-preserved c = (omega arith, omega arith, omega arith, omega arith, omega arith, search (rules, commit-more))
-
-pub same-length : goal.same-length
-same-length c = omega arith
-
-pub same-length-2 : goal.same-length-2
-same-length-2 c = omega arith
+pub loop-i-preserved : goal.loop-i-preserved
+loop-i-preserved c = (omega arith, omega arith, omega arith, omega arith, omega arith, search (rules, commit-more))
 
 pub returns : goal.returns
 returns c = search (rules, commit-over)

@@ -8,10 +8,10 @@ use Rattle.approvals.proofs.CommitLaws.{joining, commit-more, commit-over}
 use borrow.Author.Rules.{rules}
 use Rattle.approvals.proofs.commit_others.Given as goal
 
-abbrev pub invariant-loop : goal.invariant-loop
-invariant-loop user frame shadow₀ map₀ counts₀ i₀ shadow map counts i =
-    (i ≤ length shadow) × (length shadow ≡ length shadow₀) × (length map ≡ length shadow) × (counts.changed ≤ i) × (counts.joined ≤ i)
-    × (whole (joining user frame) i (sweep shadow map counts.changed counts.joined) ≡ sweep_from (joining user frame) 0 shadow₀ map₀)
+abbrev pub invariant-loop-i : goal.invariant-loop-i
+invariant-loop-i l =
+    (l.i ≤ length l.shadow) × (length l.shadow ≡ length l.initial.shadow) × (length l.map ≡ length l.shadow) × (l.counts.changed ≤ l.i) × (l.counts.joined ≤ l.i)
+    × (whole (joining l.user l.frame) l.i (sweep l.shadow l.map l.counts.changed l.counts.joined) ≡ sweep_from (joining l.user l.frame) 0 l.initial.shadow l.initial.map)
 
-abbrev pub decreases-loop : goal.decreases-loop
-decreases-loop user frame shadow₀ map₀ counts₀ i₀ shadow map counts i = length shadow - i
+abbrev pub decreases-loop-i : goal.decreases-loop-i
+decreases-loop-i l = length l.shadow - l.i

@@ -5,7 +5,5 @@ use Rattle.approvals.proofs.commit_pages.Goals as goal
 
 pub returns : goal.returns
 returns c =
-    let asked = c.before in
-    let pre = asked.before.before.before.before.before.requires in
-    asked-first _ _ pre.3 _ _ _ _ _ _ _ _ _ _ _ pre.2 pre.0 asked.approve-at.ensures.0
-    c.commit-others.ensures.0
+    asked-first _ _ c.requires.3 _ _ _ _ _ _ _ _ _ _ _ c.requires.2 c.requires.0 c.approve_at-asked.ensures.0
+    c.commit_others-others.ensures.0

@@ -3,11 +3,11 @@ use Rattle.approvals.proofs.ApprovalLaws.{drop-7, drop-22, drop-accepted}
 use borrow.Author.Rules.{rules}
 use Rattle.approvals.proofs.drop_pending.Goals as goal
 
+pub returns-then-not-drop_in_order : goal.returns-then-not-drop_in_order
+returns-then-not-drop_in_order c = search (rules, drop-7)
+
+pub returns-in_default : goal.returns-in_default
+returns-in_default c = search (rules, drop-22)
+
 pub returns : goal.returns
-returns c = search (rules, drop-7)
-
-pub returns-2 : goal.returns-2
-returns-2 c = search (rules, drop-22)
-
-pub returns-3 : goal.returns-3
-returns-3 c = search (rules, drop-accepted)
+returns c = search (rules, drop-accepted)

@@ -7,29 +7,29 @@ use Rattle.approvals.proofs.ApprovalLaws.{unwritable, writable-start, writable-f
 use borrow.Author.Rules.{rules}
 use Rattle.approvals.proofs.none_writable.Goals as goal
 
-pub loop-init : goal.loop-init
-loop-init c = (search (rules, writable-start), omega arith)
+pub loop-i-init : goal.loop-i-init
+loop-i-init c = (search (rules, writable-start), omega arith)
 
-pub overflow-mul-maps-writable : goal.overflow-mul-maps-writable
-overflow-mul-maps-writable c = omega arith
+pub offset_bounds-shadow-i : goal.offset_bounds-shadow-i
+offset_bounds-shadow-i c = omega arith
 
-pub shared-slice-read-maps-writable : goal.shared-slice-read-maps-writable
-shared-slice-read-maps-writable c = search rules
+pub bounds-shadow-i : goal.bounds-shadow-i
+bounds-shadow-i c = search rules
 
-pub maps-writable-requires : goal.maps-writable-requires
-maps-writable-requires c = search rules
+pub maps_writable-requires : goal.maps_writable-requires
+maps_writable-requires c = search rules
+
+pub returns-then-maps_writable : goal.returns-then-maps_writable
+returns-then-maps_writable c = search (rules, writable-found)
+
+pub overflow_add-i : goal.overflow_add-i
+overflow_add-i c = omega arith
+
+pub loop-i-smaller : goal.loop-i-smaller
+loop-i-smaller c = omega arith
+
+pub loop-i-preserved : goal.loop-i-preserved
+loop-i-preserved c = (search (rules, writable-more), omega arith)
 
 pub returns : goal.returns
-returns c = search (rules, writable-found)
-
-pub overflow-add-i : goal.overflow-add-i
-overflow-add-i c = omega arith
-
-pub loop-smaller : goal.loop-smaller
-loop-smaller c = omega arith
-
-pub loop-preserved : goal.loop-preserved
-loop-preserved c = (search (rules, writable-more), omega arith)
-
-pub returns-2 : goal.returns-2
-returns-2 c = search (rules, writable-over)
+returns c = search (rules, writable-over)

@@ -6,8 +6,8 @@ use Rattle.approvals.proofs.ApprovalLaws.{unwritable, writable-start, writable-f
 use borrow.Author.Rules.{rules}
 use Rattle.approvals.proofs.none_writable.Given as goal
 
-abbrev pub invariant-loop : goal.invariant-loop
-invariant-loop shadow frame i₀ i = (unwritable frame shadow i (length shadow - i) ≡ unwritable frame shadow 0 (length shadow)) × (i ≤ length shadow)
+abbrev pub invariant-loop-i : goal.invariant-loop-i
+invariant-loop-i l = (unwritable l.frame l.shadow l.i (length l.shadow - l.i) ≡ unwritable l.frame l.shadow 0 (length l.shadow)) × (l.i ≤ length l.shadow)
 
-abbrev pub decreases-loop : goal.decreases-loop
-decreases-loop shadow frame i₀ i = length shadow - i
+abbrev pub decreases-loop-i : goal.decreases-loop-i
+decreases-loop-i l = length l.shadow - l.i

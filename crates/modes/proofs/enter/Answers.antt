@@ -3,14 +3,14 @@ use Rattle.modes.proofs.EnterLeaveLaws.{enter-unfit, entry_in_lem, enter-refused
 use borrow.Author.Rules.{rules}
 use Rattle.modes.proofs.enter.Goals as goal
 
+pub returns-then-not-shadow_in_order : goal.returns-then-not-shadow_in_order
+returns-then-not-shadow_in_order c = search (rules, enter-unfit)
+
+pub refusal-number-requires : goal.refusal-number-requires
+refusal-number-requires c = search (rules, entry_in_lem)
+
+pub returns-then-number-ne0 : goal.returns-then-number-ne0
+returns-then-number-ne0 c = search (rules, enter-refused)
+
 pub returns : goal.returns
-returns c = search (rules, enter-unfit)
-
-pub refusal-requires : goal.refusal-requires
-refusal-requires c = search (rules, entry_in_lem)
-
-pub returns-2 : goal.returns-2
-returns-2 c = search (rules, enter-refused)
-
-pub returns-3 : goal.returns-3
-returns-3 c = search (rules, enter-accepted)
+returns c = search (rules, enter-accepted)

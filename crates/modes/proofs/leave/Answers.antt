@@ -3,14 +3,14 @@ use Rattle.modes.proofs.EnterLeaveLaws.{leave-unfit, page-in, leave-refused, lea
 use borrow.Author.Rules.{rules}
 use Rattle.modes.proofs.leave.Goals as goal
 
+pub returns-then-not-shadow_in_order : goal.returns-then-not-shadow_in_order
+returns-then-not-shadow_in_order c = search (rules, leave-unfit)
+
+pub refusal-number-requires : goal.refusal-number-requires
+refusal-number-requires c = search (rules, page-in)
+
+pub returns-then-number-ne0 : goal.returns-then-number-ne0
+returns-then-number-ne0 c = search (rules, leave-refused)
+
 pub returns : goal.returns
-returns c = search (rules, leave-unfit)
-
-pub refusal-requires : goal.refusal-requires
-refusal-requires c = search (rules, page-in)
-
-pub returns-2 : goal.returns-2
-returns-2 c = search (rules, leave-refused)
-
-pub returns-3 : goal.returns-3
-returns-3 c = search (rules, leave-accepted)
+returns c = search (rules, leave-accepted)

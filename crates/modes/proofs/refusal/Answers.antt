@@ -3,23 +3,23 @@ use Rattle.modes.proofs.SwitchQuestionLaws.{exists-in, switch-absent, switch-uns
 use borrow.Author.Rules.{rules}
 use Rattle.modes.proofs.refusal.Goals as goal
 
+pub returns-then-not-exists : goal.returns-then-not-exists
+returns-then-not-exists c = search (rules, switch-absent)
+
+pub returns-then-not-suits : goal.returns-then-not-suits
+returns-then-not-suits c = search (rules, switch-unsuited)
+
+pub offset_bounds-shadow-page : goal.offset_bounds-shadow-page
+offset_bounds-shadow-page c = search (rules, exists-in)
+
+pub bounds-shadow-page : goal.bounds-shadow-page
+bounds-shadow-page c = search (rules, exists-in)
+
+pub returns-then-not-present : goal.returns-then-not-present
+returns-then-not-present c = search (rules, switch-not-present)
+
+pub returns-then-not-permitted : goal.returns-then-not-permitted
+returns-then-not-permitted c = search (rules, switch-not-permitted)
+
 pub returns : goal.returns
-returns c = search (rules, switch-absent)
-
-pub returns-2 : goal.returns-2
-returns-2 c = search (rules, switch-unsuited)
-
-pub overflow-mul-entry : goal.overflow-mul-entry
-overflow-mul-entry c = search (rules, exists-in)
-
-pub shared-slice-read-entry : goal.shared-slice-read-entry
-shared-slice-read-entry c = search (rules, exists-in)
-
-pub returns-3 : goal.returns-3
-returns-3 c = search (rules, switch-not-present)
-
-pub returns-4 : goal.returns-4
-returns-4 c = search (rules, switch-not-permitted)
-
-pub returns-5 : goal.returns-5
-returns-5 c = search (rules, switch-none-refuses)
+returns c = search (rules, switch-none-refuses)

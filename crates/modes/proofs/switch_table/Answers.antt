@@ -10,29 +10,26 @@ use borrow.Author.Rules.{rules}
 use Rattle.modes.proofs.switch_table.Goals as goal
 -- The table with the first i places as they are now and the others yet to be switched is the whole switched one, and so with the count.
 
-pub loop-init : goal.loop-init
-loop-init c = (refl, switched-start _ _, count-start _ _, omega arith)
+pub loop-i-init : goal.loop-i-init
+loop-i-init c = (refl, switched-start _ _, count-start _ _, omega arith)
 
-pub overflow-mul-entry : goal.overflow-mul-entry
-overflow-mul-entry c = omega arith
+pub offset_bounds-shadow-i : goal.offset_bounds-shadow-i
+offset_bounds-shadow-i c = omega arith
 
-pub overflow-mul-shadow : goal.overflow-mul-shadow
-overflow-mul-shadow c = omega arith
+pub offset_bounds-shadow-i-in-loop-i : goal.offset_bounds-shadow-i-in-loop-i
+offset_bounds-shadow-i-in-loop-i c = omega arith
 
-pub overflow-add-changed : goal.overflow-add-changed
-overflow-add-changed c = omega arith
+pub overflow_add-changed : goal.overflow_add-changed
+overflow_add-changed c = omega arith
 
-pub overflow-add-i : goal.overflow-add-i
-overflow-add-i c = omega arith
+pub overflow_add-i : goal.overflow_add-i
+overflow_add-i c = omega arith
 
-pub loop-smaller : goal.loop-smaller
-loop-smaller c = simp length-set (omega arith)
+pub loop-i-smaller : goal.loop-i-smaller
+loop-i-smaller c = simp length-set (omega arith)
 
-pub loop-preserved : goal.loop-preserved
-loop-preserved c = (simp length-set (omega arith), search (rules, table_more), search (rules, count-more), omega arith)
-
-pub same-length : goal.same-length
-same-length c = search rules
+pub loop-i-preserved : goal.loop-i-preserved
+loop-i-preserved c = (simp length-set (omega arith), search (rules, table_more), search (rules, count-more), omega arith)
 
 pub returns : goal.returns
 returns c = (search (rules, table-over), search (rules, count-over))

@@ -8,12 +8,12 @@ use Rattle.modes.proofs.TableLaws.{count-start, table_more, count-more, table-ov
 use borrow.Author.Rules.{rules}
 use Rattle.modes.proofs.switch_table.Given as goal
 
-abbrev pub invariant-loop : goal.invariant-loop
-invariant-loop user shadow₀ changed₀ i₀ shadow changed i =
-    (length shadow ≡ length shadow₀)
-    × (switched_from user i shadow ≡ switched_all user shadow₀)
-    × (changed + changes_from user i shadow ≡ changes shadow₀ (switched_all user shadow₀))
-    × (changed ≤ i)
+abbrev pub invariant-loop-i : goal.invariant-loop-i
+invariant-loop-i l =
+    (length l.shadow ≡ length l.initial.shadow)
+    × (switched_from l.user l.i l.shadow ≡ switched_all l.user l.initial.shadow)
+    × (l.changed + changes_from l.user l.i l.shadow ≡ changes l.initial.shadow (switched_all l.user l.initial.shadow))
+    × (l.changed ≤ l.i)
 
-abbrev pub decreases-loop : goal.decreases-loop
-decreases-loop user shadow₀ changed₀ i₀ shadow changed i = length shadow - i
+abbrev pub decreases-loop-i : goal.decreases-loop-i
+decreases-loop-i l = length l.shadow - l.i

@@ -4,9 +4,9 @@ use Rattle.start.proofs.StartLaws.{accepted-is}
 use borrow.Author.Rules.{rules}
 use Rattle.start.proofs.accepted_start.Goals as goal
 
-pub entry-pages-requires : goal.entry-pages-requires
+pub entry_pages-pages-requires : goal.entry_pages-pages-requires
 unfolding policy_of
-entry-pages-requires c = search rules
+entry_pages-pages-requires c = search rules
 
 pub returns : goal.returns
 returns c = search (rules, accepted-is)

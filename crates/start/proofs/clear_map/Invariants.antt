@@ -6,8 +6,8 @@ use borrow.Author.Rules.{rules}
 use Rattle.start.proofs.LoopLaws.{fill_step, fill-ends}
 use Rattle.start.proofs.clear_map.Given as goal
 
-abbrev pub invariant-loop : goal.invariant-loop
-invariant-loop map₀ i₀ map i = (i ≤ length map₀) × (length map ≡ length map₀) × (map ≡ replicate i 65535 ++ drop i map₀)
+abbrev pub invariant-loop-i : goal.invariant-loop-i
+invariant-loop-i l = (l.i ≤ length l.initial.map) × (length l.map ≡ length l.initial.map) × (l.map ≡ replicate l.i 65535 ++ drop l.i l.initial.map)
 
-abbrev pub decreases-loop : goal.decreases-loop
-decreases-loop map₀ i₀ map i = length map₀ - i
+abbrev pub decreases-loop-i : goal.decreases-loop-i
+decreases-loop-i l = length l.initial.map - l.i

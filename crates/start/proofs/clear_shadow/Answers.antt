@@ -7,8 +7,8 @@ use borrow.Author.Rules.{rules}
 use Rattle.start.proofs.LoopLaws.{fill_step, fill-ends}
 use Rattle.start.proofs.clear_shadow.Goals as goal
 
-pub loop-preserved : goal.loop-preserved
-loop-preserved c = search (rules, fill_step)
+pub loop-i-preserved : goal.loop-i-preserved
+loop-i-preserved c = search (rules, fill_step)
 
 pub returns : goal.returns
 returns c = search (rules, fill-ends)

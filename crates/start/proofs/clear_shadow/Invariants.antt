@@ -6,8 +6,8 @@ use borrow.Author.Rules.{rules}
 use Rattle.start.proofs.LoopLaws.{fill_step, fill-ends}
 use Rattle.start.proofs.clear_shadow.Given as goal
 
-abbrev pub invariant-loop : goal.invariant-loop
-invariant-loop shadow₀ i₀ shadow i = (i ≤ length shadow₀) × (length shadow ≡ length shadow₀) × (shadow ≡ replicate i 0 ++ drop i shadow₀)
+abbrev pub invariant-loop-i : goal.invariant-loop-i
+invariant-loop-i l = (l.i ≤ length l.initial.shadow) × (length l.shadow ≡ length l.initial.shadow) × (l.shadow ≡ replicate l.i 0 ++ drop l.i l.initial.shadow)
 
-abbrev pub decreases-loop : goal.decreases-loop
-decreases-loop shadow₀ i₀ shadow i = length shadow₀ - i
+abbrev pub decreases-loop-i : goal.decreases-loop-i
+decreases-loop-i l = length l.initial.shadow - l.i

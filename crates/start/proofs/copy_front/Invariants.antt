@@ -6,8 +6,8 @@ use borrow.Author.Rules.{rules}
 use Rattle.start.proofs.LoopLaws.{copy_step, copy-ends}
 use Rattle.start.proofs.copy_front.Given as goal
 
-abbrev pub invariant-loop : goal.invariant-loop
-invariant-loop from to₀ i₀ to i = (i ≤ length to₀) × (length to ≡ length to₀) × (to ≡ take i from ++ drop i to₀)
+abbrev pub invariant-loop-i : goal.invariant-loop-i
+invariant-loop-i l = (l.i ≤ length l.initial.to) × (length l.to ≡ length l.initial.to) × (l.to ≡ take l.i l.from ++ drop l.i l.initial.to)
 
-abbrev pub decreases-loop : goal.decreases-loop
-decreases-loop from to₀ i₀ to i = length to₀ - i
+abbrev pub decreases-loop-i : goal.decreases-loop-i
+decreases-loop-i l = length l.initial.to - l.i

@@ -6,11 +6,11 @@ use Rattle.start.specs.Start.{entry_table}
 use Rattle.start.proofs.LoopLaws.{entries_none, entries-step, entries-end}
 use Rattle.start.proofs.entry_pages.Goals as goal
 
-pub loop-init : goal.loop-init
-loop-init c = search (rules, entries_none)
+pub loop-i-init : goal.loop-i-init
+loop-i-init c = search (rules, entries_none)
 
-pub loop-preserved : goal.loop-preserved
-loop-preserved c = search (rules, entries-step)
+pub loop-i-preserved : goal.loop-i-preserved
+loop-i-preserved c = search (rules, entries-step)
 
 pub returns : goal.returns
 returns c = search (rules, entries-end)

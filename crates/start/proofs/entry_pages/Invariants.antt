@@ -5,8 +5,8 @@ use Rattle.start.specs.Start.{entry_table}
 use Rattle.start.proofs.LoopLaws.{entries_none, entries-step, entries-end}
 use Rattle.start.proofs.entry_pages.Given as goal
 
-abbrev pub invariant-loop : goal.invariant-loop
-invariant-loop bytes from entries pages₀ at₀ i₀ pages at i = (i ≤ entries) × (at ≡ 8 + 2 * i) × (pages ≡ entry_table bytes i)
+abbrev pub invariant-loop-i : goal.invariant-loop-i
+invariant-loop-i l = (l.i ≤ l.entry_count) × (l.at ≡ 8 + 2 * l.i) × (l.pages ≡ entry_table l.bytes l.i)
 
-abbrev pub decreases-loop : goal.decreases-loop
-decreases-loop bytes from entries pages₀ at₀ i₀ pages at i = entries - i
+abbrev pub decreases-loop-i : goal.decreases-loop-i
+decreases-loop-i l = l.entry_count - l.i

@@ -10,20 +10,20 @@ use Rattle.start.specs.Start.{stored_each, approved_each, with_each}
 use Rattle.start.proofs.LoopLaws.{page-inside, pages-inside, frame-inside, listed-map, listed-shadow, listed-end, gather-step, gather-ends}
 use Rattle.start.proofs.set_listed.Goals as goal
 
-pub loop-init : goal.loop-init
-loop-init c = (search rules, search rules, search rules, search rules, search rules, cc, cc, cc, cc, cc)
+pub loop-left-init : goal.loop-left-init
+loop-left-init c = (search rules, search rules, search rules, search rules, search rules, cc, cc, cc, cc, cc)
 
-pub slice-write-shadow : goal.slice-write-shadow
-slice-write-shadow c = search (rules, page-inside)
+pub bounds-shadow-page : goal.bounds-shadow-page
+bounds-shadow-page c = search (rules, page-inside)
 
-pub slice-write-map : goal.slice-write-map
-slice-write-map c = search (rules, page-inside)
+pub bounds-map-page : goal.bounds-map-page
+bounds-map-page c = search (rules, page-inside)
 
-pub set-bit-within-requires : goal.set-bit-within-requires
-set-bit-within-requires c = search (rules, frame-inside)
+pub set_bit_within-requires : goal.set_bit_within-requires
+set_bit_within-requires c = search (rules, frame-inside)
 
-pub loop-preserved : goal.loop-preserved
-loop-preserved c = (
+pub loop-left-preserved : goal.loop-left-preserved
+loop-left-preserved c = (
   search rules,
   search rules,
   search rules,
