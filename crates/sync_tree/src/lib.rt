@@ -22,14 +22,14 @@ const PART: usize = 512;
 const FRAME: u64 = 0x1000;
 
 // The pages from `first` up to, but not with, `end`.
-#[derive(Drop)]
+#[derive(Clone, Copy)]
 struct Pages {
     first: usize,
     end: usize,
 }
 
 // What the step of every page reads beside the vector: whether user mode runs, F, and the pending frame, or 65535.
-#[derive(Drop)]
+#[derive(Clone, Copy)]
 struct Rules {
     user: bool,
     frames: u64,
@@ -38,7 +38,7 @@ struct Rules {
 
 // The kernel entries of a run of pages: that of a large page with the frames after its own, or those in the words from a place on; and the rights above
 // them, by the bits that all entries have and those that any has. `large` is a constant wherever one is made, so that each has a loop that does not ask it.
-#[derive(Drop)]
+#[derive(Clone, Copy)]
 struct Source {
     large: bool,
     at: usize,

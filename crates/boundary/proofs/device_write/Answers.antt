@@ -1,19 +1,15 @@
 -- `boundary::device_write` meets its contract.
-use borrow.Author.Rules.{rules}
+use Rattle.std.proofs.Common.{rules, ap, not}
 use Rattle.boundary.proofs.BoundaryLaws.{unused, run-used, transfer-kept}
 use Rattle.boundary.proofs.device_write.Goals as goal
 
+pub returns-then-not-usable : goal.returns-then-not-usable
+returns-then-not-usable c = search (rules, unused)
+
+pub state_in-requires : goal.state_in-requires
+state_in-requires c = search (rules, run-used)
+
 pub returns : goal.returns
-returns c = search (rules, unused)
-
-pub state-in-requires : goal.state-in-requires
-state-in-requires c = search (rules, run-used)
-
-pub returns-2 : goal.returns-2
-returns-2 c =
-    let b = c.before in
-    let u = b.before.before.before in
-    let a = u.before.before.before.before.before.args in
-    transfer-kept _ _ _ u.usable.ensures b.before.before.if1.false _ b.before.state-in.ensures _ _ _ a.window _ _ _ _ _ _
-    b.device-write.ensures
-    c.reply2.ensures.0 (search rules)
+returns c =
+    transfer-kept _ _ _ c.usable.ensures (ap not c.if-not-usable.false) _ c.state_in.ensures _ _ _ c.args.window _ _ _ _ _ _
+    c.device_write-answer.ensures c.reply-2.ensures.number (search rules)

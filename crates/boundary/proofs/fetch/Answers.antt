@@ -3,14 +3,14 @@ use borrow.Author.Rules.{rules}
 use Rattle.boundary.proofs.BoundaryLaws.{unused, run-used, shadow-called}
 use Rattle.boundary.proofs.fetch.Goals as goal
 
+pub returns-then-not-usable : goal.returns-then-not-usable
+returns-then-not-usable c = search (rules, unused)
+
+pub state_in-requires : goal.state_in-requires
+state_in-requires c = search (rules, run-used)
+
+pub put_fetched-requires : goal.put_fetched-requires
+put_fetched-requires c = search (rules, run-used)
+
 pub returns : goal.returns
-returns c = search (rules, unused)
-
-pub state-in-requires : goal.state-in-requires
-state-in-requires c = search (rules, run-used)
-
-pub put-fetched-requires : goal.put-fetched-requires
-put-fetched-requires c = search (rules, run-used)
-
-pub returns-2 : goal.returns-2
-returns-2 c = search (rules, shadow-called)
+returns c = search (rules, shadow-called)

@@ -3,11 +3,11 @@ use borrow.Author.Rules.{rules}
 use Rattle.boundary.proofs.BoundaryLaws.{unused, run-used, write_kept}
 use Rattle.boundary.proofs.write.Goals as goal
 
+pub returns-then-not-usable : goal.returns-then-not-usable
+returns-then-not-usable c = search (rules, unused)
+
+pub state_in-requires : goal.state_in-requires
+state_in-requires c = search (rules, run-used)
+
 pub returns : goal.returns
-returns c = search (rules, unused)
-
-pub state-in-requires : goal.state-in-requires
-state-in-requires c = search (rules, run-used)
-
-pub returns-2 : goal.returns-2
-returns-2 c = search (rules, write_kept)
+returns c = search (rules, write_kept)

@@ -3,8 +3,8 @@ use Rattle.drill_calls.proofs.TurnLaws.{bytes-lent, bytes-bounded, bytes-none}
 use borrow.Author.Rules.{rules}
 use Rattle.drill_calls.proofs.bytes_lent.Goals as goal
 
-pub returns : goal.returns
-returns c = search (rules, bytes-lent, bytes-bounded)
+pub returns-then-frames_in_range : goal.returns-then-frames_in_range
+returns-then-frames_in_range c = search (rules, bytes-lent, bytes-bounded)
 
-pub returns-2 : goal.returns-2
-returns-2 c = search (rules, bytes-none)
+pub returns : goal.returns
+returns c = search (rules, bytes-none)

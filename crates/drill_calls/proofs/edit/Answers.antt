@@ -3,11 +3,11 @@ use borrow.Author.Rules.{rules}
 use Rattle.drill_calls.proofs.TurnLaws.{edit-refused, edit-done, edit-past}
 use Rattle.drill_calls.proofs.edit.Goals as goal
 
-pub returns : goal.returns
-returns c = search (rules, edit-refused)
+pub returns-then-not-page_exists : goal.returns-then-not-page_exists
+returns-then-not-page_exists c = search (rules, edit-refused)
 
-pub returns-2 : goal.returns-2
-returns-2 c = search (rules, edit-done)
+pub returns-then-page-kernel : goal.returns-then-page-kernel
+returns-then-page-kernel c = search (rules, edit-done)
 
-pub returns-3 : goal.returns-3
-returns-3 c = search (rules, edit-past)
+pub returns-else-page-kernel : goal.returns-else-page-kernel
+returns-else-page-kernel c = search (rules, edit-past)

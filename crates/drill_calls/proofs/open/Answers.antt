@@ -4,4 +4,4 @@ use Rattle.drill_calls.proofs.TurnLaws.{opening-is, opened-few}
 use Rattle.drill_calls.proofs.open.Goals as goal
 
 pub returns : goal.returns
-returns c = (search (rules, opening-is), search (rules, opened-few))
+returns c = record { opened = search (rules, opening-is); few = search (rules, opened-few) }

@@ -3,8 +3,8 @@ use borrow.Author.Rules.{rules}
 use Rattle.drill_calls.proofs.TurnLaws.{edit-performed, call-performed}
 use Rattle.drill_calls.proofs.perform.Goals as goal
 
-pub returns : goal.returns
-returns c = search (rules, edit-performed)
+pub returns-then-kind-eq0 : goal.returns-then-kind-eq0
+returns-then-kind-eq0 c = search (rules, edit-performed)
 
-pub returns-2 : goal.returns-2
-returns-2 c = search (rules, call-performed)
+pub returns : goal.returns
+returns c = search (rules, call-performed)

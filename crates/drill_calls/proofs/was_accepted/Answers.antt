@@ -1,12 +1,12 @@
 -- `drill_calls::was_accepted` meets its contract.
-use borrow.Author.Rules.{rules}
+use Rattle.std.proofs.Common.{rules, refl}
 use Rattle.model.specs.Calls.{reply_of}
 use Rattle.drill_calls.proofs.TurnLaws.{refused-by}
 use Rattle.drill_calls.proofs.was_accepted.Goals as goal
 
-pub returns : goal.returns
+pub returns-in-Done : goal.returns-in-Done
 unfolding reply_of
-returns c = cc
+returns-in-Done c = rw c.in-Done.is refl
 
-pub returns-2 : goal.returns-2
-returns-2 c = search (rules, refused-by)
+pub returns-in-Refused : goal.returns-in-Refused
+returns-in-Refused c = search (rules, refused-by)

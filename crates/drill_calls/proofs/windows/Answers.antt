@@ -5,8 +5,8 @@ use borrow.Author.Rules.{rules}
 use Rattle.drill_calls.proofs.TurnLaws.{windows-are}
 use Rattle.drill_calls.proofs.windows.Goals as goal
 
-pub returns : goal.returns
-returns c = windows-are c.args.frames 0 (omega arith)
+pub returns-then-frames-eq0 : goal.returns-then-frames-eq0
+returns-then-frames-eq0 c = windows-are c.args.frames 0 (omega arith)
 
-pub returns-2 : goal.returns-2
-returns-2 c = windows-are c.args.frames _ refl
+pub returns-else-frames-eq0 : goal.returns-else-frames-eq0
+returns-else-frames-eq0 c = windows-are c.args.frames _ refl

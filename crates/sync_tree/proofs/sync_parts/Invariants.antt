@@ -9,13 +9,13 @@ use Rattle.sync_tree.proofs.SourceLaws.{parts_more, parts-over}
 use borrow.Author.Rules.{rules}
 use Rattle.sync_tree.proofs.sync_parts.Given as goal
 
-abbrev pub invariant-loop : goal.invariant-loop
-invariant-loop rules exclusion words root depth shadow₀ map₀ counts₀ first₀ shadow map counts first =
-    (first ≤ length shadow₀) × (length shadow ≡ length shadow₀) × (length map ≡ length shadow₀) × (counts.changed ≤ first) × (counts.joined ≤ first)
-    × (first < length shadow₀ → first % 512 ≡ 0)
-    × (swept_from (step_from (rules_in rules exclusion) (flat_at (tree_of words root depth))) first (length shadow₀ - first)
-    (sweep shadow map counts.changed counts.joined)
-    ≡ swept_from (step_from (rules_in rules exclusion) (flat_at (tree_of words root depth))) 0 (length shadow₀ - 0) (sweep shadow₀ map₀ 0 0))
+abbrev pub invariant-loop-first : goal.invariant-loop-first
+invariant-loop-first l =
+    (l.first ≤ length l.initial.shadow) × (length l.shadow ≡ length l.initial.shadow) × (length l.map ≡ length l.initial.shadow) × (l.counts.changed ≤ l.first) × (l.counts.joined ≤ l.first)
+    × (l.first < length l.initial.shadow → l.first % 512 ≡ 0)
+    × (swept_from (step_from (rules_in l.rules l.exclusion) (flat_at (tree_of l.words l.root l.depth))) l.first (length l.initial.shadow - l.first)
+    (sweep l.shadow l.map l.counts.changed l.counts.joined)
+    ≡ swept_from (step_from (rules_in l.rules l.exclusion) (flat_at (tree_of l.words l.root l.depth))) 0 (length l.initial.shadow - 0) (sweep l.initial.shadow l.initial.map 0 0))
 
-abbrev pub decreases-loop : goal.decreases-loop
-decreases-loop rules exclusion words root depth shadow₀ map₀ counts₀ first₀ shadow map counts first = length shadow₀ - first
+abbrev pub decreases-loop-first : goal.decreases-loop-first
+decreases-loop-first l = length l.initial.shadow - l.first

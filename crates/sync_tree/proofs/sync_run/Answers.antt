@@ -10,37 +10,37 @@ use Rattle.sync_tree.proofs.SourceLaws.{fewer, run_more}
 use borrow.Author.Rules.{rules}
 use Rattle.sync_tree.proofs.sync_run.Goals as goal
 
-pub loop-init : goal.loop-init
-loop-init c = (omega arith, omega arith, refl, omega arith, omega arith, omega arith, refl)
+pub loop-i-init : goal.loop-i-init
+loop-i-init c = (omega arith, omega arith, refl, omega arith, omega arith, omega arith, refl)
 
-pub overflow-sub-kernel-entry : goal.overflow-sub-kernel-entry
-overflow-sub-kernel-entry c = omega arith
+pub overflow_sub-i : goal.overflow_sub-i
+overflow_sub-i c = omega arith
 
-pub kernel-entry-requires : goal.kernel-entry-requires
-kernel-entry-requires c =
+pub kernel_entry-entry-requires : goal.kernel_entry-entry-requires
+kernel_entry-entry-requires c =
     fewer c.args.words.now c.args.source _ _
     c.requires.6 (omega arith)
 
-pub sync-at-requires : goal.sync-at-requires
-sync-at-requires c = (omega arith, omega arith, omega arith, omega arith, search rules, search rules)
+pub sync_at-counts-requires : goal.sync_at-counts-requires
+sync_at-counts-requires c = (omega arith, omega arith, omega arith, omega arith, search rules, search rules)
 
-pub overflow-add-i : goal.overflow-add-i
-overflow-add-i c = omega arith
+pub overflow_add-i : goal.overflow_add-i
+overflow_add-i c = omega arith
 
-pub loop-smaller : goal.loop-smaller
-loop-smaller c = omega arith
+pub loop-i-smaller : goal.loop-i-smaller
+loop-i-smaller c = omega arith
 
-pub loop-preserved : goal.loop-preserved
-loop-preserved c = (
+pub loop-i-preserved : goal.loop-i-preserved
+loop-i-preserved c = (
   omega arith,
   omega arith,
   omega arith,
   omega arith,
   omega arith,
   omega arith,
-  run_more _ _ _ _ _ _ _ _ _ _ _ _ _ _ _ _ c.loop.invariant.6
-      c.loop-test.true
-      c.kernel-entry.ensures c.IsSync-at.ensures.0,
+  run_more _ _ _ _ _ _ _ _ _ _ _ _ _ _ _ _ c.loop-i.invariant.6
+      c.loop-i-test.true
+      c.kernel_entry-entry.ensures c.IsSync-at.ensures.0,
 )
 
 pub same-length : goal.same-length

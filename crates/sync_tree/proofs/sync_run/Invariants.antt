@@ -9,11 +9,11 @@ use Rattle.sync_tree.proofs.SourceLaws.{fewer, run_more}
 use borrow.Author.Rules.{rules}
 use Rattle.sync_tree.proofs.sync_run.Given as goal
 
-abbrev pub invariant-loop : goal.invariant-loop
-invariant-loop rules exclusion words source shadow₀ map₀ first end counts₀ i₀ shadow map counts i =
-    (first ≤ i) × (i ≤ end) × (length shadow ≡ length shadow₀) × (length map ≡ length shadow₀) × (counts.changed ≤ i) × (counts.joined ≤ i)
-    × (swept_from (step_from (rules_in rules exclusion) (entry_by words source first)) i (end - i) (sweep shadow map counts.changed counts.joined)
-    ≡ swept_from (step_from (rules_in rules exclusion) (entry_by words source first)) first (end - first) (sweep shadow₀ map₀ counts₀.changed counts₀.joined))
+abbrev pub invariant-loop-i : goal.invariant-loop-i
+invariant-loop-i l =
+    (l.first ≤ l.i) × (l.i ≤ l.end) × (length l.shadow ≡ length l.initial.shadow) × (length l.map ≡ length l.initial.shadow) × (l.counts.changed ≤ l.i) × (l.counts.joined ≤ l.i)
+    × (swept_from (step_from (rules_in l.rules l.exclusion) (entry_by l.words l.source l.first)) l.i (l.end - l.i) (sweep l.shadow l.map l.counts.changed l.counts.joined)
+    ≡ swept_from (step_from (rules_in l.rules l.exclusion) (entry_by l.words l.source l.first)) l.first (l.end - l.first) (sweep l.initial.shadow l.initial.map l.initial.counts.changed l.initial.counts.joined))
 
-abbrev pub decreases-loop : goal.decreases-loop
-decreases-loop rules exclusion words source shadow₀ map₀ first end counts₀ i₀ shadow map counts i = end - i
+abbrev pub decreases-loop-i : goal.decreases-loop-i
+decreases-loop-i l = l.end - l.i

@@ -5,20 +5,20 @@ use Rattle.sync_tree.proofs.TableLaws.{table-inside, table-swept}
 use borrow.Author.Rules.{rules}
 use Rattle.sync_tree.proofs.sync_table.Goals as goal
 
-pub overflow-mul-first : goal.overflow-mul-first
-overflow-mul-first c =
+pub overflow_mul-first : goal.overflow_mul-first
+overflow_mul-first c =
     let start = c.before in
     let inside = table-inside start.args.words.now start.args.root _ _ _ refl refl start.requires.1 start.requires.0 in
     omega (arith, inside)
 
-pub overflow-add-table : goal.overflow-add-table
-overflow-add-table c =
+pub overflow_add-table : goal.overflow_add-table
+overflow_add-table c =
     let start = c.before in
     let inside = table-inside start.args.words.now start.args.root _ _ _ refl refl start.requires.1 start.requires.0 in
     omega (arith, inside)
 
-pub overflow-mul-table : goal.overflow-mul-table
-overflow-mul-table c =
+pub offset_bounds-words-first : goal.offset_bounds-words-first
+offset_bounds-words-first c =
     let start = c.before in
     let inside = table-inside start.args.words.now start.args.root _ _ _ refl refl start.requires.1 start.requires.0 in
     omega (arith, inside)
@@ -32,4 +32,4 @@ pub returns : goal.returns
 returns c =
     let start = c.before in
     table-swept start.args.words.now start.args.root _ _ _ refl refl start.requires.1 start.requires.0 _ _ _ _ refl
-    c.sync-flat.ensures
+    c.sync_flat.ensures
