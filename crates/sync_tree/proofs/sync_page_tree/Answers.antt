@@ -18,24 +18,19 @@ pub word_of-entry-requires : goal.word_of-entry-requires
 word_of-entry-requires c = tree-yes _ _ _ _ c.in_order.ensures (ap not c.if-not-in_order.false)
 
 pub sync_at-one-requires : goal.sync_at-one-requires
-sync_at-one-requires c =
-    let nine = c.before in
-    let seven = nine.before.before.before.before in (
-      tree-page-shadow _ _ _ _ _ seven.before.three-tables-in-order.ensures seven.if1.false _ _ nine.before.page-exists.ensures nine.if3.false,
-      tree-page-map _ _ _ _ _ seven.before.three-tables-in-order.ensures seven.if1.false _ _ nine.before.page-exists.ensures nine.if3.false,
-      omega arith,
-      omega arith,
-      tree-vector _ _ _ _ _ seven.before.three-tables-in-order.ensures seven.if1.false,
-      tree-few _ _ _ _ _ seven.before.three-tables-in-order.ensures seven.if1.false,
-    )
+sync_at-one-requires c = (
+  tree-page-shadow _ _ _ _ _ c.three_tables_in_order.ensures (ap not c.if-not-three_tables_in_order.false) _ _ c.page_exists.ensures
+      (ap not c.if-not-page_exists.false),
+  tree-page-map _ _ _ _ _ c.three_tables_in_order.ensures (ap not c.if-not-three_tables_in_order.false) _ _ c.page_exists.ensures
+      (ap not c.if-not-page_exists.false),
+  omega arith,
+  omega arith,
+  tree-vector _ _ _ _ _ c.three_tables_in_order.ensures (ap not c.if-not-three_tables_in_order.false),
+  tree-few _ _ _ _ _ c.three_tables_in_order.ensures (ap not c.if-not-three_tables_in_order.false),
+)
 
 pub returns : goal.returns
 returns c =
-    let nine = c.before in
-    let seventeen = nine.before.before in
-    let seven = seventeen.before.before in
-    page-tree-accepted _ _ _ _ _ _ _ _ seven.before.three-tables-in-order.ensures seven.if1.false _ seventeen.before.in_order.ensures
-    seventeen.if2.false _ _ nine.before.page-exists.ensures _ _ _ _ _ _ _ nine.if3.false
-    c.in_user.ensures
-    c.pending_frame.ensures
-    c.word_of-entry.ensures c.IsSync-at.ensures.0
+    page-tree-accepted _ _ _ _ _ _ _ _ c.three_tables_in_order.ensures (ap not c.if-not-three_tables_in_order.false) _ c.in_order.ensures
+    (ap not c.if-not-in_order.false) _ _ c.page_exists.ensures _ _ _ _ _ _ _ (ap not c.if-not-page_exists.false) c.in_user.ensures
+    c.pending_frame.ensures c.word_of-entry.ensures c.sync_at-one.ensures.0

@@ -46,11 +46,5 @@ loop-first-preserved c =
           c.part_of-part.ensures.1 run.0,
     )
 
-pub same-length : goal.same-length
-same-length c = search rules
-
-pub same-length-2 : goal.same-length-2
-same-length-2 c = search rules
-
 pub returns : goal.returns
 returns c = parts-over _ _ _ _ _ _ _ _ _ c.loop-first.invariant.6 (omega arith) (search rules)

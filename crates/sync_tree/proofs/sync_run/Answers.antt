@@ -40,14 +40,8 @@ loop-i-preserved c = (
   omega arith,
   run_more _ _ _ _ _ _ _ _ _ _ _ _ _ _ _ _ c.loop-i.invariant.6
       c.loop-i-test.true
-      c.kernel_entry-entry.ensures c.IsSync-at.ensures.0,
+      c.kernel_entry-entry.ensures c.sync_at-counts.ensures.0,
 )
-
-pub same-length : goal.same-length
-same-length c = search rules
-
-pub same-length-2 : goal.same-length-2
-same-length-2 c = omega arith
 
 pub returns : goal.returns
 returns c = (search (rules, swept-over), omega arith, omega arith)

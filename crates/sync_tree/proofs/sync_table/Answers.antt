@@ -7,29 +7,24 @@ use Rattle.sync_tree.proofs.sync_table.Goals as goal
 
 pub overflow_mul-first : goal.overflow_mul-first
 overflow_mul-first c =
-    let start = c.before in
-    let inside = table-inside start.args.words.now start.args.root _ _ _ refl refl start.requires.1 start.requires.0 in
+    let inside = table-inside c.args.words.now c.args.root _ _ _ refl refl c.requires.1 c.requires.0 in
     omega (arith, inside)
 
 pub overflow_add-table : goal.overflow_add-table
 overflow_add-table c =
-    let start = c.before in
-    let inside = table-inside start.args.words.now start.args.root _ _ _ refl refl start.requires.1 start.requires.0 in
+    let inside = table-inside c.args.words.now c.args.root _ _ _ refl refl c.requires.1 c.requires.0 in
     omega (arith, inside)
 
 pub offset_bounds-words-first : goal.offset_bounds-words-first
 offset_bounds-words-first c =
-    let start = c.before in
-    let inside = table-inside start.args.words.now start.args.root _ _ _ refl refl start.requires.1 start.requires.0 in
+    let inside = table-inside c.args.words.now c.args.root _ _ _ refl refl c.requires.1 c.requires.0 in
     omega (arith, inside)
 
-pub slice-bounds-table-end : goal.slice-bounds-table-end
-slice-bounds-table-end c =
-    let start = c.before in
-    table-inside start.args.words.now start.args.root _ _ _ refl refl start.requires.1 start.requires.0
+pub slice_bounds-table-end : goal.slice_bounds-table-end
+slice_bounds-table-end c =
+    table-inside c.args.words.now c.args.root _ _ _ refl refl c.requires.1 c.requires.0
 
 pub returns : goal.returns
 returns c =
-    let start = c.before in
-    table-swept start.args.words.now start.args.root _ _ _ refl refl start.requires.1 start.requires.0 _ _ _ _ refl
+    table-swept c.args.words.now c.args.root _ _ _ refl refl c.requires.1 c.requires.0 _ _ _ _ refl
     c.sync_flat.ensures
