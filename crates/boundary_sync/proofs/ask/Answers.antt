@@ -1,19 +1,20 @@
 -- `boundary_sync::ask` meets its contract.
+use Rattle.std.proofs.Common.{ap, not}
 use Rattle.boundary.proofs.BoundaryLaws.{unused, run-used}
 use Rattle.boundary_sync.proofs.SyncLaws.{ask-called}
 use borrow.Author.Rules.{rules}
 use Rattle.boundary_sync.proofs.ask.Goals as goal
 
-pub returns : goal.returns
-returns c = search (rules, unused)
+pub returns-then-not-usable : goal.returns-then-not-usable
+returns-then-not-usable c = search (rules, unused)
 
-pub state-in-requires : goal.state-in-requires
-state-in-requires c = search (rules, run-used)
+pub state_in-requires : goal.state_in-requires
+state_in-requires c = search (rules, run-used)
 
-pub put-paired-requires : goal.put-paired-requires
-put-paired-requires c =
+pub put_paired-requires : goal.put_paired-requires
+put_paired-requires c =
     run-used _ _ _ _ c.usable.ensures
-    c.if1.false
+    (ap not c.if-not-usable.false)
 
-pub returns-2 : goal.returns-2
-returns-2 c = search (rules, ask-called)
+pub returns : goal.returns
+returns c = search (rules, ask-called)

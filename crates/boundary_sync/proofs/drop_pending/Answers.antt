@@ -4,14 +4,14 @@ use Rattle.boundary_sync.proofs.SyncLaws.{vector-called}
 use borrow.Author.Rules.{rules}
 use Rattle.boundary_sync.proofs.drop_pending.Goals as goal
 
+pub returns-then-not-usable : goal.returns-then-not-usable
+returns-then-not-usable c = search (rules, unused)
+
+pub state_in-requires : goal.state_in-requires
+state_in-requires c = search (rules, run-used)
+
+pub put_paired-requires : goal.put_paired-requires
+put_paired-requires c = search (rules, run-used)
+
 pub returns : goal.returns
-returns c = search (rules, unused)
-
-pub state-in-requires : goal.state-in-requires
-state-in-requires c = search (rules, run-used)
-
-pub put-paired-requires : goal.put-paired-requires
-put-paired-requires c = search (rules, run-used)
-
-pub returns-2 : goal.returns-2
-returns-2 c = search (rules, vector-called)
+returns c = search (rules, vector-called)

@@ -4,11 +4,11 @@ use Rattle.boundary.proofs.BoundaryLaws.{unused, run-used}
 use Rattle.boundary_sync.proofs.SyncLaws.{sync-kept}
 use Rattle.boundary_sync.proofs.sync_page_tree.Goals as goal
 
+pub returns-then-not-usable : goal.returns-then-not-usable
+returns-then-not-usable c = search (rules, unused)
+
+pub state_in-requires : goal.state_in-requires
+state_in-requires c = search (rules, run-used)
+
 pub returns : goal.returns
-returns c = search (rules, unused)
-
-pub state-in-requires : goal.state-in-requires
-state-in-requires c = search (rules, run-used)
-
-pub returns-2 : goal.returns-2
-returns-2 c = search (rules, sync-kept)
+returns c = search (rules, sync-kept)
