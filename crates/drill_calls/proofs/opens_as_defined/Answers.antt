@@ -14,6 +14,7 @@ use Rattle.drill_model.specs.Drill.{drill_given, drill_start, start_line}
 use Rattle.laws.proofs.QuestionLaws.{both-no, both-no-after}
 use Rattle.drill_calls.specs.Turns.{Opening, opening_of, pages_lent, bytes_lent, lent_start, OpensAsDefined}
 use Rattle.drill_calls.proofs.opens_as_defined.Goals as goal
+
 -- Two openings that nobody can tell apart.
 -- A start whose V or F is out of range, on any tables.
 

@@ -9,6 +9,7 @@ use borrow.Author.Tests.{lt-ltb}
 use Rattle.drill_model.specs.Drill.{Drill, closing, call_lines}
 use Rattle.drill_loop.specs.Loop.{goes_on, left_after, LoopsAsDefined}
 use Rattle.drill_loop.proofs.loops_as_defined.Goals as goal
+
 -- The calls after one that went on or ended them, where one more was left.
 
 after : (n : ℕ) (goes : Bool) (d : Drill) (rest : List ℕ)

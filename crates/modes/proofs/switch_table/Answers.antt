@@ -8,6 +8,7 @@ use Rattle.laws.proofs.SwitchLaws.{switched_from, changes_from, switched-start}
 use Rattle.modes.proofs.TableLaws.{count-start, table_more, count-more, table-over, count-over}
 use borrow.Author.Rules.{rules}
 use Rattle.modes.proofs.switch_table.Goals as goal
+
 -- The table with the first i places as they are now and the others yet to be switched is the whole switched one, and so with the count.
 
 pub loop-i-init : goal.loop-i-init
