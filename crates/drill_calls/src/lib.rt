@@ -57,7 +57,7 @@ pub fn bytes_lent(bytes: &[u8]) -> usize
 }
 
 // What a turn leaves beside the tables: the state, the line, and whether calls go on.
-#[derive(Drop)]
+#[derive(Clone, Copy)]
 pub struct TurnResult {
     pub state: State,
     pub line: Line,

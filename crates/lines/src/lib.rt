@@ -11,7 +11,7 @@ ghost use Rattle.lines.specs.Text.{text};
 
 use model::{Answer, Mode};
 
-#[derive(Drop)]
+#[derive(Clone, Copy)]
 pub struct Line {
     pub bytes: [u8; 96],
     pub len: usize,
