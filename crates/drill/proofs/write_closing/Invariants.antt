@@ -1,13 +1,9 @@
-use Prim.Native.Nat.{◌-◌, ◌≤◌}
-use mathlib.Core.Path.{sym, ap}
-use lib.ListN.{length}
-use native.Mathlib.Omega.{arith}
-use borrow.Author.Rules.{rules}
-use Rattle.drill_model.specs.Drill.{hex_digits}
+-- Each turn goes on to the next entry.
+use Rattle.std.proofs.Common.{length, ◌-◌, ◌≤◌}
 use Rattle.drill.proofs.write_closing.Given as goal
 
-abbrev pub invariant-loop : goal.invariant-loop
-invariant-loop frames shadow exclusion i₀ i = i ≤ length shadow
+abbrev pub invariant-loop-i : goal.invariant-loop-i
+invariant-loop-i g l = l.i ≤ length l.shadow
 
-abbrev pub decreases-loop : goal.decreases-loop
-decreases-loop frames shadow exclusion i₀ i = length shadow - i
+abbrev pub decreases-loop-i : goal.decreases-loop-i
+decreases-loop-i g l = length l.shadow - l.i
