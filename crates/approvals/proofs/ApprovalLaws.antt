@@ -19,7 +19,7 @@ use Rattle.model.specs.Guard.{none, Tables, with_shadow, with_map, with_exclusio
 use Rattle.model.specs.Guard.{pending_frame, is_asked, with_pending}
 use Rattle.model.specs.Approvals.{maps_writable, committed_slot}
 use Rattle.model.specs.Sync.{Sweep, sweep, sweep_from}
-use Rattle.model.specs.Questions.{Question, pending_in_range, state_in_order, in_order, ask_questions, page_unapproved, commit_questions, drop_questions}
+use Rattle.model.specs.Questions.{pending_in_range, state_in_order, in_order, ask_questions, page_unapproved, commit_questions, drop_questions}
 use Rattle.model.specs.Calls.{outcome, accepted, reply_of, outcome_by, ask, commit, drop, questions_of, bit_put, pair_committed, effect_of, answer}
 use Rattle.laws.proofs.QuestionLaws.{both_first, both-second, first_no-yes, first_no-no}
 use Rattle.laws.proofs.StateLaws.{pages-few, frames-few, in_order_lem, state-parts}

@@ -25,7 +25,7 @@ use Rattle.claim.specs.CallKinds.{term_change_of}
 use Rattle.claim.specs.OnePage.{Page, with_slot, with_pair, News, synchronised, entered, exited, asked, committed, dropped, nothing, index_in, first_page}
 use Rattle.claim.specs.OnePage.{switched_page, stepped, asked_page, committed_page, dropped_page, told, news_of_one, news_of_all, news}
 use Rattle.claim.specs.OnePage.{reached_in, seen_by, settled, pages_after}
-use Rattle.claim.specs.Terms.{Terms, first_terms, pending_term, term_after, terms_after, in_term, is_committed, protected, code}
+use Rattle.claim.specs.Terms.{Terms, first_terms, term_after, terms_after, in_term, is_committed, protected, code}
 use Rattle.claim.specs.Lists.{outcome_of, Accepts, guard_after, terms_along}
 use Rattle.claim.specs.Consequences.{Committed}
 use Rattle.claim.specs.Installed.{Harmless, Installed, InstalledMaps, InstalledWrites, InstalledRuns, SpareBitsZero}

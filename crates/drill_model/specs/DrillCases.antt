@@ -1,6 +1,6 @@
 -- Document 01, "The drill program": small inputs with every byte that the drill writes, on policies whose V is not their F; a call's fields and
 -- the drill's numbers by themselves; the share (K7); the drill's windows (K5); and the limit of calls.
-use Rattle.std.specs.Prelude.{ℕ, zero, suc, ◌+◌, ◌/◌, ◌%◌, List, [], ◌∷◌, ◌++◌, ◌≡◌, replicate}
+use Rattle.std.specs.Prelude.{ℕ, zero, suc, ◌/◌, ◌%◌, List, [], ◌∷◌, ◌++◌, ◌≡◌, replicate}
 use Rattle.model.specs.declared.Device.{Device}
 use Rattle.model.specs.Devices.{device_of}
 use Rattle.model.specs.Cases.{Row, row, policy_bytes}

@@ -1,5 +1,5 @@
 -- A shadow entry that has a frame: bits 0 and 1 and the frame in one number, compared at once.
-use Rattle.std.proofs.Common.{◌≡◌, ℕ, ◌+◌, ◌*◌, ◌/◌, ◌%◌, ◌^◌, ◌<◌, Bool, true, false, eqb, sym, refl, ◌∙◌, arith, eq-eqb, eqb-true}
+use Rattle.std.proofs.Common.{◌≡◌, ℕ, ◌+◌, ◌*◌, ◌/◌, ◌%◌, ◌^◌, Bool, true, false, eqb, sym, refl, ◌∙◌, arith, eq-eqb, eqb-true}
 use Rattle.model.specs.Basics.{bit}
 use Rattle.model.specs.Bits.{present, writable, frame_of}
 use Rattle.model.specs.Approvals.{maps, maps_writable}

@@ -11,7 +11,7 @@ use Rattle.model.specs.Tree.{tree_of}
 use Rattle.model.specs.Calls.{Outcome, outcome, accepted, refused, start_of, sync_page, sync_all, sync_page_tree, sync_all_tree, fetch, write, enter, leave}
 use Rattle.model.specs.Calls.{device_write}
 use Rattle.model.specs.Cases.{row, Case}
-use Rattle.model.specs.Further.{two_entries, three_devices, start_refused, with6, shadow6, started6, left6, leaving, stays}
+use Rattle.model.specs.Further.{two_entries, three_devices, start_refused, with6, shadow6, started6, left6, stays}
 
 -- The start on that policy and on tables that hold ones, given so many devices.
 unfoldable pub start_with : ℕ → List ℕ → Outcome

@@ -1,5 +1,5 @@
 -- Laws of the start's answers: made of the record, refused by it, refused by question 7, accepted.
-use Prim.Native.Nat.{ℕ, ◌+◌, ◌*◌, ◌≤◌, ◌<◌}
+use Prim.Native.Nat.{ℕ, ◌+◌, ◌*◌, ◌≤◌}
 use mathlib.Core.Bool.{Bool, true, false, not, cond}
 use mathlib.Core.List.{List, [], ◌∷◌}
 use mathlib.Core.Path.{◌≡◌, refl, sym, ◌∙◌}
@@ -11,14 +11,13 @@ use Rattle.model.specs.declared.Called.{Called}
 use Rattle.model.specs.declared.Answer.TheVariants.{Done}
 use Rattle.model.specs.declared.Mode.TheVariants.{Kernel}
 use Rattle.model.specs.declared.Pending.TheVariants.{Nothing}
-use Rattle.model.specs.Sizes.{devices_in_range}
 use Rattle.model.specs.Guard.{Tables, tables, vector_bytes}
 use Rattle.model.specs.Policy.{Givens, number_at, policy_of, start_state, start_tables, start_guard}
-use Rattle.model.specs.Questions.{first_no, all_below, in_order, givens_in_range, record_questions, Lengths, lengths_of, lengths_fit, start_questions}
+use Rattle.model.specs.Questions.{first_no, all_below, in_order, record_questions, Lengths, lengths_of, lengths_fit, start_questions}
 use Rattle.model.specs.Calls.{reply_of, outcome_by, start_of}
-use Rattle.laws.proofs.QuestionLaws.{settle-accepted, within-high}
+use Rattle.laws.proofs.QuestionLaws.{settle-accepted}
 use Rattle.laws.proofs.CallLaws.{settle-refused-by}
-use Rattle.laws.proofs.PolicyLaws.{all_below-wider, Passed, Fitting, start-record, start-passed, start-given, start-fitting, record-length}
+use Rattle.laws.proofs.PolicyLaws.{all_below-wider, Passed, Fitting, start-record, start-passed, start-fitting, record-length}
 use Rattle.policy.proofs.RecordLaws.{start-refused, start-asked}
 use Rattle.start.specs.Start.{refused_start, accepted_start, entry_table, with_each}
 use Rattle.start.proofs.TablesSet.{entries-are, first-is, each-length}

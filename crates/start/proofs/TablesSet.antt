@@ -6,13 +6,13 @@ use mathlib.Core.Path.{◌≡◌, refl, sym, ap, fun_ext, ◌∙◌}
 use lib.Dec.{ltb, eqb}
 use lib.ListN.{length, get_or, take, replicate}
 use native.Mathlib.Omega.{arith}
-use borrow.Author.Tests.{lt-ltb, ltb-true, ne_eqb}
+use borrow.Author.Tests.{ltb-true, ne_eqb}
 use Rattle.model.specs.Basics.{either, table, member, flag}
 use Rattle.model.specs.Guard.{none, vector_bytes, byte_of, vector_of, with_bit}
 use Rattle.model.specs.Policy.{number_at, numbers_at, policy_of, frame_for, approval_for, named, first_entry, entry_pages, start_tables}
 use Rattle.model.specs.Bits.{approved}
 use Rattle.model.specs.Questions.{all_below}
-use Rattle.laws.proofs.TableLaws.{table_same, get_or-table, set-table, take-table, table-const}
+use Rattle.laws.proofs.TableLaws.{table_same, set-table, take-table, table-const}
 use Rattle.laws.proofs.PolicyLaws.{get_or-numbers_at, all_below-head, all_below-tail, frame_for-map}
 use Rattle.laws.proofs.VectorLaws.{with_bit-length, with_bit-vector_of}
 use Rattle.start.specs.Start.{stored_each, approved_each, with_each, entry_table}

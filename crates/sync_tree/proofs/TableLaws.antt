@@ -1,11 +1,11 @@
 -- A tree of depth 1: its table is the flat table of its pages, as far as entries are taken apart.
-use Prim.Native.Nat.{ℕ, zero, suc, ◌+◌, ◌-◌, ◌*◌, ◌/◌, ◌%◌, ◌^◌, ◌≤◌, ◌<◌}
+use Prim.Native.Nat.{ℕ, suc, ◌+◌, ◌-◌, ◌*◌, ◌/◌, ◌%◌, ◌^◌, ◌≤◌, ◌<◌}
 use mathlib.Core.Bool.{Bool, true, false, ◌&&◌, false≢true}
 use mathlib.Core.List.{List, [], ◌∷◌}
 use mathlib.Core.Path.{◌≡◌, refl, sym, ap, ◌∙◌}
 use mathlib.Core.Logic.{◌⊎◌, inl, inr}
 use native.Mathlib.Omega.{arith}
-use lib.Dec.{ltb, leb, eqb}
+use lib.Dec.{leb, eqb}
 use lib.ListN.{length, get_or, take, drop}
 use lib.Seq.{get_or-take, get_or-drop}
 use borrow.Author.Tests.{lt-ltb, ltb-true, eqb-true, leb-true}
@@ -13,11 +13,11 @@ use Rattle.model.specs.declared.Entry.{Entry}
 use Rattle.model.specs.declared.Entry.TheVariants.{Absent, Present}
 use Rattle.model.specs.Basics.{both, either, bit, flag}
 use Rattle.model.specs.Bits.{present, valid, taken_apart, fields_of, writable, user_bit, write_through, cache_disable, no_execute, frame_of}
-use Rattle.model.specs.Tree.{Tree, tree_of, tables_in, tree_in_order, place_above, Rights, all_rights, gathered, flat_entry, Walk, meeting, onward, walk_from, walk_of, flat_at}
-use Rattle.model.specs.Sync.{Rules, Slot, Sweep, sweep_from, entry_in, step, step_from}
+use Rattle.model.specs.Tree.{tree_of, tables_in, tree_in_order, place_above, Rights, all_rights, gathered, flat_entry, Walk, meeting, onward, walk_from, walk_of, flat_at}
+use Rattle.model.specs.Sync.{Rules, Slot, Sweep, sweep_from, entry_in, step_from}
 use Rattle.laws.proofs.BitLaws.{bit_is, taken-apart, present-valid, valid-parts, lowest, lowest-lt, lowest-of}
 use Rattle.laws.proofs.QuestionLaws.{both-second}
-use Rattle.laws.proofs.VectorLaws.{flag-weight, flag_small, flag-bit}
+use Rattle.laws.proofs.VectorLaws.{flag-weight, flag_small}
 use Rattle.tree.proofs.BitLaws.{apart-by-bits}
 use Rattle.sync_tree.proofs.SourceLaws.{step_same}
 

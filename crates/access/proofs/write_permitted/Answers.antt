@@ -1,6 +1,5 @@
 -- `access::write_permitted` meets its contract.
 use Rattle.model.specs.Questions.{write_permitted}
-use borrow.Author.Rules.{rules}
 use Rattle.access.proofs.write_permitted.Goals as goal
 
 pub returns : goal.returns

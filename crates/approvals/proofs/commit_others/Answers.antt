@@ -1,11 +1,7 @@
 -- Before page i the tables and counts, with the sweep over what is left, are the whole sweep.
-use Prim.Native.Nat.{◌-◌, ◌≤◌}
-use mathlib.Core.Path.{◌≡◌}
 use native.Mathlib.Omega.{arith}
-use lib.ListN.{length}
-use Rattle.model.specs.Sync.{sweep, sweep_from}
-use Rattle.laws.proofs.SweepLaws.{whole, whole-start}
-use Rattle.approvals.proofs.CommitLaws.{joining, commit-more, commit-over}
+use Rattle.laws.proofs.SweepLaws.{whole-start}
+use Rattle.approvals.proofs.CommitLaws.{commit-more, commit-over}
 use borrow.Author.Rules.{rules}
 use Rattle.approvals.proofs.commit_others.Goals as goal
 

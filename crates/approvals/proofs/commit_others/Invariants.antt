@@ -1,11 +1,9 @@
 use Prim.Native.Nat.{◌-◌, ◌≤◌}
 use mathlib.Core.Path.{◌≡◌}
-use native.Mathlib.Omega.{arith}
 use lib.ListN.{length}
 use Rattle.model.specs.Sync.{sweep, sweep_from}
-use Rattle.laws.proofs.SweepLaws.{whole, whole-start}
-use Rattle.approvals.proofs.CommitLaws.{joining, commit-more, commit-over}
-use borrow.Author.Rules.{rules}
+use Rattle.laws.proofs.SweepLaws.{whole}
+use Rattle.approvals.proofs.CommitLaws.{joining}
 use Rattle.approvals.proofs.commit_others.Given as goal
 
 abbrev pub invariant-loop-i : goal.invariant-loop-i

@@ -1,6 +1,5 @@
 -- The asked page, and then the others.
 use Rattle.approvals.proofs.CommitLaws.{asked-first}
-use borrow.Author.Rules.{rules}
 use Rattle.approvals.proofs.commit_pages.Goals as goal
 
 pub returns : goal.returns

@@ -1,9 +1,6 @@
 -- The entries from place i on decide.
-use Prim.Native.Nat.{◌-◌, ◌≤◌}
-use mathlib.Core.Path.{◌≡◌}
 use native.Mathlib.Omega.{arith}
-use lib.ListN.{length}
-use Rattle.approvals.proofs.ApprovalLaws.{unwritable, writable-start, writable-found, writable-more, writable-over}
+use Rattle.approvals.proofs.ApprovalLaws.{writable-start, writable-found, writable-more, writable-over}
 use borrow.Author.Rules.{rules}
 use Rattle.approvals.proofs.none_writable.Goals as goal
 

@@ -1,9 +1,7 @@
 use Prim.Native.Nat.{◌-◌, ◌≤◌}
 use mathlib.Core.Path.{◌≡◌}
-use native.Mathlib.Omega.{arith}
 use lib.ListN.{length}
-use Rattle.approvals.proofs.ApprovalLaws.{unwritable, writable-start, writable-found, writable-more, writable-over}
-use borrow.Author.Rules.{rules}
+use Rattle.approvals.proofs.ApprovalLaws.{unwritable}
 use Rattle.approvals.proofs.none_writable.Given as goal
 
 abbrev pub invariant-loop-i : goal.invariant-loop-i

@@ -1,6 +1,5 @@
 -- `bitmap::clear_between` meets its contract.
 use Rattle.bitmap.proofs.RangeLaws.{clear-part}
-use borrow.Author.Rules.{rules}
 use Rattle.bitmap.proofs.clear_between.Goals as goal
 
 pub returns : goal.returns

@@ -1,8 +1,6 @@
 -- `bitmap::clear_bytes` meets its contract.
-use Prim.Native.Nat.{◌*◌, ◌-◌, ◌≤◌}
-use mathlib.Core.Path.{◌≡◌}
 use native.Mathlib.Omega.{arith}
-use Rattle.bitmap.proofs.RangeLaws.{free_from, rest_clear, rest-start, rest_more, rest_over}
+use Rattle.bitmap.proofs.RangeLaws.{rest-start, rest_more, rest_over}
 use borrow.Author.Rules.{rules}
 use Rattle.bitmap.proofs.clear_bytes.Goals as goal
 

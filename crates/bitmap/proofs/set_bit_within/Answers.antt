@@ -1,6 +1,5 @@
 -- A law for the answer.
 use Rattle.bitmap.proofs.BitmapLaws.{set-bit-in}
-use borrow.Author.Rules.{rules}
 use Rattle.bitmap.proofs.set_bit_within.Goals as goal
 
 pub returns : goal.returns

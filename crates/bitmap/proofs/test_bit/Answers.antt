@@ -1,9 +1,6 @@
 use Rattle.bitmap.proofs.BitmapLaws.{test-bit-past}
 use borrow.Author.Rules.{rules}
 use Rattle.bitmap.proofs.test_bit.Goals as goal
-use Rattle.bitmap.proofs.test_bit.Reads as reads
-use Rattle.bitmap.proofs.test_bit.Lts as lts
-use Rattle.bitmap.proofs.test_bit_within.Reads as test-bit-within-reads
 
 pub returns-else-at-exclusion : goal.returns-else-at-exclusion
 returns-else-at-exclusion c = search (rules, test-bit-past)

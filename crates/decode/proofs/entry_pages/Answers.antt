@@ -1,10 +1,8 @@
 -- `decode::entry_pages` meets its contract: below i, each place has its word.
-use Prim.Native.Nat.{ℕ, ◌+◌, ◌-◌, ◌<◌, ◌≤◌}
-use mathlib.Core.Path.{◌≡◌, refl}
-use lib.ListN.{length, get_or, length-set}
+use mathlib.Core.Path.{refl}
+use lib.ListN.{length-set}
 use borrow.Author.Count.{below_none}
 use native.Mathlib.Omega.{arith}
-use Rattle.boundary_model.specs.Words.{entry_pages_at, entry_words}
 use Rattle.decode.proofs.WordLaws.{entries-more, entries_over}
 use borrow.Author.Rules.{rules}
 use Rattle.decode.proofs.entry_pages.Goals as goal

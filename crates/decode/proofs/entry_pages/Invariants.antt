@@ -1,11 +1,7 @@
 use Prim.Native.Nat.{ℕ, ◌+◌, ◌-◌, ◌<◌, ◌≤◌}
-use mathlib.Core.Path.{◌≡◌, refl}
-use lib.ListN.{length, get_or, length-set}
-use borrow.Author.Count.{below_none}
-use native.Mathlib.Omega.{arith}
+use mathlib.Core.Path.{◌≡◌}
+use lib.ListN.{length, get_or}
 use Rattle.boundary_model.specs.Words.{entry_pages_at, entry_words}
-use Rattle.decode.proofs.WordLaws.{entries-more, entries_over}
-use borrow.Author.Rules.{rules}
 use Rattle.decode.proofs.entry_pages.Given as goal
 
 abbrev pub invariant-loop-i : goal.invariant-loop-i

@@ -1,5 +1,4 @@
 -- `decode::runs_fit` meets its contract.
-use borrow.Author.Rules.{rules}
 use Rattle.boundary_model.specs.Words.{runs_fit}
 use Rattle.decode.proofs.runs_fit.Goals as goal
 

@@ -1,6 +1,5 @@
 -- `decode::state_in` meets its contract.
 use Rattle.boundary_model.specs.Words.{state_in}
-use borrow.Author.Rules.{rules}
 use Rattle.decode.proofs.state_in.Goals as goal
 
 pub returns : goal.returns

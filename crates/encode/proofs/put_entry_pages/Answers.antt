@@ -1,10 +1,9 @@
 -- `encode::put_entry_pages` meets its contract: i entry pages are copied.
-use Prim.Native.Nat.{◌-◌, ◌≤◌}
-use mathlib.Core.Path.{◌≡◌, refl}
-use lib.ListN.{length, length-set}
-use lib.Seq.{paste, paste-zero}
+use mathlib.Core.Path.{refl}
+use lib.ListN.{length-set}
+use lib.Seq.{paste-zero}
 use native.Mathlib.Omega.{arith}
-use Rattle.boundary_model.specs.Words.{entry_pages_at, entry_words}
+use Rattle.boundary_model.specs.Words.{entry_pages_at}
 use Rattle.encode.proofs.RunLaws.{paste_more, paste-over}
 use borrow.Author.Rules.{rules}
 use Rattle.encode.proofs.put_entry_pages.Goals as goal

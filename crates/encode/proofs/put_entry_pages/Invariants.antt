@@ -1,11 +1,8 @@
 use Prim.Native.Nat.{◌-◌, ◌≤◌}
-use mathlib.Core.Path.{◌≡◌, refl}
-use lib.ListN.{length, length-set}
-use lib.Seq.{paste, paste-zero}
-use native.Mathlib.Omega.{arith}
+use mathlib.Core.Path.{◌≡◌}
+use lib.ListN.{length}
+use lib.Seq.{paste}
 use Rattle.boundary_model.specs.Words.{entry_pages_at, entry_words}
-use Rattle.encode.proofs.RunLaws.{paste_more, paste-over}
-use borrow.Author.Rules.{rules}
 use Rattle.encode.proofs.put_entry_pages.Given as goal
 
 abbrev pub invariant-loop-i : goal.invariant-loop-i

@@ -1,5 +1,5 @@
 -- `encode::put_front` meets its contract.
-use Rattle.encode.proofs.StateLaws.{front_kept, front-written}
+use Rattle.encode.proofs.StateLaws.{front-written}
 use borrow.Author.Rules.{rules}
 use Rattle.encode.proofs.put_front.Goals as goal
 

@@ -1,5 +1,5 @@
 -- `encode::put_last` meets its contract.
-use Rattle.encode.proofs.StateLaws.{devices-kept, last-kept, last_written}
+use Rattle.encode.proofs.StateLaws.{devices-kept, last_written}
 use borrow.Author.Rules.{rules}
 use Rattle.encode.proofs.put_last.Goals as goal
 

@@ -1,5 +1,5 @@
 -- One law, of the shifted entry.
-use Rattle.std.proofs.Common.{arith, rules}
+use Rattle.std.proofs.Common.{arith}
 use Rattle.entry.proofs.ApartLaws.{valid-is}
 use Rattle.entry.proofs.valid.Goals as goal
 

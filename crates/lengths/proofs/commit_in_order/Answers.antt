@@ -1,6 +1,5 @@
 -- `lengths::commit_in_order` meets its contract.
 use Rattle.model.specs.Questions.{in_order}
-use borrow.Author.Rules.{rules}
 use Rattle.lengths.proofs.commit_in_order.Goals as goal
 
 pub returns : goal.returns

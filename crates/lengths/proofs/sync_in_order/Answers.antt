@@ -1,6 +1,5 @@
 -- The same, of the kernel table too.
 use Rattle.model.specs.Questions.{in_order}
-use borrow.Author.Rules.{rules}
 use Rattle.lengths.proofs.sync_in_order.Goals as goal
 
 pub returns : goal.returns

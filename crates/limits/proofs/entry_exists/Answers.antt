@@ -1,5 +1,4 @@
 -- `limits::entry_exists` meets its contract.
-use borrow.Author.Rules.{rules}
 use Rattle.limits.proofs.entry_exists.Goals as goal
 
 pub returns : goal.returns

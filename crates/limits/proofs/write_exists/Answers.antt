@@ -1,7 +1,6 @@
 -- `limits::write_exists` meets its contract.
 use Rattle.laws.proofs.TouchLaws.{last-page-below}
 use mathlib.Core.Path.{◌∙◌}
-use borrow.Author.Rules.{rules}
 use Rattle.limits.proofs.write_exists.Goals as goal
 
 pub returns : goal.returns

@@ -1,6 +1,5 @@
 -- `lines::entry_line` meets its contract.
 use native.Mathlib.Nat.{div-one}
-use borrow.Author.Rules.{rules}
 use Rattle.drill_model.specs.Drill.{hex_digits}
 use Rattle.lines.proofs.entry_line.Goals as goal
 

@@ -1,6 +1,5 @@
 -- `lines::share_word` meets its contract.
 use mathlib.Core.Path.{refl}
-use borrow.Author.Rules.{rules}
 use Rattle.lines.specs.Text.{text}
 use Rattle.lines.proofs.share_word.Goals as goal
 

@@ -1,6 +1,5 @@
 -- `modes::leave_permitted` meets its contract.
 use Rattle.model.specs.Questions.{leave_permitted}
-use borrow.Author.Rules.{rules}
 use Rattle.modes.proofs.leave_permitted.Goals as goal
 
 pub returns : goal.returns

@@ -1,10 +1,8 @@
 -- `modes::switch_table` meets its contract.
-use Prim.Native.Nat.{◌+◌, ◌-◌, ◌≤◌}
-use mathlib.Core.Path.{◌≡◌, refl}
+use mathlib.Core.Path.{refl}
 use native.Mathlib.Omega.{arith}
-use lib.ListN.{length, length-set}
-use Rattle.model.specs.Switch.{switched_all, changes}
-use Rattle.laws.proofs.SwitchLaws.{switched_from, changes_from, switched-start}
+use lib.ListN.{length-set}
+use Rattle.laws.proofs.SwitchLaws.{switched-start}
 use Rattle.modes.proofs.TableLaws.{count-start, table_more, count-more, table-over, count-over}
 use borrow.Author.Rules.{rules}
 use Rattle.modes.proofs.switch_table.Goals as goal

@@ -1,11 +1,8 @@
 use Prim.Native.Nat.{◌+◌, ◌-◌, ◌≤◌}
-use mathlib.Core.Path.{◌≡◌, refl}
-use native.Mathlib.Omega.{arith}
-use lib.ListN.{length, length-set}
+use mathlib.Core.Path.{◌≡◌}
+use lib.ListN.{length}
 use Rattle.model.specs.Switch.{switched_all, changes}
-use Rattle.laws.proofs.SwitchLaws.{switched_from, changes_from, switched-start}
-use Rattle.modes.proofs.TableLaws.{count-start, table_more, count-more, table-over, count-over}
-use borrow.Author.Rules.{rules}
+use Rattle.laws.proofs.SwitchLaws.{switched_from, changes_from}
 use Rattle.modes.proofs.switch_table.Given as goal
 
 abbrev pub invariant-loop-i : goal.invariant-loop-i

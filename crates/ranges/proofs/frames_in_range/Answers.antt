@@ -1,6 +1,5 @@
 -- `ranges::frames_in_range` meets its contract.
 use Rattle.model.specs.Sizes.{frames_in_range}
-use borrow.Author.Rules.{rules}
 use Rattle.ranges.proofs.frames_in_range.Goals as goal
 
 pub returns : goal.returns

@@ -1,5 +1,4 @@
 -- `ranges::in_range` meets its contract.
-use borrow.Author.Rules.{rules}
 use Rattle.ranges.proofs.in_range.Goals as goal
 use Rattle.model.specs.Basics.{within}
 

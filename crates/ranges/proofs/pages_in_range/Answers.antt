@@ -1,6 +1,5 @@
 -- `ranges::pages_in_range` meets its contract.
 use Rattle.model.specs.Sizes.{pages_in_range}
-use borrow.Author.Rules.{rules}
 use Rattle.ranges.proofs.pages_in_range.Goals as goal
 
 pub returns : goal.returns

@@ -1,6 +1,5 @@
 -- `ranges::pending_in_range` meets its contract.
 use Rattle.model.specs.Questions.{pending_in_range}
-use borrow.Author.Rules.{rules}
 use Rattle.ranges.proofs.pending_in_range.Goals as goal
 
 pub returns-in-Nothing : goal.returns-in-Nothing

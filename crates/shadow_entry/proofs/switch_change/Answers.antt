@@ -1,7 +1,6 @@
 -- One law, of an entry and a result of 64 bits.
 use native.Mathlib.Omega.{arith}
 use Rattle.shadow_entry.proofs.SwitchLaws.{change-is}
-use borrow.Author.Rules.{rules}
 use Rattle.shadow_entry.proofs.switch_change.Goals as goal
 
 pub returns : goal.returns

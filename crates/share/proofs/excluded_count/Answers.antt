@@ -1,10 +1,6 @@
 -- `share::excluded_count` meets its contract.
-use Prim.Native.Nat.{◌+◌, ◌-◌, ◌≤◌}
-use mathlib.Core.Path.{◌≡◌}
 use native.Mathlib.Omega.{arith}
 use borrow.Author.Rules.{rules}
-use Rattle.model.specs.Guard.{has_bit}
-use Rattle.drill_model.specs.Drill.{count_from}
 use Rattle.share.proofs.CountLaws.{count-begins, count-more, count-over}
 use Rattle.share.proofs.excluded_count.Goals as goal
 

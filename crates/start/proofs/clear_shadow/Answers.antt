@@ -1,8 +1,4 @@
 -- The places passed hold 0, and the others what they held.
-use Prim.Native.Nat.{◌-◌, ◌≤◌}
-use mathlib.Core.List.{◌++◌}
-use mathlib.Core.Path.{◌≡◌}
-use lib.ListN.{length, drop, replicate}
 use borrow.Author.Rules.{rules}
 use Rattle.start.proofs.LoopLaws.{fill_step, fill-ends}
 use Rattle.start.proofs.clear_shadow.Goals as goal

@@ -2,8 +2,6 @@ use Prim.Native.Nat.{◌-◌, ◌≤◌}
 use mathlib.Core.List.{◌++◌}
 use mathlib.Core.Path.{◌≡◌}
 use lib.ListN.{length, drop, replicate}
-use borrow.Author.Rules.{rules}
-use Rattle.start.proofs.LoopLaws.{fill_step, fill-ends}
 use Rattle.start.proofs.clear_shadow.Given as goal
 
 abbrev pub invariant-loop-i : goal.invariant-loop-i

@@ -1,8 +1,4 @@
 -- The places passed hold the bytes read, and the others what they held.
-use Prim.Native.Nat.{◌-◌, ◌≤◌}
-use mathlib.Core.List.{◌++◌}
-use mathlib.Core.Path.{◌≡◌}
-use lib.ListN.{length, take, drop}
 use borrow.Author.Rules.{rules}
 use Rattle.start.proofs.LoopLaws.{copy_step, copy-ends}
 use Rattle.start.proofs.copy_front.Goals as goal

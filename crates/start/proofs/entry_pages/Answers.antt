@@ -1,8 +1,5 @@
 -- The entry pages passed are read, and the others are 0.
-use Prim.Native.Nat.{◌+◌, ◌-◌, ◌*◌, ◌≤◌}
-use mathlib.Core.Path.{◌≡◌}
 use borrow.Author.Rules.{rules}
-use Rattle.start.specs.Start.{entry_table}
 use Rattle.start.proofs.LoopLaws.{entries_none, entries-step, entries-end}
 use Rattle.start.proofs.entry_pages.Goals as goal
 

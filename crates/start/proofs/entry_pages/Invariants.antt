@@ -1,8 +1,6 @@
 use Prim.Native.Nat.{◌+◌, ◌-◌, ◌*◌, ◌≤◌}
 use mathlib.Core.Path.{◌≡◌}
-use borrow.Author.Rules.{rules}
 use Rattle.start.specs.Start.{entry_table}
-use Rattle.start.proofs.LoopLaws.{entries_none, entries-step, entries-end}
 use Rattle.start.proofs.entry_pages.Given as goal
 
 abbrev pub invariant-loop-i : goal.invariant-loop-i

@@ -1,12 +1,5 @@
 -- The places that are left are set as all of them were to be, the frames that are left are excluded so too, and every one is inside its table.
-use Prim.Native.Nat.{◌+◌, ◌*◌}
-use mathlib.Core.Bool.{true}
-use mathlib.Core.Path.{◌≡◌}
-use lib.ListN.{length}
 use borrow.Author.Rules.{rules}
-use Rattle.model.specs.Policy.{numbers_at}
-use Rattle.model.specs.Questions.{all_below}
-use Rattle.start.specs.Start.{stored_each, approved_each, with_each}
 use Rattle.start.proofs.LoopLaws.{page-inside, pages-inside, frame-inside, listed-map, listed-shadow, listed-end, gather-step, gather-ends}
 use Rattle.start.proofs.set_listed.Goals as goal
 

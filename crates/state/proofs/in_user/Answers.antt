@@ -1,6 +1,5 @@
 -- `state::in_user` meets its contract.
 use Rattle.model.specs.Guard.{in_user}
-use borrow.Author.Rules.{rules}
 use Rattle.state.proofs.in_user.Goals as goal
 
 pub returns-in-Kernel : goal.returns-in-Kernel

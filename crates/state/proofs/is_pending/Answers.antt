@@ -1,6 +1,5 @@
 -- `state::is_pending` meets its contract.
 use Rattle.model.specs.Guard.{is_pending}
-use borrow.Author.Rules.{rules}
 use Rattle.state.proofs.is_pending.Goals as goal
 
 pub returns-in-Nothing : goal.returns-in-Nothing

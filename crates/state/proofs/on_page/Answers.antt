@@ -1,6 +1,5 @@
 -- `state::on_page` meets its contract.
 use Rattle.model.specs.Guard.{in_user, mode_of}
-use borrow.Author.Rules.{rules}
 use Rattle.state.proofs.on_page.Goals as goal
 
 pub returns-in-Kernel : goal.returns-in-Kernel

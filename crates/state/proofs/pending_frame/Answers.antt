@@ -1,6 +1,5 @@
 -- `state::pending_frame` meets its contract.
 use Rattle.model.specs.Guard.{pending_frame}
-use borrow.Author.Rules.{rules}
 use Rattle.state.proofs.pending_frame.Goals as goal
 
 pub returns-in-Nothing : goal.returns-in-Nothing

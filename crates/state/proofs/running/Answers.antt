@@ -1,6 +1,5 @@
 -- `state::running` meets its contract.
 use Rattle.model.specs.Guard.{running}
-use borrow.Author.Rules.{rules}
 use Rattle.state.proofs.running.Goals as goal
 
 pub returns-in-Kernel : goal.returns-in-Kernel

@@ -1,11 +1,6 @@
 -- Before page i the tables and counts, with the sweep over what is left, are the whole sweep.
-use Prim.Native.Nat.{◌≤◌, ◌-◌}
-use mathlib.Core.Path.{◌≡◌}
 use native.Mathlib.Omega.{arith}
-use lib.ListN.{length}
-use Rattle.model.specs.Sync.{sweep, sweep_from, entry_in, step_from}
-use Rattle.laws.proofs.SweepLaws.{whole, whole-start}
-use Rattle.step.specs.Steps.{rules_by}
+use Rattle.laws.proofs.SweepLaws.{whole-start}
 use Rattle.sync.proofs.FlatLaws.{sweep-more, sweep-over}
 use borrow.Author.Rules.{rules}
 use Rattle.sync.proofs.sync_pages.Goals as goal

@@ -1,12 +1,9 @@
 use Prim.Native.Nat.{◌≤◌, ◌-◌}
 use mathlib.Core.Path.{◌≡◌}
-use native.Mathlib.Omega.{arith}
 use lib.ListN.{length}
 use Rattle.model.specs.Sync.{sweep, sweep_from, entry_in, step_from}
-use Rattle.laws.proofs.SweepLaws.{whole, whole-start}
+use Rattle.laws.proofs.SweepLaws.{whole}
 use Rattle.step.specs.Steps.{rules_by}
-use Rattle.sync.proofs.FlatLaws.{sweep-more, sweep-over}
-use borrow.Author.Rules.{rules}
 use Rattle.sync.proofs.sync_pages.Given as goal
 
 abbrev pub invariant-loop-i : goal.invariant-loop-i

@@ -1,11 +1,6 @@
 -- Before a part the tables and counts, with the run over what is left, are the run over all pages.
-use Prim.Native.Nat.{◌≤◌, ◌<◌, ◌-◌, ◌%◌}
-use mathlib.Core.Path.{◌≡◌, refl}
+use mathlib.Core.Path.{refl}
 use native.Mathlib.Omega.{arith}
-use lib.ListN.{length}
-use Rattle.model.specs.Tree.{tree_of, flat_at}
-use Rattle.model.specs.Sync.{sweep, step_from}
-use Rattle.sync_tree.specs.Runs.{rules_in, swept_from}
 use Rattle.sync_tree.proofs.SourceLaws.{parts_more, parts-over}
 use borrow.Author.Rules.{rules}
 use Rattle.sync_tree.proofs.sync_parts.Goals as goal

@@ -1,10 +1,6 @@
 -- Before page i the tables and counts, with the run over what is left, are the whole run.
-use Prim.Native.Nat.{◌≤◌, ◌-◌}
-use mathlib.Core.Path.{◌≡◌, refl}
+use mathlib.Core.Path.{refl}
 use native.Mathlib.Omega.{arith}
-use lib.ListN.{length}
-use Rattle.model.specs.Sync.{sweep, step_from}
-use Rattle.sync_tree.specs.Runs.{rules_in, swept_from, entry_by}
 use Rattle.sync_tree.proofs.RunLaws.{swept-over}
 use Rattle.sync_tree.proofs.SourceLaws.{fewer, run_more}
 use borrow.Author.Rules.{rules}

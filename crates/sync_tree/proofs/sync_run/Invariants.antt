@@ -1,12 +1,8 @@
 use Prim.Native.Nat.{◌≤◌, ◌-◌}
-use mathlib.Core.Path.{◌≡◌, refl}
-use native.Mathlib.Omega.{arith}
+use mathlib.Core.Path.{◌≡◌}
 use lib.ListN.{length}
 use Rattle.model.specs.Sync.{sweep, step_from}
 use Rattle.sync_tree.specs.Runs.{rules_in, swept_from, entry_by}
-use Rattle.sync_tree.proofs.RunLaws.{swept-over}
-use Rattle.sync_tree.proofs.SourceLaws.{fewer, run_more}
-use borrow.Author.Rules.{rules}
 use Rattle.sync_tree.proofs.sync_run.Given as goal
 
 abbrev pub invariant-loop-i : goal.invariant-loop-i

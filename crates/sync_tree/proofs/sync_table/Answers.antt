@@ -2,7 +2,6 @@
 use native.Mathlib.Omega.{arith}
 use mathlib.Core.Path.{refl}
 use Rattle.sync_tree.proofs.TableLaws.{table-inside, table-swept}
-use borrow.Author.Rules.{rules}
 use Rattle.sync_tree.proofs.sync_table.Goals as goal
 
 pub overflow_mul-first : goal.overflow_mul-first
