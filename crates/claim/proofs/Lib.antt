@@ -11,4 +11,5 @@ pub mod AlongLaws
 pub mod HistoryLaws
 mod CommittingLaws
 mod ConsequenceLaws
+mod TameLaws
 mod InstalledLaws
