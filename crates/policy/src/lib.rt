@@ -94,7 +94,7 @@ pub fn read_sizes(bytes: &[u8]) -> Sizes
 }
 
 // A number, and how far its reader has come now.
-#[derive(Drop)]
+#[derive(Clone, Copy)]
 pub struct Next {
     pub number: u16,
     pub at: usize,

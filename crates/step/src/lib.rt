@@ -106,7 +106,7 @@ fn step(
 }
 
 // The shadow entries whose value changed, and the pages that joined the map.
-#[derive(Drop)]
+#[derive(Clone, Copy)]
 pub struct Counts {
     pub changed: u64,
     pub joined: u64,

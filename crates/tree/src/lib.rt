@@ -41,7 +41,7 @@ const EVERY_BIT: u64 = 0xffff_ffff_ffff_ffff;
 
 // Where the walk of 512 pages goes on below the entries that they share: in the table of level 1 with this number, in the large page with this
 // entry, or nowhere, as they are absent.
-#[derive(Drop)]
+#[derive(Clone, Copy)]
 pub enum Below {
     Table(u64),
     Large(u64),
@@ -50,7 +50,7 @@ pub enum Below {
 
 // A part: where the walk of its 512 pages goes on, the bits that all entries gathered so far have and those that any of them has. Of both words only bits 1,
 // 2 and 63 mean something, and nothing where the pages are absent.
-#[derive(Drop)]
+#[derive(Clone, Copy)]
 pub struct Part {
     pub below: Below,
     pub all: u64,
