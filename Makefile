@@ -1,14 +1,17 @@
 # The commands of the README.
-.PHONY: drill test bench
+.PHONY: drill archive test bench
 drill:
 	bash tests/drill
 	target/bin/drill < crates/drill/stdin
+
+archive:
+	bash tests/archive
 
 test:
 	bash tests/all
 
 bench:
-	rt staticlib exports
+	bash tests/archive
 	bash rust/bench/instructions
 	bash rust/bench/times
 	bash rust/bench/document

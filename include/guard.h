@@ -2,7 +2,7 @@
  * The page guard, for C. The calls are those of documents 01 and 02; every one of them is proved, in Rattle, to answer what the
  * definitions in crates/model and crates/record_model say, on all inputs (crates/boundary_model, specs/Boundary.antt).
  *
- * Build the library with `rt staticlib exports`, and link target/staticlib/libexports.a. docs/INTEGRATION.md has what it needs
+ * Build the library with `make archive`, and link target/staticlib/libexports.a. docs/INTEGRATION.md has what it needs
  * beside that (memcpy, memset, SSE, stack), how the processor is set up, and what to do around each call.
  *
  * Runs. A table, a run of tables, a list of devices, a policy record, an array, a buffer, the state and the two numbers of a call

@@ -26,7 +26,7 @@ fn main() -> ExitCode {
     println!("cargo::rerun-if-changed={}", archive.display());
     if !archive.is_file() {
         println!(
-            "cargo::error={} is missing: run `rt staticlib exports` at the repository's root, \
+            "cargo::error={} is missing: run `make archive` at the repository's root, \
              or name the folder of {ARCHIVE} in the environment variable {FOLDER}",
             archive.display()
         );

@@ -37,7 +37,7 @@ fn ran(input: &[u8], piece: usize) -> Output {
         .stdin(Stdio::piped())
         .stdout(Stdio::piped())
         .spawn()
-        .expect("the drill is built: rt check drill");
+        .expect("the drill is built: make drill");
     let mut pipe = child.stdin.take().expect("a pipe");
     for bytes in input.chunks(piece) {
         if pipe.write_all(bytes).is_err() {
