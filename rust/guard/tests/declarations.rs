@@ -144,7 +144,8 @@ fn the_layout_is_that_of_the_rattle_source() {
 fn fields(source: &str, name: &str) -> Vec<(String, String)> {
     let source = without_comments(source);
     let (before, rest) = source.split_once(&format!("pub struct {name} {{")).expect("the struct");
-    assert!(before.trim_end().ends_with("#[repr(C)]"), "{name} is laid out for C");
+    let mut attributes = before.trim_end().lines().rev().take_while(|line| line.starts_with("#["));
+    assert!(attributes.any(|line| line == "#[repr(C)]"), "{name} is laid out for C");
     let (inside, _) = rest.split_once('}').expect("the end of the struct");
     let fields = inside.split(',').filter_map(|field| field.trim().strip_prefix("pub "));
     fields.map(parameter).collect()
