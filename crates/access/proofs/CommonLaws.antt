@@ -43,3 +43,5 @@ common-permitted user a b = rw (common-bit 1 a b, common-bit 2 a b) (by user (bi
     by true true true false z = refl
     by false true false y z = refl
     by false true true y z = refl
+
+pub ruleset in_common = (common-present, common-permitted)

@@ -1,5 +1,4 @@
 -- Laws that the proofs of this crate cite.
-pub mod UserLaws
+pub mod CommonLaws
 pub mod FetchLaws
 pub mod WriteLaws
-mod CommonLaws

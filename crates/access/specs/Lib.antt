@@ -1,2 +1,2 @@
 -- What the promises between the functions of this crate say.
-pub mod AccessView
+pub mod EntryQuestions

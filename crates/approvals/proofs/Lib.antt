@@ -1,3 +1,3 @@
 -- Laws of this crate's proofs.
 mod CommitLaws
-mod ApprovalLaws
+pub mod ApprovalLaws

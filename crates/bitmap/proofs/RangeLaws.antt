@@ -6,36 +6,18 @@ use mathlib.Core.Path.{◌≡◌, refl, sym, ap, ◌∙◌}
 use native.Mathlib.Nat.{zero-add, add-zero, suc-add, add_comm}
 use native.Mathlib.Numerals.{add-one}
 use native.Mathlib.Omega.{arith}
-use lib.Bits.{bit_and, bit_or, or_add_and, and_le_l, and_le_r}
+use lib.Bits.{bit_or, or_add_and, and_le_l, and_le_r}
 use lib.Dec.{eqb}
-use lib.ListN.{get_or}
+use lib.ListN.{length, get_or, take, drop}
+use Rattle.std.specs.List.{fold}
+use Rattle.std.proofs.Math.Seq.{drop-cons}
 use lib.Pow.{mod-pow-add, shr-shr, shr_mod}
-use borrow.Author.Tests.{eq-eqb, ne_eqb, eqb-true, eqb-false, not-true, not-false}
+use borrow.Author.Tests.{eq-eqb}
+use Rattle.std.proofs.lemmas.Bool.Decides.{nat_tests}
 use Rattle.model.specs.Basics.{both, bit, every_from}
 use Rattle.model.specs.Guard.{has_bit}
 use Rattle.laws.proofs.QuestionLaws.{both_true}
 use Rattle.laws.proofs.VectorLaws.{below8}
-
--- Two tests for 0 that hold of the same numbers.
-same-zero : (a b : ℕ) → (a ≡ 0 → b ≡ 0) → (b ≡ 0 → a ≡ 0) → eqb a 0 ≡ eqb b 0
-same-zero a b p q = by (eqb a 0) refl
-  where
-    by : (t : Bool) → eqb a 0 ≡ t → eqb a 0 ≡ eqb b 0
-    by true e = e ∙ sym (eq-eqb b 0 (p (eqb-true a 0 e)))
-    by false e = e ∙ sym (ne_eqb b 0 (λ z. eqb-false a 0 e (q z)))
-
--- A sum is 0 where both parts are.
-sum-zero : (a b : ℕ) → eqb (a + b) 0 ≡ both (eqb a 0) (eqb b 0)
-unfolding both
-sum-zero a b = by (eqb a 0) refl
-  where
-    by : (t : Bool) → eqb a 0 ≡ t → eqb (a + b) 0 ≡ both (eqb a 0) (eqb b 0)
-    by true e =
-        let z : a ≡ 0 = eqb-true a 0 e in
-        rw e (same-zero (a + b) b (λ h. omega arith) (λ h. omega arith))
-    by false e =
-        let n : a ≡ 0 → ⊥ = eqb-false a 0 e in
-        rw e (ne_eqb (a + b) 0 (λ h. n (omega arith)))
 
 both-swap : (a b : Bool) → both a b ≡ both b a
 unfolding both
@@ -49,18 +31,10 @@ unfolding both
 both-assoc true b c = refl
 both-assoc false b c = refl
 
--- The lowest bit is 0.
-even : (m : ℕ) → not (eqb (m % 2) 1) ≡ eqb (m % 2) 0
-even m = by (eqb (m % 2) 0) refl
-  where
-    by : (t : Bool) → eqb (m % 2) 0 ≡ t → not (eqb (m % 2) 1) ≡ eqb (m % 2) 0
-    by true e =
-        let z : m % 2 ≡ 0 = eqb-true (m % 2) 0 e in
-        rw (e, ne_eqb (m % 2) 1 (λ h. omega arith)) refl
-    by false e =
-        let n : m % 2 ≡ 0 → ⊥ = eqb-false (m % 2) 0 e in
-        let o : m % 2 ≡ 1 = omega arith in
-        rw (e, eq-eqb (m % 2) 1 o) refl
+-- A number is 0 where its lowest bit and the rest are.
+halves-zero : (m r : ℕ) → both (not (eqb (m % 2) 1)) (eqb r 0) ≡ eqb (r * 2 + m % 2) 0
+unfolding both
+halves-zero m r = grind (arith, nat_tests)
 
 abbrev pub clear_bits : ℕ → ℕ → ℕ → Bool
 clear_bits n first count = every_from (λ j. not (bit j n)) first count
@@ -76,10 +50,7 @@ clear-is n first (suc count) =
     let rest : clear_bits n (suc first) count ≡ eqb (n / 2 ^ suc first % 2 ^ count) 0 = clear-is n (suc first) count in
     let half : n / 2 ^ suc first ≡ m / 2 = rw (← add-one first) (sym (shr-shr n first 1)) in
     let parts : m % 2 ^ suc count ≡ (m / 2 % 2 ^ count) * 2 + m % 2 = rw (← add-one count) (mod-pow-add m count 1) in
-    let sum : eqb ((m / 2 % 2 ^ count) * 2 + m % 2) 0 ≡ both (eqb ((m / 2 % 2 ^ count) * 2) 0) (eqb (m % 2) 0) = sum-zero ((m / 2 % 2 ^ count) * 2) (m % 2) in
-    let twice : eqb ((m / 2 % 2 ^ count) * 2) 0 ≡ eqb (m / 2 % 2 ^ count) 0 =
-    same-zero ((m / 2 % 2 ^ count) * 2) (m / 2 % 2 ^ count) (λ h. omega arith) (λ h. omega arith) in
-    rw (rest, half, even m, parts, sum, twice) (both-swap (eqb (m % 2) 0) (eqb (m / 2 % 2 ^ count) 0))
+    rw (rest, half, parts) (halves-zero m (m / 2 % 2 ^ count))
 
 -- A byte shifted down has the bits from there on, and shifted up those up to there.
 pub clear_above : (n first : ℕ) → n < 256 → first < 8 → eqb (n / 2 ^ first) 0 ≡ clear_bits n first (8 - first)
@@ -92,21 +63,21 @@ clear_above n first small h =
 weight-above : (last : ℕ) → last < 8 → 2 * 2 ^ last % 2 ^ 64 ≡ 2 ^ suc last
 weight-above last h = below8 (λ l. 2 * 2 ^ l % 2 ^ 64 ≡ 2 ^ suc l) refl refl refl refl refl refl refl refl last h
 
-pub weight-positive : (last : ℕ) → last < 8 → 0 < 2 * 2 ^ last % 2 ^ 64
-weight-positive last h =
+pub weight_positive : (last : ℕ) → last < 8 → 0 < 2 * 2 ^ last % 2 ^ 64
+weight_positive last h =
     below8 (λ l. 0 < 2 * 2 ^ l % 2 ^ 64) (omega arith) (omega arith) (omega arith) (omega arith) (omega arith) (omega arith) (omega arith) (omega arith) last h
 
-pub clear-below : (n last w : ℕ) → last < 8 → w ≡ 2 * 2 ^ last % 2 ^ 64 → eqb (n % w) 0 ≡ clear_bits n 0 (suc last)
-clear-below n last w h p =
+pub clear_below : (n last : ℕ) → last < 8 → eqb (n % (2 * 2 ^ last % 2 ^ 64)) 0 ≡ clear_bits n 0 (suc last)
+clear_below n last h =
     let one : n / 1 ≡ n = omega arith in
-    ap (λ v. eqb (n % v) 0) (p ∙ weight-above last h) ∙ ap (λ x. eqb (x % 2 ^ suc last) 0) (sym one) ∙ sym (clear-is n 0 (suc last))
+    ap (λ v. eqb (n % v) 0) (weight-above last h) ∙ ap (λ x. eqb (x % 2 ^ suc last) 0) (sym one) ∙ sym (clear-is n 0 (suc last))
 
-pub clear-part : (n first last : ℕ) (r : Bool) → r ≡ clear_bits (n / 2 ^ first) 0 (suc (last - first)) → r ≡ clear_bits n first (suc (last - first))
-clear-part n first last r p =
+pub clear_part : (n first last : ℕ) → clear_bits (n / 2 ^ first) 0 (suc (last - first)) ≡ clear_bits n first (suc (last - first))
+clear_part n first last =
     let count : ℕ = suc (last - first) in
     let m : ℕ = n / 2 ^ first in
     let one : m / 1 ≡ m = omega arith in
-    p ∙ clear-is m 0 count ∙ ap (λ x. eqb (x % 2 ^ count) 0) one ∙ sym (clear-is n first count)
+    clear-is m 0 count ∙ ap (λ x. eqb (x % 2 ^ count) 0) one ∙ sym (clear-is n first count)
 
 -- Frames of the vector.
 abbrev pub free_from : List ℕ → ℕ → ℕ → Bool
@@ -147,83 +118,76 @@ byte-clear x q small =
 
 -- The or of two bytes is 0 where both are.
 or-clear : (a b : ℕ) → eqb (bit_or a b) 0 ≡ both (eqb a 0) (eqb b 0)
-or-clear a b =
-    let sum : bit_or a b + bit_and a b ≡ a + b = or_add_and a b in
-    let la : bit_and a b ≤ a = and_le_l a b in
-    let lb : bit_and a b ≤ b = and_le_r a b in
-    same-zero (bit_or a b) (a + b) (λ z. omega arith) (λ z. omega arith) ∙ sum-zero a b
-
--- The loop over the bytes from i up to another: what is joined so far is 0, and the rest is free.
-abbrev pub rest_clear : List ℕ → ℕ → ℕ → ℕ → Bool
-rest_clear x to i all = both (eqb all 0) (free_from x (i * 8) ((to - i) * 8))
-
-pub rest-start : (x : List ℕ) (from to : ℕ) → rest_clear x to from 0 ≡ free_from x (from * 8) ((to - from) * 8)
 unfolding both
-rest-start x from to = refl
+or-clear a b = grind (arith, nat_tests, or_add_and a b, and_le_l a b, and_le_r a b)
 
-pub rest_more : (x : List ℕ) (from to i all : ℕ) → rest_clear x to i all ≡ free_from x (from * 8) ((to - from) * 8) → i < to → get_or x i 0 < 256
-    → rest_clear x to (i + 1) (bit_or all (get_or x i 0)) ≡ free_from x (from * 8) ((to - from) * 8)
-rest_more x from to i all inv h small =
-    let count : (to - i) * 8 ≡ 8 + (to - (i + 1)) * 8 = omega arith in
-    let next : i * 8 + 8 ≡ (i + 1) * 8 = omega arith in
-    let parts : free_from x (i * 8) (8 + (to - (i + 1)) * 8) ≡ both (free_from x (i * 8) 8) (free_from x (i * 8 + 8) ((to - (i + 1)) * 8)) =
-    every_more _ (i * 8) 8 ((to - (i + 1)) * 8) in
-    rw (or-clear all (get_or x i 0), byte-clear x i small)
-    (sym (both-assoc (eqb all 0) (free_from x (i * 8) 8) (free_from x ((i + 1) * 8) ((to - (i + 1)) * 8))) ∙ ap (λ f. both (eqb all 0) (both (free_from x (i * 8) 8) (free_from x f ((to - (i + 1)) * 8)))) (sym next) ∙ ap (both (eqb all 0)) (sym parts) ∙ ap (λ n. both (eqb all 0) (free_from x (i * 8) n)) (sym count) ∙ inv)
-
-pub rest_over : (x : List ℕ) (to i all : ℕ) (whole : Bool) → rest_clear x to i all ≡ whole → to ≤ i → eqb all 0 ≡ whole
+-- Bytes joined one by one are 0 together where what was joined before is 0 and no frame of them is set.
+joined : (x : List ℕ) (n i all : ℕ) → ((k : ℕ) → get_or x k 0 < 256) → i + n ≤ length x
+    → eqb (fold (λ a b. bit_or a b) all (take n (drop i x))) 0 ≡ both (eqb all 0) (free_from x (i * 8) (n * 8))
 unfolding every_from
-rest_over x to i all whole inv h =
-    let z : (to - i) * 8 ≡ 0 = omega arith in
-    sym (both_true (eqb all 0)) ∙ sym (ap (λ n. both (eqb all 0) (free_from x (i * 8) n)) z) ∙ inv
+joined x zero i all small h = sym (both_true (eqb all 0))
+joined x (suc n) i all small h =
+    let b : ℕ = get_or x i 0 in
+    let next : i * 8 + 8 ≡ suc i * 8 = omega arith in
+    let parts : free_from x (i * 8) (suc n * 8) ≡ both (free_from x (i * 8) 8) (free_from x (suc i * 8) (n * 8)) =
+    ap (free_from x (i * 8)) (let e : suc n * 8 ≡ 8 + n * 8 = omega arith in e)
+    ∙ every_more _ (i * 8) 8 (n * 8) ∙ ap (λ f. both (free_from x (i * 8) 8) (free_from x f (n * 8))) next in
+    let inside : i < length x = omega arith in
+    ap (λ l. eqb (fold (λ a b. bit_or a b) all (take (suc n) l)) 0) (drop-cons x i 0 inside)
+    ∙ joined x n (suc i) (bit_or all b) small (omega arith)
+    ∙ ap (λ t. both t (free_from x (suc i * 8) (n * 8))) (or-clear all b ∙ ap (both (eqb all 0)) (byte-clear x i (small i)))
+    ∙ sym (both-assoc (eqb all 0) (free_from x (i * 8) 8) (free_from x (suc i * 8) (n * 8)))
+    ∙ ap (both (eqb all 0)) (sym parts)
 
--- A range in one byte, and one in its first byte, the bytes between and its last byte. r is what the code found of a part.
+pub joined_clear : (x : List ℕ) (from to : ℕ) → ((k : ℕ) → get_or x k 0 < 256) → from ≤ to → to ≤ length x
+    → eqb (fold (λ a b. bit_or a b) 0 (take (to - from) (drop from x))) 0 ≡ free_from x (from * 8) ((to - from) * 8)
+unfolding both
+joined_clear x from to small up h = joined x (to - from) from 0 small (omega arith)
+
+-- A range in one byte, and one in its first byte, its last byte and the bytes between.
 module _ (x : List ℕ) (first last : ℕ) (up : first ≤ last) where
-  pub range-in-byte : (r : Bool) → first / 8 ≡ last / 8 → r ≡ clear_bits (get_or x (first / 8) 0) (first % 8) (suc (last % 8 - first % 8))
-      → r ≡ free_from x first (suc (last - first))
-  range-in-byte r same p =
+  pub in_one_byte : first / 8 ≡ last / 8
+      → free_from x first (suc (last - first)) ≡ clear_bits (get_or x (first / 8) 0) (first % 8) (suc (last % 8 - first % 8))
+  in_one_byte same =
       let at : first / 8 * 8 + first % 8 ≡ first = omega arith in
       let count : last % 8 - first % 8 ≡ last - first = omega arith in
-      p
-      ∙ sym (frames-of-byte x (first / 8) (first % 8) (suc (last % 8 - first % 8)) (omega arith))
-      ∙ ap (λ n. free_from x (first / 8 * 8 + first % 8) (suc n)) count
-      ∙ ap (λ f. free_from x f (suc (last - first))) at
+      ap (λ f. free_from x f (suc (last - first))) (sym at)
+      ∙ ap (λ n. free_from x (first / 8 * 8 + first % 8) (suc n)) (sym count)
+      ∙ frames-of-byte x (first / 8) (first % 8) (suc (last % 8 - first % 8)) (omega arith)
 
-  module _ (differ : first / 8 ≡ last / 8 → ⊥) where
-    range-parts : free_from x first (suc (last - first))
-        ≡ both (clear_bits (get_or x (first / 8) 0) (first % 8) (8 - first % 8))
-        (both (free_from x ((first / 8 + 1) * 8) ((last / 8 - (first / 8 + 1)) * 8)) (clear_bits (get_or x (last / 8) 0) 0 (suc (last % 8))))
-    range-parts =
-        let q : ℕ = last / 8 - (first / 8 + 1) in
-        let a : ℕ = 8 - first % 8 in
-        let c : ℕ = suc (last % 8) in
-        let count : suc (last - first) ≡ a + (q * 8 + c) = omega arith in
-        let at : first ≡ first / 8 * 8 + first % 8 = omega arith in
-        let middle : first + a ≡ (first / 8 + 1) * 8 = omega arith in
-        let end : (first / 8 + 1) * 8 + q * 8 ≡ last / 8 * 8 + 0 = omega arith in
-        let head : free_from x first a ≡ clear_bits (get_or x (first / 8) 0) (first % 8) a =
-        ap (λ f. free_from x f a) at ∙ frames-of-byte x (first / 8) (first % 8) a (omega arith) in
-        let tail : free_from x ((first / 8 + 1) * 8 + q * 8) c ≡ clear_bits (get_or x (last / 8) 0) 0 c =
-        ap (λ f. free_from x f c) end ∙ frames-of-byte x (last / 8) 0 c (omega arith) in
-        ap (free_from x first) count
-        ∙ every_more _ first a (q * 8 + c)
-        ∙ ap (λ f. both (free_from x first a) (free_from x f (q * 8 + c))) middle
-        ∙ ap (both (free_from x first a)) (every_more _ ((first / 8 + 1) * 8) (q * 8) c)
-        ∙ ap (λ t. both (free_from x first a) (both (free_from x ((first / 8 + 1) * 8) (q * 8)) t)) tail
-        ∙ ap (λ h. both h (both (free_from x ((first / 8 + 1) * 8) (q * 8)) (clear_bits (get_or x (last / 8) 0) 0 c))) head
+  pub in_three_parts : (first / 8 ≡ last / 8 → ⊥)
+      → free_from x first (suc (last - first))
+      ≡ both (clear_bits (get_or x (first / 8) 0) (first % 8) (8 - first % 8))
+      (both (clear_bits (get_or x (last / 8) 0) 0 (suc (last % 8))) (free_from x ((first / 8 + 1) * 8) ((last / 8 - (first / 8 + 1)) * 8)))
+  in_three_parts differ =
+      let q : ℕ = last / 8 - (first / 8 + 1) in
+      let a : ℕ = 8 - first % 8 in
+      let c : ℕ = suc (last % 8) in
+      let count : suc (last - first) ≡ a + (q * 8 + c) = omega arith in
+      let at : first ≡ first / 8 * 8 + first % 8 = omega arith in
+      let middle : first + a ≡ (first / 8 + 1) * 8 = omega arith in
+      let end : (first / 8 + 1) * 8 + q * 8 ≡ last / 8 * 8 + 0 = omega arith in
+      let head : free_from x first a ≡ clear_bits (get_or x (first / 8) 0) (first % 8) a =
+      ap (λ f. free_from x f a) at ∙ frames-of-byte x (first / 8) (first % 8) a (omega arith) in
+      let tail : free_from x ((first / 8 + 1) * 8 + q * 8) c ≡ clear_bits (get_or x (last / 8) 0) 0 c =
+      ap (λ f. free_from x f c) end ∙ frames-of-byte x (last / 8) 0 c (omega arith) in
+      ap (free_from x first) count
+      ∙ every_more _ first a (q * 8 + c)
+      ∙ ap (λ f. both (free_from x first a) (free_from x f (q * 8 + c))) middle
+      ∙ ap (both (free_from x first a)) (every_more _ ((first / 8 + 1) * 8) (q * 8) c)
+      ∙ ap (λ t. both (free_from x first a) (both (free_from x ((first / 8 + 1) * 8) (q * 8)) t)) tail
+      ∙ ap (λ h. both h (both (free_from x ((first / 8 + 1) * 8) (q * 8)) (clear_bits (get_or x (last / 8) 0) 0 c))) head
+      ∙ ap (both (clear_bits (get_or x (first / 8) 0) (first % 8) a)) (both-swap (free_from x ((first / 8 + 1) * 8) (q * 8)) (clear_bits (get_or x (last / 8) 0) 0 c))
 
-    module _ (h : Bool) (eh : h ≡ clear_bits (get_or x (first / 8) 0) (first % 8) (8 - first % 8)) where
-      pub head-set : not h ≡ true → false ≡ free_from x first (suc (last - first))
-      unfolding both
-      head-set n = sym (range-parts ∙ rw (sym eh ∙ not-true h n) refl)
+-- Three answers in turn: the first no decides, and then the last one.
+pub all_yes : (r a b c : Bool) → r ≡ both a (both b c) → a ≡ true → b ≡ true → c ≡ r
+unfolding both
+all_yes r a b c e p q = cc
 
-      module _ (y : not h ≡ false) (t : Bool) (et : t ≡ clear_bits (get_or x (last / 8) 0) 0 (suc (last % 8))) where
-        pub tail-set : not t ≡ true → false ≡ free_from x first (suc (last - first))
-        unfolding both
-        tail-set n =
-            sym (range-parts ∙ rw (sym eh ∙ not-false h y, sym et ∙ not-true t n) (both-swap (free_from x ((first / 8 + 1) * 8) ((last / 8 - (first / 8 + 1)) * 8)) false))
+pub first-no : (r a b c : Bool) → r ≡ both a (both b c) → a ≡ false → false ≡ r
+unfolding both
+first-no r a b c e p = cc
 
-        pub middle-found : (m : Bool) → not t ≡ false → m ≡ free_from x ((first / 8 + 1) * 8) ((last / 8 - (first / 8 + 1)) * 8)
-            → m ≡ free_from x first (suc (last - first))
-        unfolding both
-        middle-found m z em = em ∙ sym (range-parts ∙ rw (sym eh ∙ not-false h y, sym et ∙ not-false t z) (both_true _))
+pub second-no : (r a b c : Bool) → r ≡ both a (both b c) → a ≡ true → b ≡ false → false ≡ r
+unfolding both
+second-no r a b c e p q = cc

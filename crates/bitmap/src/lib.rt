@@ -8,6 +8,7 @@ ghost use Rattle.model.specs.Basics.{bit, every_from};
 ghost use Rattle.model.specs.Guard.{has_bit, byte_of, with_bit};
 
 // The bit of a frame that has a byte in the vector, so that no length is tested: question 7 and the limit at F have settled that.
+#[tactic(auto, unfolding(model::specs::Basics::bit, model::specs::Guard::has_bit))]
 pub fn test_bit_within(exclusion: &[u8], frame: u64) -> bool
     requires { frame / 8 < length exclusion.now }
     ensures { result ≡ has_bit exclusion.now frame }
@@ -15,56 +16,47 @@ pub fn test_bit_within(exclusion: &[u8], frame: u64) -> bool
     (exclusion[(frame / 8) as usize] >> (frame % 8)) % 2 == 1
 }
 
+#[tactic(auto, using(crate::proofs::BitmapLaws::no_bit_past))]
 pub fn test_bit(exclusion: &[u8], frame: u64) -> bool
     ensures { result ≡ has_bit exclusion.now frame }
 {
-    let at = (frame / 8) as usize;
-    if at < exclusion.len() {
-        test_bit_within(exclusion, frame)
-    } else {
-        false
-    }
+    ((frame / 8) as usize) < exclusion.len() && test_bit_within(exclusion, frame)
 }
 
 // Sets the bit of a frame without testing the length: the caller has settled that the vector has a byte for it.
+#[tactic(auto, using(crate::proofs::BitmapLaws::bit_set))]
 pub fn set_bit_within(exclusion: &mut [u8], frame: u64)
     requires { frame / 8 < length exclusion.old }
     ensures { exclusion.new ≡ with_bit true exclusion.old frame }
 {
-    let at = (frame / 8) as usize;
-    exclusion[at] = exclusion[at] | 1 << (frame % 8);
+    exclusion[(frame / 8) as usize] |= 1 << (frame % 8);
 }
 
+#[tactic(auto, using(crate::proofs::BitmapLaws::with_bit_past))]
 pub fn set_bit(exclusion: &mut [u8], frame: u64)
     ensures { exclusion.new ≡ with_bit true exclusion.old frame }
 {
-    let at = (frame / 8) as usize;
-    if at < exclusion.len() {
+    if ((frame / 8) as usize) < exclusion.len() {
         set_bit_within(exclusion, frame);
     }
 }
 
-// A byte with one bit cleared. The bit is set first, so that its weight can be taken away: a mask, once compiled.
-fn without(byte: u8, k: u64) -> u8
-    requires { k < 8 }
-    ensures { result ≡ byte_of (λ j. cond (eqb j k) false (bit j byte)) }
-{
-    (byte | 1 << k) - (1 << k)
-}
-
 // The opposite of `set_bit`.
+#[tactic(auto, using(crate::proofs::BitmapLaws::bit_cleared, crate::proofs::BitmapLaws::with_bit_past))]
 pub fn clear_bit(exclusion: &mut [u8], frame: u64)
     ensures { exclusion.new ≡ with_bit false exclusion.old frame }
 {
+    // By the index: std's contract of `get_mut` says nothing of the slice afterwards, so that the proof with it did not close.
     let at = (frame / 8) as usize;
     if at < exclusion.len() {
-        exclusion[at] = without(exclusion[at], frame % 8);
+        exclusion[at] &= !(1 << (frame % 8));
     }
 }
 
 // A range of frames is looked at by bytes, eight frames at once.
 
 // No bit of a byte from one on is set.
+#[tactic(auto, using(crate::proofs::RangeLaws::clear_above))]
 fn clear_from(byte: u8, first: u64) -> bool
     requires { first < 8 }
     ensures { result ≡ every_from (λ j. not (bit j byte)) first (8 - first) }
@@ -73,6 +65,7 @@ fn clear_from(byte: u8, first: u64) -> bool
 }
 
 // No bit of a byte up to one is set.
+#[tactic(auto, using(crate::proofs::RangeLaws::weight_positive, crate::proofs::RangeLaws::clear_below))]
 fn clear_up_to(byte: u8, last: u64) -> bool
     requires { last < 8 }
     ensures { result ≡ every_from (λ j. not (bit j byte)) 0 (suc last) }
@@ -93,13 +86,7 @@ fn clear_bytes(exclusion: &[u8], from: usize, to: usize) -> bool
     requires { (from ≤ to) × (to ≤ length exclusion.now) }
     ensures { result ≡ every_from (λ f. not (has_bit exclusion.now f)) (from * 8) ((to - from) * 8) }
 {
-    let mut all: u8 = 0;
-    let mut i = from;
-    while i < to {
-        all = all | exclusion[i];
-        i += 1;
-    }
-    all == 0
+    exclusion[from..to].iter().fold(0, |all, byte| all | *byte) == 0
 }
 
 // No frame from first to last is excluded. The vector has a byte for the last: questions 7 and 9 have settled that.
@@ -110,13 +97,10 @@ pub fn none_set(exclusion: &[u8], first: u64, last: u64) -> bool
     let head = (first / 8) as usize;
     let tail = (last / 8) as usize;
     if head == tail {
-        return clear_between(exclusion[head], first % 8, last % 8);
+        clear_between(exclusion[head], first % 8, last % 8)
+    } else {
+        clear_from(exclusion[head], first % 8)
+            && clear_up_to(exclusion[tail], last % 8)
+            && clear_bytes(exclusion, head + 1, tail)
     }
-    if !clear_from(exclusion[head], first % 8) {
-        return false;
-    }
-    if !clear_up_to(exclusion[tail], last % 8) {
-        return false;
-    }
-    clear_bytes(exclusion, head + 1, tail)
 }

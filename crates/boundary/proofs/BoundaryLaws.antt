@@ -1,47 +1,68 @@
 -- Laws of what an exported call returns and leaves: the runs not usable, the call made. One of each serves every call.
 use Prim.Native.Nat.{ℕ, zero, suc, ◌<◌}
-use mathlib.Core.Bool.{Bool, true, false, not}
+use mathlib.Core.Bool.{Bool, true, false, cond}
 use mathlib.Core.List.{List, []}
 use mathlib.Core.Path.{◌≡◌, refl, sym, ◌∙◌}
 use lib.ListN.{length}
-use borrow.Author.Tests.{not-true, not-false}
-use Rattle.model.specs.declared.Answer.{Answer}
-use Rattle.model.specs.declared.Answer.TheVariants.{Refused}
-use Rattle.model.specs.declared.Called.{Called}
+use Rattle.std.specs.Prelude.{Result, Ok, Err}
+use Rattle.std.specs.Result.{MatchResult}
+use Rattle.decode.specs.Lent.{usable, lent_state}
+use Rattle.model.specs.declared.Refusal.{Refusal}
+use Rattle.model.specs.declared.Refusal.TheVariants.{StateOrTable}
 use Rattle.model.specs.declared.State.{State}
 use Rattle.model.specs.declared.Device.{Device}
 use Rattle.model.specs.Basics.{both}
-use Rattle.model.specs.Guard.{Tables, with_shadow, with_exclusion, guard_of}
+use Rattle.model.specs.Guard.{Tables, with_shadow, guard_of}
 use Rattle.model.specs.Devices.{device_at}
 use Rattle.model.specs.Questions.{state_in_order}
-use Rattle.model.specs.Calls.{reply_of, settle, outcome_by, kept_by, Call, device_write, answer}
+use Rattle.model.specs.Calls.{Answer, reply_of, settle, outcome_by, Call, device_write, answer}
 use Rattle.laws.proofs.QuestionLaws.{both_first}
 use Rattle.laws.proofs.CallLaws.{answer-unfit}
-use Rattle.boundary_model.specs.Words.{state_words, state_in, answer_numbers, numbers_by, changed_by, with_words, with_numbers, lendable, run_after}
+use Rattle.boundary_model.specs.Words.{state_words, state_in, numbers_by, changed_by, with_words, with_numbers, lendable, run_after}
 use Rattle.decode.proofs.WordLaws.{run_lent}
 use Rattle.boundary_model.specs.Boundary.{returned, replied, call_at}
 
 -- What an answer returns and says to the numbers run of a call that gives count numbers.
 abbrev pub Says : ℕ → Answer → ℕ → List ℕ → List ℕ → Type 0
-Says count answer r numbers after = (r ≡ (reply_of answer).number) × (after ≡ with_numbers count numbers (reply_of answer))
+Says count a r numbers after = (r ≡ (reply_of a).number) × (after ≡ with_numbers count numbers (reply_of a))
 
--- What the boundary asks: the runs can be lent, and the state is in order.
-abbrev pub usable : ℕ → List ℕ → List ℕ → Bool
-usable count run numbers = both (lendable count run numbers) (state_in_order (state_in run))
+-- The state run after a call that may change the state: an accepted one has put there what it can change.
+abbrev pub put : List ℕ → Call → Answer → State → List ℕ
+put run call a s = settle (reply_of a).number (with_words run s (changed_by call)) (λ _. run)
 
--- Question 7 of each call: a run cannot be lent, or the state is not in order.
-pub unused : (run numbers after : List ℕ) (r : ℕ) (b : Bool) (t : Tables) (call : Call) → b ≡ usable (numbers_by call) run numbers → not b ≡ true
-    → Says (numbers_by call) (Refused 7) r numbers after → returned r run after t ≡ call_at run numbers t call
-unfolding call_at replied reply_of both run_after settle
-unused run numbers after r b t call asks wrong says = by (lendable (numbers_by call) run numbers) refl
-  where
-    by : (l : Bool) → lendable (numbers_by call) run numbers ≡ l → returned r run after t ≡ call_at run numbers t call
-    by true e = rw (e, answer-unfit (guard_of (state_in run) t) call (sym (rw e at asks) ∙ not-true b wrong), says.0, says.1) refl
-    by false e = rw (e, says.0, says.1) refl
+-- What the boundary's part of question 7 gives: the refusal, or the state that the run holds.
+refused-where : (u : Bool) (s : State) (refusal : Refusal) → Err refusal ≡ cond u (Ok s) (Err StateOrTable) → (u ≡ false) × (refusal ≡ StateOrTable)
+refused-where true s refusal e = (cc, cc)
+refused-where false s refusal e = (refl, cc)
 
-pub run-used : (count : ℕ) (run numbers : List ℕ) (b : Bool) → b ≡ usable count run numbers → not b ≡ false → length run ≡ state_words
-run-used count run numbers b asks used =
-    run_lent count run numbers true (sym (both_first (lendable count run numbers) (state_in_order (state_in run)) (sym asks ∙ not-false b used))) refl
+lent-where : (u : Bool) (s x : State) → Ok x ≡ cond u (Ok s) (Err StateOrTable) → (u ≡ true) × (s ≡ x)
+lent-where true s x e = (refl, cc)
+lent-where false s x e = (cc, cc)
+
+module _ (run numbers : List ℕ) (o : Result State Refusal) where
+  -- Question 7 of each call: a run cannot be lent, or the state is not in order.
+  pub unused : (call : Call) (refusal : Refusal) (after : List ℕ) (r : ℕ) (t : Tables) → o ≡ lent_state (numbers_by call) run numbers → o ≡ Err refusal
+      → Says (numbers_by call) (Err refusal) r numbers after → returned r run after t ≡ call_at run numbers t call
+  unfolding call_at replied reply_of both run_after settle
+  unused call refusal after r t lent is says =
+      let no = refused-where (usable (numbers_by call) run numbers) (state_in run) refusal (sym is ∙ lent) in
+      by (lendable (numbers_by call) run numbers) refl no.0 (rw no.1 at says.0) (rw no.1 at says.1)
+    where
+      by : (l : Bool) → lendable (numbers_by call) run numbers ≡ l → usable (numbers_by call) run numbers ≡ false → r ≡ 7
+          → after ≡ with_numbers (numbers_by call) numbers (reply_of (Err StateOrTable)) → returned r run after t ≡ call_at run numbers t call
+      by true e u n w = rw (e, answer-unfit (guard_of (state_in run) t) call (rw e at u), n, w) refl
+      by false e u n w = rw (e, n, w) refl
+
+  -- The state that a call is lent: the runs are usable, and it is the one in the run.
+  module _ (count : ℕ) (s : State) (lent : o ≡ lent_state count run numbers) (is : o ≡ Ok s) where
+    in-use : (usable count run numbers ≡ true) × (state_in run ≡ s)
+    in-use = lent-where (usable count run numbers) (state_in run) s (sym is ∙ lent)
+
+    lends : lendable count run numbers ≡ true
+    lends = both_first (lendable count run numbers) (state_in_order (state_in run)) in-use.0
+
+    pub run-used : length run ≡ state_words
+    run-used = run_lent count run numbers lends
 
 -- A call that can change no word of the state run.
 none-changed : (run : List ℕ) (s : State) (n : ℕ) → run ≡ settle n (with_words run s []) (λ _. run)
@@ -49,56 +70,45 @@ unfolding settle with_words
 none-changed run s zero = refl
 none-changed run s (suc n) = refl
 
-module _ (run numbers : List ℕ) (b : Bool) (call : Call) (asks : b ≡ usable (numbers_by call) run numbers) (used : not b ≡ false) where
-  lends : lendable (numbers_by call) run numbers ≡ true
-  lends = both_first (lendable (numbers_by call) run numbers) (state_in_order (state_in run)) (sym asks ∙ not-false b used)
-
+module _ (run numbers : List ℕ) (o : Result State Refusal) (call : Call) (s : State) (lent : o ≡ lent_state (numbers_by call) run numbers) (is : o ≡ Ok s) where
   -- The call's own answer, of a call that may change the state and of one that keeps it. What it is lent and what it leaves, of any tables.
-  module _ (s : State) (in-run : s ≡ state_in run) (after : List ℕ) (r : ℕ) (before after' : Tables → Tables) where
-    pub called : (run' : List ℕ) (c : Called) → ((t : Tables) → outcome_by c (after' t) ≡ answer (guard_of s (before t)) call)
-        → Says (numbers_by call) c.answer r numbers after → run' ≡ run_after run (changed_by call) (reply_of c.answer) c.state
+  module _ (after : List ℕ) (r : ℕ) (a : Answer) (before after' : Tables → Tables) where
+    pub called : (run' : List ℕ) (s' : State) → ((t : Tables) → outcome_by a s' (after' t) ≡ answer (guard_of s (before t)) call)
+        → Says (numbers_by call) a r numbers after → run' ≡ put run call a s'
         → (t : Tables) → returned r run' after (after' t) ≡ call_at run numbers (before t) call
-    unfolding call_at replied outcome_by
-    called run' c e says put t = rw (lends, sym (rw in-run at (e t)), says.0, says.1, put) refl
+    unfolding call_at replied outcome_by run_after
+    called run' s' e says p t =
+        let used = in-use run numbers o (numbers_by call) s lent is in
+        rw (lends run numbers o (numbers_by call) s lent is, sym (rw (sym used.1) at (e t)), says.0, says.1, p) refl
 
-    pub kept : changed_by call ≡ [] → (a : Answer) → ((t : Tables) → kept_by a s (after' t) ≡ answer (guard_of s (before t)) call)
+    pub kept : changed_by call ≡ [] → ((t : Tables) → outcome_by a s (after' t) ≡ answer (guard_of s (before t)) call)
         → Says (numbers_by call) a r numbers after → (t : Tables) → returned r run after (after' t) ≡ call_at run numbers (before t) call
-    unfolding run_after
-    kept none a e says = called run (record { answer = a; state = s }) e says (rw none (none-changed run s (reply_of a).number))
+    kept none e says = called run s e says (rw none (none-changed run s (reply_of a).number))
 
-  -- The same by the tables that a call is lent: the shadow table; shadow and vector; the vector.
-  module _ (s : State) (in-run : s ≡ state_in run) (after : List ℕ) (r : ℕ) where
-    pub shadow-called : (shadow shadow' run' : List ℕ) (c : Called)
-        → ((t : Tables) → outcome_by c (with_shadow shadow' t) ≡ answer (guard_of s (with_shadow shadow t)) call)
-        → Says (numbers_by call) c.answer r numbers after → run' ≡ run_after run (changed_by call) (reply_of c.answer) c.state
+  -- The same of a call that is lent the shadow table.
+  module _ (after : List ℕ) (r : ℕ) (a : Answer) where
+    pub shadow-called : (shadow shadow' run' : List ℕ) (s' : State)
+        → ((t : Tables) → outcome_by a s' (with_shadow shadow' t) ≡ answer (guard_of s (with_shadow shadow t)) call)
+        → Says (numbers_by call) a r numbers after → run' ≡ put run call a s'
         → (t : Tables) → returned r run' after (with_shadow shadow' t) ≡ call_at run numbers (with_shadow shadow t) call
-    shadow-called shadow shadow' = called s in-run after r (with_shadow shadow) (with_shadow shadow')
+    shadow-called shadow shadow' = called after r a (with_shadow shadow) (with_shadow shadow')
 
-    pub write_kept : (shadow exclusion shadow' exclusion' : List ℕ) (a : Answer) → changed_by call ≡ []
-        → ((t : Tables) → kept_by a s (with_shadow shadow' (with_exclusion exclusion' t)) ≡ answer (guard_of s (with_shadow shadow (with_exclusion exclusion t))) call)
-        → r ≡ (reply_of a).number → after ≡ with_numbers (numbers_by call) numbers (reply_of a)
-        → (t : Tables) → returned r run after (with_shadow shadow' (with_exclusion exclusion' t)) ≡ call_at run numbers (with_shadow shadow (with_exclusion exclusion t)) call
-    write_kept shadow exclusion shadow' exclusion' a none e n w =
-        kept s in-run after r (λ t. with_shadow shadow (with_exclusion exclusion t)) (λ t. with_shadow shadow' (with_exclusion exclusion' t)) none a e (n, w)
+-- A call that reads what it is lent, by what `and_then` gives: its answer on the state, or the refusal of question 7.
+pub read-answered : (run numbers : List ℕ) (o : Result State Refusal) (call : Call) (after : List ℕ) (r : ℕ) (a : Answer) (tables : Tables → Tables)
+    → changed_by call ≡ [] → o ≡ lent_state (numbers_by call) run numbers
+    → MatchResult o (λ s. (t : Tables) → outcome_by a s (tables t) ≡ answer (guard_of s (tables t)) call) (λ refusal. a ≡ Err refusal)
+    → Says (numbers_by call) a r numbers after → (t : Tables) → returned r run after (tables t) ≡ call_at run numbers (tables t) call
+read-answered run numbers (Ok s) call after r a tables none lent e says t = kept run numbers (Ok s) call s lent refl after r a tables tables none e says t
+read-answered run numbers (Err refusal) call after r a tables none lent e says t =
+    unused run numbers (Err refusal) call refusal after r (tables t) lent refl (rw e at says)
 
-    vector-kept : (exclusion exclusion' : List ℕ) (a : Answer) → changed_by call ≡ []
-        → ((t : Tables) → kept_by a s (with_exclusion exclusion' t) ≡ answer (guard_of s (with_exclusion exclusion t)) call)
-        → r ≡ (reply_of a).number → after ≡ with_numbers (numbers_by call) numbers (reply_of a)
-        → (t : Tables) → returned r run after (with_exclusion exclusion' t) ≡ call_at run numbers (with_exclusion exclusion t) call
-    vector-kept exclusion exclusion' a none e n w = kept s in-run after r (with_exclusion exclusion) (with_exclusion exclusion') none a e (n, w)
-
--- A device write, of every list so long and with this record for its device (K5).
-module _ (run numbers : List ℕ) (b : Bool) (asks : b ≡ usable answer_numbers run numbers) (used : not b ≡ false) (s : State) (in-run : s ≡ state_in run)
-    (after : List ℕ) (r : ℕ) (listed : ℕ) (d : Device) (device address size : ℕ) where
-  abbrev OfEvery : ((t : Tables) → Call → Type 0) → Type 0
-  OfEvery holds =
-      (t : Tables) (devices : List Device) → length devices ≡ listed → (device < listed → device_at devices device ≡ d)
-      → holds t (device_write devices device address size)
-
-  pub transfer-kept : (exclusion exclusion' : List ℕ) (a : Answer)
-      → OfEvery (λ t call. kept_by a s (with_exclusion exclusion' t) ≡ answer (guard_of s (with_exclusion exclusion t)) call)
-      → r ≡ (reply_of a).number → after ≡ with_numbers answer_numbers numbers (reply_of a)
-      → OfEvery (λ t call. returned r run after (with_exclusion exclusion' t) ≡ call_at run numbers (with_exclusion exclusion t) call)
-  transfer-kept exclusion exclusion' a e n w t devices long is =
-      vector-kept run numbers b (device_write devices device address size) asks used s in-run after r exclusion exclusion' a refl
-      (λ t. e t devices long is) n w t
+-- A device write's answer is of every list so long and with this record for its device, and so of one of them (K5).
+pub of-list : (o : Result State Refusal) (a : Answer) (listed : ℕ) (d : Device) (device address size : ℕ) (tables : Tables → Tables)
+    → MatchResult o
+    (λ s. (t : Tables) (devices : List Device) → length devices ≡ listed → (device < listed → device_at devices device ≡ d)
+    → outcome_by a s (tables t) ≡ answer (guard_of s (tables t)) (device_write devices device address size))
+    (λ refusal. a ≡ Err refusal)
+    → (devices : List Device) → length devices ≡ listed → (device < listed → device_at devices device ≡ d)
+    → MatchResult o (λ s. (t : Tables) → outcome_by a s (tables t) ≡ answer (guard_of s (tables t)) (device_write devices device address size)) (λ refusal. a ≡ Err refusal)
+of-list (Ok s) a listed d device address size tables e devices long placed = λ t. e t devices long placed
+of-list (Err refusal) a listed d device address size tables e devices long placed = e

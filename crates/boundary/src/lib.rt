@@ -1,6 +1,7 @@
-// The calls on a lent state that neither synchronise nor approve, on numbers and lent runs: a number out. The crate `exports` hands them to C, and include/guard.h
-// documents them. The definitions of every exported call stand in `boundary_model`, and the laws that all of them cite here.
-// Each promises what the model answers on the decoded state, by one equation on all inputs.
+// The calls on a lent state that neither synchronise nor approve, on numbers and lent runs: a number out. The crate `exports` hands them to C, and
+// include/guard.h documents them. The definitions of every exported call stand in `boundary_model`, and the laws that all of them cite here.
+// Each promises what the model answers on the decoded state, by one equation on all inputs. A call that only reads goes by `and_then`. Another is a match,
+// since its answer and the state after it are both handed on: a closure that gives both is no plainer.
 
 #![tactic(auto)]
 
@@ -13,17 +14,20 @@ ghost use Rattle.model.specs.Devices.{device_at};
 ghost use Rattle.model.specs.Calls.{device_write};
 ghost use Rattle.boundary_model.specs.Boundary.{returned, call_at};
 
-use model::{Answer, Device};
+use encode::{ModeAndPage, RunningPage};
+use model::Device;
 
 pub fn fetch(state: &mut [u64], shadow: &[u64], page: u64, numbers: &mut [u64]) -> u64
     ensures { (t : Tables) → returned result state.new numbers.new (with_shadow shadow.now t)
         ≡ call_at state.old numbers.old (with_shadow shadow.now t) (Calls.fetch page) }
 {
-    if !decode::usable(state, numbers, decode::NUMBERS) {
-        return encode::reply(numbers, Answer::Refused(7));
+    match decode::state_of(state, numbers, decode::NUMBERS) {
+        Ok(mut s) => {
+            let answer = access::fetch(&mut s, shadow, page);
+            encode::put::<RunningPage>(state, numbers, answer, s)
+        }
+        Err(refusal) => encode::reply(numbers, Err(refusal)),
     }
-    let called = access::fetch(decode::state_in(state), shadow, page);
-    encode::put_fetched(state, numbers, called)
 }
 
 pub fn write(
@@ -37,10 +41,9 @@ pub fn write(
     ensures { (t : Tables) → returned result state.now numbers.new (with_shadow shadow.now (with_exclusion exclusion.now t))
         ≡ call_at state.now numbers.old (with_shadow shadow.now (with_exclusion exclusion.now t)) (Calls.write address length) }
 {
-    if !decode::usable(state, numbers, decode::NUMBERS) {
-        return encode::reply(numbers, Answer::Refused(7));
-    }
-    let answer = access::write(decode::state_in(state), shadow, exclusion, address, length);
+    let answer = decode::state_of(state, numbers, decode::NUMBERS).and_then(|s| access::write(
+        s, shadow, exclusion, address, length,
+    ));
     encode::reply(numbers, answer)
 }
 
@@ -48,22 +51,26 @@ pub fn enter(state: &mut [u64], shadow: &mut [u64], index: u64, numbers: &mut [u
     ensures { (t : Tables) → returned result state.new numbers.new (with_shadow shadow.new t)
         ≡ call_at state.old numbers.old (with_shadow shadow.old t) (Calls.enter index) }
 {
-    if !decode::usable(state, numbers, decode::NUMBERS) {
-        return encode::reply(numbers, Answer::Refused(7));
+    match decode::state_of(state, numbers, decode::NUMBERS) {
+        Ok(mut s) => {
+            let answer = modes::enter(&mut s, shadow, index);
+            encode::put::<ModeAndPage>(state, numbers, answer, s)
+        }
+        Err(refusal) => encode::reply(numbers, Err(refusal)),
     }
-    let called = modes::enter(decode::state_in(state), shadow, index);
-    encode::put_switched(state, numbers, called)
 }
 
 pub fn leave(state: &mut [u64], shadow: &mut [u64], page: u64, numbers: &mut [u64]) -> u64
     ensures { (t : Tables) → returned result state.new numbers.new (with_shadow shadow.new t)
         ≡ call_at state.old numbers.old (with_shadow shadow.old t) (Calls.leave page) }
 {
-    if !decode::usable(state, numbers, decode::NUMBERS) {
-        return encode::reply(numbers, Answer::Refused(7));
+    match decode::state_of(state, numbers, decode::NUMBERS) {
+        Ok(mut s) => {
+            let answer = modes::leave(&mut s, shadow, page);
+            encode::put::<ModeAndPage>(state, numbers, answer, s)
+        }
+        Err(refusal) => encode::reply(numbers, Err(refusal)),
     }
-    let called = modes::leave(decode::state_in(state), shadow, page);
-    encode::put_switched(state, numbers, called)
 }
 
 // A device write, by how long the list of devices is and the device's record in it, if it has one (K5).
@@ -81,17 +88,8 @@ pub fn device_write(
         → returned result state.now numbers.new (with_exclusion exclusion.now t)
         ≡ call_at state.now numbers.old (with_exclusion exclusion.now t) (device_write devices device address length) }
 {
-    if !decode::usable(state, numbers, decode::NUMBERS) {
-        return encode::reply(numbers, Answer::Refused(7));
-    }
-    let answer = transfer::device_write(
-        decode::state_in(state),
-        exclusion,
-        listed,
-        window,
-        device,
-        address,
-        length,
+    let answer = decode::state_of(state, numbers, decode::NUMBERS).and_then(
+        |s| transfer::device_write(s, exclusion, listed, window, device, address, length),
     );
     encode::reply(numbers, answer)
 }

@@ -1,4 +1,5 @@
 -- Laws of the state run along the calls: an accepted call puts the words that it can change, a refused one leaves the run, and what was lent can be lent.
+use Rattle.std.specs.Prelude.{None, Some, Option}
 use Prim.Native.Nat.{ℕ, zero, suc, ◌-◌, ◌≤◌, ◌<◌}
 use mathlib.Core.Bool.{Bool, true, false}
 use mathlib.Core.List.{List, [], ◌∷◌}
@@ -11,7 +12,6 @@ use native.Mathlib.Omega.{arith}
 use Rattle.model.specs.declared.Mode.{Mode}
 use Rattle.model.specs.declared.Mode.TheVariants.{Kernel, User}
 use Rattle.model.specs.declared.Pending.{Pending}
-use Rattle.model.specs.declared.Pending.TheVariants.{Nothing, Pair}
 use Rattle.model.specs.declared.State.{State}
 use Rattle.model.specs.Guard.{Tables, Guard, guard_of, in_user, running, mode_of, in_mode, with_pending}
 use Rattle.model.specs.Questions.{first_no, seen}
@@ -32,15 +32,15 @@ unfolding mode_word in_user
 mode-flag (Kernel page) = omega arith
 mode-flag (User page) = omega arith
 
-pending-flag : (pending : Pending) → pending_word pending 0 ≤ 1
+pending-flag : (pending : Option Pending) → pending_word pending 0 ≤ 1
 unfolding pending_words
-pending-flag Nothing = omega arith
-pending-flag (Pair page frame) = omega arith
+pending-flag None = omega arith
+pending-flag (Some asked) = omega arith
 
-pending-length : (pending : Pending) → length (pending_words pending) ≡ 3
+pending-length : (pending : Option Pending) → length (pending_words pending) ≡ 3
 unfolding pending_words
-pending-length Nothing = refl
-pending-length (Pair page frame) = refl
+pending-length None = refl
+pending-length (Some asked) = refl
 
 module _ (s : State) (long : length s.entry_pages ≡ entry_words) where
   words_long : length (words_of s) ≡ state_words

@@ -1,4 +1,5 @@
 -- Laws of a state in a run: the words of a state decode to it, and a run with some of them in its place decodes to what they say.
+use Rattle.std.specs.Prelude.{None, Some, Option}
 use Prim.Native.Nat.{ℕ, ◌+◌, ◌-◌, ◌≤◌, ◌<◌}
 use mathlib.Core.List.{List}
 use mathlib.Core.Path.{◌≡◌, refl, sym, ap, ◌∙◌}
@@ -9,7 +10,6 @@ use native.Mathlib.Omega.{arith}
 use Rattle.model.specs.declared.Mode.{Mode}
 use Rattle.model.specs.declared.Mode.TheVariants.{Kernel, User}
 use Rattle.model.specs.declared.Pending.{Pending}
-use Rattle.model.specs.declared.Pending.TheVariants.{Nothing, Pair}
 use Rattle.model.specs.declared.State.{State}
 use Rattle.model.specs.Guard.{in_user, running, mode_of, state_of, in_mode, with_pending}
 use Rattle.laws.proofs.TableLaws.{is-table, table_same}
@@ -24,14 +24,14 @@ mode-back (Kernel page) = refl
 mode-back (User page) = refl
 
 -- What is pending, by its three words.
-abbrev pub pending_word : Pending → ℕ → ℕ
+abbrev pub pending_word : Option Pending → ℕ → ℕ
 pending_word pending i = get_or (pending_words pending) i 0
 
-pending-back : (run : List ℕ) (pending : Pending) → get_or run pending_at 0 ≡ pending_word pending 0 → get_or run pending_page_at 0 ≡ pending_word pending 1
+pending-back : (run : List ℕ) (pending : Option Pending) → get_or run pending_at 0 ≡ pending_word pending 0 → get_or run pending_page_at 0 ≡ pending_word pending 1
     → get_or run pending_frame_at 0 ≡ pending_word pending 2 → pending_in run ≡ pending
 unfolding pending_in pending_words
-pending-back run Nothing a b c = rw a refl
-pending-back run (Pair page frame) a b c = rw (a, b, c) refl
+pending-back run None a b c = rw a refl
+pending-back run (Some asked) a b c = rw (a, b, c) refl
 
 -- The same words hold the same.
 pending-same : (run run' : List ℕ) → get_or run' pending_at 0 ≡ get_or run pending_at 0 → get_or run' pending_page_at 0 ≡ get_or run pending_page_at 0
@@ -40,7 +40,7 @@ unfolding pending_in
 pending-same run run' a b c = rw (a, b, c) refl
 
 -- A state is what its fields are.
-state-made : (s : State) (p f n : ℕ) (e : List ℕ) (m : Mode) (k : ℕ) (w : Pending) → p ≡ s.pages → f ≡ s.frames → n ≡ s.entry_count
+state-made : (s : State) (p f n : ℕ) (e : List ℕ) (m : Mode) (k : ℕ) (w : Option Pending) → p ≡ s.pages → f ≡ s.frames → n ≡ s.entry_count
     → e ≡ s.entry_pages → m ≡ s.mode → k ≡ s.devices → w ≡ s.pending → state_of p f n e m k w ≡ s
 state-made s p f n e m k w a b c d h i j = rw (a, b, c, d, h, i, j) refl
 
@@ -69,7 +69,7 @@ module _ (s : State) (long : length s.entry_pages ≡ entry_words) where
       (pending-back (words_of s) s.pending (last_word (pending_at - mode_at)) (last_word (pending_page_at - mode_at)) (last_word (pending_frame_at - mode_at)))
 
 -- The words of what is pending, put into a run.
-abbrev pub pending_put : List ℕ → Pending → List ℕ
+abbrev pub pending_put : List ℕ → Option Pending → List ℕ
 pending_put run pending =
     set (set (set run pending_at (pending_word pending 0)) pending_page_at (pending_word pending 1)) pending_frame_at (pending_word pending 2)
 
@@ -88,7 +88,7 @@ module _ (run : List ℕ) (s : State) (long : length s.entry_pages ≡ entry_wor
   pending-words = rw (last_word s long (pending_at - mode_at), last_word s long (pending_page_at - mode_at), last_word s long (pending_frame_at - mode_at)) refl
 
 -- A run that differs at the words of the mode and of what is pending alone.
-same-fields : (run run' : List ℕ) (mode : Mode) (pending : Pending)
+same-fields : (run run' : List ℕ) (mode : Mode) (pending : Option Pending)
     → ((at : ℕ) → at ≤ devices_at → (at ≡ mode_at → ⊥) → (at ≡ running_at → ⊥) → get_or run' at 0 ≡ get_or run at 0)
     → mode_of (eqb (get_or run' mode_at 0) 1) (get_or run' running_at 0) ≡ mode → pending_in run' ≡ pending
     → state_in run' ≡ with_pending (in_mode (state_in run) mode) pending
@@ -146,7 +146,7 @@ module _ (run : List ℕ) (s : State) (size : length run ≡ state_words) (long 
       (rw (page-field mode_at (λ q. omega arith), running-put run size) refl))
 
 -- A run with other words of what is pending: the words before them stay, and each is there.
-module _ (run : List ℕ) (pending : Pending) where
+module _ (run : List ℕ) (pending : Option Pending) where
   abbrev one : List ℕ
   one = set run pending_at (pending_word pending 0)
 

@@ -1,10 +1,10 @@
 -- The runs of words that cross the boundary: the state in a lent run, and the numbers of a reply in another.
 -- Documented for C in include/guard.h.
-use Rattle.std.specs.Prelude.{ℕ, ◌+◌, Bool, cond, List, [], ◌∷◌, ◌++◌, length, get_or, set, take, leb, eqb}
+use Rattle.std.specs.Prelude.{ℕ, ◌+◌, Bool, cond, List, [], ◌∷◌, ◌++◌, length, get_or, set, take, leb, eqb, None, Some, Option}
+use Rattle.model.specs.Guard.{pair}
 use Rattle.model.specs.declared.State.{State}
 use Rattle.model.specs.declared.Mode.{Mode}
 use Rattle.model.specs.declared.Pending.{Pending}
-use Rattle.model.specs.declared.Pending.TheVariants.{Nothing, Pair}
 use Rattle.model.specs.Basics.{both, table}
 use Rattle.model.specs.Guard.{in_user, running, mode_of, state_of}
 use Rattle.model.specs.Calls.{Reply, settle, Call, sync_page, sync_all, sync_page_tree, sync_all_tree, fetch, write, enter, leave, device_write, ask, commit, drop}
@@ -71,12 +71,12 @@ unfoldable pub entry_pages_in : List ℕ → List ℕ
 entry_pages_in run = table entry_words (λ i. get_or run (entry_pages_at + i) 0)
 
 -- What is pending: "1 while a pair is pending, else 0", and the pair, whose words "are not read" where none is.
-unfoldable pub pending_in : List ℕ → Pending
-pending_in run = cond (eqb (get_or run pending_at 0) 1) (Pair (get_or run pending_page_at 0) (get_or run pending_frame_at 0)) Nothing
+unfoldable pub pending_in : List ℕ → Option Pending
+pending_in run = cond (eqb (get_or run pending_at 0) 1) (pair (get_or run pending_page_at 0) (get_or run pending_frame_at 0)) None
 
-unfoldable pub pending_words : Pending → List ℕ
-pending_words Nothing = 0 ∷ 0 ∷ 0 ∷ []
-pending_words (Pair page frame) = 1 ∷ page ∷ frame ∷ []
+unfoldable pub pending_words : Option Pending → List ℕ
+pending_words None = 0 ∷ 0 ∷ 0 ∷ []
+pending_words (Some asked) = 1 ∷ asked.page ∷ asked.frame ∷ []
 
 -- The state that a run holds, each number as it comes: question 7 refuses a wide one, and question 9 a wide entry page where it is entered.
 unfoldable pub state_in : List ℕ → State

@@ -4,9 +4,8 @@ use mathlib.Core.List.{List}
 use mathlib.Core.Path.{◌≡◌, refl}
 use lib.Dec.{eqb}
 use lib.ListN.{length}
-use Rattle.model.specs.declared.Answer.{Answer}
 use Rattle.model.specs.Policy.{Policy}
-use Rattle.model.specs.Calls.{reply_of}
+use Rattle.model.specs.Calls.{Answer, reply_of}
 use Rattle.record_model.specs.Record.{written, write_record_of}
 use Rattle.boundary_model.specs.Words.{answer_numbers, with_numbers}
 use Rattle.boundary_model.specs.Boundary.{recorded, record_at}

@@ -4,9 +4,8 @@ use mathlib.Core.List.{List}
 use mathlib.Core.Path.{◌≡◌, refl}
 use lib.Dec.{eqb}
 use lib.ListN.{length}
-use Rattle.model.specs.declared.Answer.{Answer}
 use Rattle.model.specs.Tree.{Tree}
-use Rattle.model.specs.Calls.{reply_of}
+use Rattle.model.specs.Calls.{Answer, reply_of}
 use Rattle.model.specs.Walks.{walk_reply}
 use Rattle.boundary_model.specs.Words.{answer_numbers, with_numbers}
 use Rattle.boundary_model.specs.Boundary.{walked, walk_at}

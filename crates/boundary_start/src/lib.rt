@@ -5,22 +5,13 @@
 
 ghost use Rattle.std.specs.Prelude.{◌≡◌};
 ghost use Rattle.model.specs.Guard.{tables};
-ghost use Rattle.model.specs.Policy.{given_of, policy_of};
-ghost use Rattle.model.specs.Questions.{first_no, record_questions};
+ghost use Rattle.model.specs.Policy.{given_of};
 ghost use Rattle.model.specs.Tree.{tree_of};
-ghost use Rattle.model.specs.Calls.{settle};
 ghost use Rattle.record_model.specs.Record.{policy_by};
 ghost use Rattle.boundary_model.specs.Boundary.{returned, start_at, recorded, record_at, walked, walk_at};
 
-use model::Answer;
-
-// The refusal of a start whose runs do not fit: the record's questions come first.
-fn start_refusal(policy: &[u8], devices: u64) -> u64
-    ensures { result ≡ settle (first_no (record_questions (given_of devices) policy.now (policy_of policy.now))) 7 (λ n. n) }
-{
-    let number = policy::record_question(policy, devices);
-    if number == 0 { 7 } else { number }
-}
+use encode::WholeState;
+use model::Refusal;
 
 pub fn start(
     policy: &[u8],
@@ -35,11 +26,17 @@ pub fn start(
         ≡ start_at (given_of devices) policy.now state.old numbers.old (tables shadow.old map.old exclusion.old) }
 {
     if !decode::runs_fit(state, numbers, decode::NUMBERS) {
-        let number = start_refusal(policy, devices);
-        return encode::reply(numbers, Answer::Refused(number));
+        // The record's questions come first.
+        let answer = policy::record_question(policy, devices).and(Err(Refusal::StateOrTable));
+        return encode::reply(numbers, answer);
     }
-    let called = start::start(policy, devices, shadow, map, exclusion);
-    encode::put_started(state, numbers, called)
+    match start::start(policy, devices, shadow, map, exclusion) {
+        Ok((s, both)) => encode::put::<WholeState>(state, numbers, Ok(both), s),
+        Err(refusal) => {
+            let s = start::refused_state();
+            encode::put::<WholeState>(state, numbers, Err(refusal), s)
+        }
+    }
 }
 
 // Writes a policy record.

@@ -1,5 +1,6 @@
-// The calls on a lent state that synchronise or approve, on numbers and lent runs: a number out. The crate `exports` hands them to C beside those of `boundary`,
-// whose definitions and laws they cite.
+// The calls on a lent state that synchronise or approve, on numbers and lent runs: a number out. The crate `exports` hands them to C beside those of
+// `boundary`, whose definitions and laws they cite. Each is a match: with `and_then` the proof of `sync_page` did not close, since of a table that a closure
+// writes nothing is known after it, and the others write tables alike.
 
 #![tactic(auto)]
 
@@ -10,7 +11,7 @@ ghost use Rattle.model.specs.Tree.{tree_of};
 ghost use Rattle.model.specs.Calls.{sync_page, sync_all, sync_page_tree, sync_all_tree};
 ghost use Rattle.boundary_model.specs.Boundary.{returned, call_at};
 
-use model::Answer;
+use encode::PendingPair;
 
 // Synchronise one page.
 pub fn sync_page(
@@ -25,18 +26,13 @@ pub fn sync_page(
     ensures { (t : Tables) → returned result state.now numbers.new (with_three shadow.new map.new exclusion.now t)
         ≡ call_at state.now numbers.old (with_three shadow.old map.old exclusion.now t) (sync_page kernel.now page) }
 {
-    if !decode::usable(state, numbers, decode::NUMBERS) {
-        return encode::reply(numbers, Answer::Refused(7));
+    match decode::state_of(state, numbers, decode::NUMBERS) {
+        Ok(s) => {
+            let answer = sync::sync_page(s, kernel, shadow, map, exclusion, page);
+            encode::reply(numbers, answer)
+        }
+        Err(refusal) => encode::reply(numbers, Err(refusal)),
     }
-    let answer = sync::sync_page(
-        decode::state_in(state),
-        kernel,
-        shadow,
-        map,
-        exclusion,
-        page,
-    );
-    encode::reply(numbers, answer)
 }
 
 // Synchronise all pages.
@@ -51,11 +47,13 @@ pub fn sync_all(
     ensures { (t : Tables) → returned result state.now numbers.new (with_three shadow.new map.new exclusion.now t)
         ≡ call_at state.now numbers.old (with_three shadow.old map.old exclusion.now t) (sync_all kernel.now) }
 {
-    if !decode::usable(state, numbers, decode::NUMBERS) {
-        return encode::reply(numbers, Answer::Refused(7));
+    match decode::state_of(state, numbers, decode::NUMBERS) {
+        Ok(s) => {
+            let answer = sync::sync_all(s, kernel, shadow, map, exclusion);
+            encode::reply(numbers, answer)
+        }
+        Err(refusal) => encode::reply(numbers, Err(refusal)),
     }
-    let answer = sync::sync_all(decode::state_in(state), kernel, shadow, map, exclusion);
-    encode::reply(numbers, answer)
 }
 
 // Synchronise one page from a tree.
@@ -74,20 +72,15 @@ pub fn sync_page_tree(
         ≡ call_at state.now numbers.old (with_three shadow.old map.old exclusion.now t)
         (sync_page_tree (tree_of tables.now root depth) page) }
 {
-    if !decode::usable(state, numbers, decode::NUMBERS) {
-        return encode::reply(numbers, Answer::Refused(7));
+    match decode::state_of(state, numbers, decode::NUMBERS) {
+        Ok(s) => {
+            let answer = sync_tree::sync_page_tree(
+                s, tables, root, depth, shadow, map, exclusion, page,
+            );
+            encode::reply(numbers, answer)
+        }
+        Err(refusal) => encode::reply(numbers, Err(refusal)),
     }
-    let answer = sync_tree::sync_page_tree(
-        decode::state_in(state),
-        tables,
-        root,
-        depth,
-        shadow,
-        map,
-        exclusion,
-        page,
-    );
-    encode::reply(numbers, answer)
 }
 
 // Synchronise all pages from a tree.
@@ -105,19 +98,13 @@ pub fn sync_all_tree(
         ≡ call_at state.now numbers.old (with_three shadow.old map.old exclusion.now t)
         (sync_all_tree (tree_of tables.now root depth)) }
 {
-    if !decode::usable(state, numbers, decode::NUMBERS) {
-        return encode::reply(numbers, Answer::Refused(7));
+    match decode::state_of(state, numbers, decode::NUMBERS) {
+        Ok(s) => {
+            let answer = sync_tree::sync_all_tree(s, tables, root, depth, shadow, map, exclusion);
+            encode::reply(numbers, answer)
+        }
+        Err(refusal) => encode::reply(numbers, Err(refusal)),
     }
-    let answer = sync_tree::sync_all_tree(
-        decode::state_in(state),
-        tables,
-        root,
-        depth,
-        shadow,
-        map,
-        exclusion,
-    );
-    encode::reply(numbers, answer)
 }
 
 // Asks for the approval of a frame for a page (K6).
@@ -133,11 +120,13 @@ pub fn ask(
     ensures { (t : Tables) → returned result state.new numbers.new (with_three shadow.now map.now exclusion.new t)
         ≡ call_at state.old numbers.old (with_three shadow.now map.now exclusion.old t) (Calls.ask page frame) }
 {
-    if !decode::usable(state, numbers, decode::NUMBERS) {
-        return encode::reply(numbers, Answer::Refused(7));
+    match decode::state_of(state, numbers, decode::NUMBERS) {
+        Ok(mut s) => {
+            let answer = approvals::ask(&mut s, shadow, map, exclusion, page, frame);
+            encode::put::<PendingPair>(state, numbers, answer, s)
+        }
+        Err(refusal) => encode::reply(numbers, Err(refusal)),
     }
-    let called = approvals::ask(decode::state_in(state), shadow, map, exclusion, page, frame);
-    encode::put_paired(state, numbers, called)
 }
 
 // Commits what is pending (K6).
@@ -145,11 +134,13 @@ pub fn commit(state: &mut [u64], shadow: &mut [u64], map: &mut [u16], numbers: &
     ensures { (t : Tables) → returned result state.new numbers.new (with_shadow shadow.new (with_map map.new t))
         ≡ call_at state.old numbers.old (with_shadow shadow.old (with_map map.old t)) Calls.commit }
 {
-    if !decode::usable(state, numbers, decode::NUMBERS) {
-        return encode::reply(numbers, Answer::Refused(7));
+    match decode::state_of(state, numbers, decode::NUMBERS) {
+        Ok(mut s) => {
+            let answer = approvals::commit(&mut s, shadow, map);
+            encode::put::<PendingPair>(state, numbers, answer, s)
+        }
+        Err(refusal) => encode::reply(numbers, Err(refusal)),
     }
-    let called = approvals::commit(decode::state_in(state), shadow, map);
-    encode::put_paired(state, numbers, called)
 }
 
 // Drops what is pending (K6).
@@ -157,9 +148,11 @@ pub fn drop_pending(state: &mut [u64], exclusion: &mut [u8], numbers: &mut [u64]
     ensures { (t : Tables) → returned result state.new numbers.new (with_exclusion exclusion.new t)
         ≡ call_at state.old numbers.old (with_exclusion exclusion.old t) Calls.drop }
 {
-    if !decode::usable(state, numbers, decode::NUMBERS) {
-        return encode::reply(numbers, Answer::Refused(7));
+    match decode::state_of(state, numbers, decode::NUMBERS) {
+        Ok(mut s) => {
+            let answer = approvals::drop_pending(&mut s, exclusion);
+            encode::put::<PendingPair>(state, numbers, answer, s)
+        }
+        Err(refusal) => encode::reply(numbers, Err(refusal)),
     }
-    let called = approvals::drop_pending(decode::state_in(state), exclusion);
-    encode::put_paired(state, numbers, called)
 }

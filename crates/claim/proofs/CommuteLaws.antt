@@ -1,4 +1,5 @@
 -- Demand 3: an accepted call does to each page what its one-page guard is told, and keeps what always holds.
+use Rattle.std.specs.Prelude.{None, Option}
 use Prim.Native.Nat.{ℕ, ◌≤◌, ◌<◌}
 use mathlib.Core.Bool.{Bool, true, false, cond, true≢false}
 use mathlib.Core.List.{List}
@@ -9,8 +10,8 @@ use lib.Dec.{ltb, eqb}
 use native.Mathlib.Nat.{add-zero}
 use native.Mathlib.Omega.{arith}
 use borrow.Author.Tests.{lt-ltb, ltb-true, ltb-false, eq-eqb, eqb-true, eqb-false}
+use Rattle.model.specs.Guard.{pair}
 use Rattle.model.specs.declared.Pending.{Pending}
-use Rattle.model.specs.declared.Pending.TheVariants.{Nothing, Pair}
 use Rattle.model.specs.declared.Mode.{Mode}
 use Rattle.model.specs.declared.Mode.TheVariants.{Kernel, User}
 use Rattle.model.specs.Basics.{bit, both, either}
@@ -119,7 +120,7 @@ module _ (policy : Policy) (terms : Terms) (g : Guard) (h : Invariant policy ter
   unfolding excluded_with
   bit-put b frame small = has_bit-with_bit b g.tables.exclusion frame (rw (exclusion-length policy terms g h) (byte-below policy.frames frame small))
 
-  bit-commutes : (b : Bool) (frame : ℕ) (pending : Pending) (p : ℕ) → frame < policy.frames
+  bit-commutes : (b : Bool) (frame : ℕ) (pending : Option Pending) (p : ℕ) → frame < policy.frames
       → with_pair (page_of g p) (excluded_with b frame (has_bit g.tables.exclusion)) (pending_frame pending) (is_asked pending p)
       ≡ page_of (bit_put g b frame pending).guard p
   unfolding bit_put with_pending
@@ -180,10 +181,10 @@ module _ (policy : Policy) (terms : Terms) (g : Guard) (h : Invariant policy ter
   commutes (enter index) passed p = rw switched-at
   commutes (leave page) passed p = rw switched-at
   commutes (device_write devices device address size) passed p = refl
-  commutes (ask page frame) passed p = bit-commutes true frame (Pair page frame) p (ask-frame (seen_by policy (page_of g) (reached_in g)) page frame passed)
+  commutes (ask page frame) passed p = bit-commutes true frame (pair page frame) p (ask-frame (seen_by policy (page_of g) (reached_in g)) page frame passed)
   commutes commit passed p = commit-commutes p
   commutes drop passed p =
-      bit-commutes false (pending_frame g.state.pending) Nothing p (pending-small (drop-pending (seen_by policy (page_of g) (reached_in g)) passed))
+      bit-commutes false (pending_frame g.state.pending) None p (pending-small (drop-pending (seen_by policy (page_of g) (reached_in g)) passed))
 
   -- Every page stays good, where there is as much code as before and the pending frame is code after a commit.
   pub most : policy.frames ≤ 4096
@@ -240,7 +241,7 @@ module _ (policy : Policy) (terms : Terms) (g : Guard) (h : Invariant policy ter
       }
 
   -- And by another pair, or none, with tables of the same lengths, if what is said of frames holds with the terms then.
-  kept_pair : (terms' : Terms) (pending : Pending) (t : Tables) → pending_in_range policy.pages policy.frames pending ≡ true
+  kept_pair : (terms' : Terms) (pending : Option Pending) (t : Tables) → pending_in_range policy.pages policy.frames pending ≡ true
       → length t.shadow ≡ length g.tables.shadow → length t.map ≡ length g.tables.map
       → t.exclusion ≡ vector_of policy.frames (protected policy terms') → ((f : ℕ) → protected policy terms' f ≡ true → f < policy.frames)
       → ((f : ℕ) → is_waiting (terms' f) ≡ awaited pending f) → ((f : ℕ) → is_waiting (terms' f) ≡ true → named policy f ≡ false)
@@ -316,7 +317,7 @@ module _ (policy : Policy) (terms : Terms) (g : Guard) (h : Invariant policy ter
       h.map_length (good-after (leave page) passed (λ p. tt))
   kept (device_write devices device address size) passed = h
   kept (ask page frame) passed =
-      kept_pair after (Pair page frame) _ pair-in refl refl (vector-put true frame after small protects) below waiting unnamed
+      kept_pair after (pair page frame) _ pair-in refl refl (vector-put true frame after small protects) below waiting unnamed
       (good-with _ more (λ f c. below f (code-term (named policy f) (after f) c)) (ask page frame) passed (λ p. tt))
     where
       v : View
@@ -328,7 +329,7 @@ module _ (policy : Policy) (terms : Terms) (g : Guard) (h : Invariant policy ter
       small : frame < policy.frames
       small = ask-frame v page frame passed
 
-      pair-in : pending_in_range policy.pages policy.frames (Pair page frame) ≡ true
+      pair-in : pending_in_range policy.pages policy.frames (pair page frame) ≡ true
       pair-in = both_yes (lt-ltb page policy.pages (ask-page v page frame passed)) (lt-ltb frame policy.frames small)
 
       free : protected policy terms frame ≡ false
@@ -366,7 +367,7 @@ module _ (policy : Policy) (terms : Terms) (g : Guard) (h : Invariant policy ter
           by true e c = absurd (true≢false (sym (rw (eqb-true f frame e) at (code-term (named policy f) (terms f) c)) ∙ free))
           by false e c = c
   kept commit passed =
-      kept_pair after Nothing _ refl (sweep-shadow-length _ 0 g.tables.shadow g.tables.map) (sweep-map-length _ 0 g.tables.shadow g.tables.map)
+      kept_pair after None _ refl (sweep-shadow-length _ 0 g.tables.shadow g.tables.map) (sweep-map-length _ 0 g.tables.shadow g.tables.map)
       (h.exclusion ∙ vector_of-same policy.frames _ _ (λ f. sym (protects f))) (λ f c. h.below f (sym (protects f) ∙ c)) (λ f. commit-over (terms f))
       (λ f w. absurd (true≢false (sym w ∙ commit-over (terms f))))
       (good-with _ more (λ f c. h.below f (sym (code_is f) ∙ c)) commit passed (λ p. now-code))
@@ -389,7 +390,7 @@ module _ (policy : Policy) (terms : Terms) (g : Guard) (h : Invariant policy ter
       now-code : code policy after (pending_frame g.state.pending) ≡ true
       now-code = code_is _ ∙ pending-protected there
   kept drop passed =
-      kept_pair after Nothing _ refl refl refl (vector-put false frame after (pending-small there) protects) below (λ f. drop-over (terms f))
+      kept_pair after None _ refl refl refl (vector-put false frame after (pending-small there) protects) below (λ f. drop-over (terms f))
       (λ f w. absurd (true≢false (sym w ∙ drop-over (terms f))))
       (good-with _ (λ f c. code_is f ∙ c) (λ f c. code_below policy terms g h f (sym (code_is f) ∙ c)) drop passed (λ p. tt))
     where

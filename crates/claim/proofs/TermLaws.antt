@@ -1,11 +1,11 @@
 -- Laws of a frame's term and of the pending pair (K6).
+use Rattle.std.specs.Prelude.{None, Some, Option}
 use Prim.Native.Nat.{ℕ, ◌<◌}
 use mathlib.Core.Bool.{Bool, true, false, false≢true, true≢false}
 use mathlib.Core.Path.{◌≡◌, refl}
 use lib.Dec.{ltb, eqb}
 use borrow.Author.Tests.{ltb-true, eqb-true}
 use Rattle.model.specs.declared.Pending.{Pending}
-use Rattle.model.specs.declared.Pending.TheVariants.{Nothing, Pair}
 use Rattle.model.specs.Basics.{either}
 use Rattle.model.specs.Guard.{is_pending, pending_frame, is_asked}
 use Rattle.model.specs.Questions.{pending_in_range}
@@ -19,9 +19,9 @@ is_waiting no_term = false
 is_waiting pending_term = true
 is_waiting committed_term = false
 
-unfoldable pub awaited : Pending → ℕ → Bool
-awaited Nothing f = false
-awaited (Pair page frame) f = eqb f frame
+unfoldable pub awaited : Option Pending → ℕ → Bool
+awaited None f = false
+awaited (Some asked) f = eqb f asked.frame
 
 -- What a commit and a drop make of a term.
 pub commit-in : (t : Term) → in_term (after_commit t) ≡ in_term t
@@ -116,38 +116,38 @@ committed-in pending_term p = refl
 committed-in committed_term p = refl
 
 -- The frame that is pending, by the pair.
-pub awaited-none : (pending : Pending) (f : ℕ) → is_pending pending ≡ false → awaited pending f ≡ false
+pub awaited-none : (pending : Option Pending) (f : ℕ) → is_pending pending ≡ false → awaited pending f ≡ false
 unfolding is_pending awaited
-awaited-none Nothing f p = refl
-awaited-none (Pair page frame) f p = absurd (true≢false p)
+awaited-none None f p = refl
+awaited-none (Some asked) f p = absurd (true≢false p)
 
-pub awaited-is : (pending : Pending) (f : ℕ) → is_pending pending ≡ true → awaited pending f ≡ eqb f (pending_frame pending)
+pub awaited-is : (pending : Option Pending) (f : ℕ) → is_pending pending ≡ true → awaited pending f ≡ eqb f (pending_frame pending)
 unfolding is_pending awaited pending_frame
-awaited-is Nothing f p = absurd (false≢true p)
-awaited-is (Pair page frame) f p = refl
+awaited-is None f p = absurd (false≢true p)
+awaited-is (Some asked) f p = refl
 
-pub awaited-other : (pending : Pending) (f : ℕ) → eqb f (pending_frame pending) ≡ false → awaited pending f ≡ false
+pub awaited-other : (pending : Option Pending) (f : ℕ) → eqb f (pending_frame pending) ≡ false → awaited pending f ≡ false
 unfolding awaited pending_frame
-awaited-other Nothing f p = refl
-awaited-other (Pair page frame) f p = p
+awaited-other None f p = refl
+awaited-other (Some asked) f p = p
 
 -- A pair below V and F.
-module _ (pages frames : ℕ) (pending : Pending) (fits : pending_in_range pages frames pending ≡ true) where
+module _ (pages frames : ℕ) (pending : Option Pending) (fits : pending_in_range pages frames pending ≡ true) where
   pub pending-below : is_pending pending ≡ true → pending_frame pending < frames
   unfolding is_pending pending_frame pending_in_range
   pending-below = at pending fits
     where
-      at : (p : Pending) → pending_in_range pages frames p ≡ true → is_pending p ≡ true → pending_frame p < frames
-      at Nothing fits there = absurd (false≢true there)
-      at (Pair page frame) fits there = ltb-true frame frames (both-second (ltb page pages) (ltb frame frames) fits)
+      at : (p : Option Pending) → pending_in_range pages frames p ≡ true → is_pending p ≡ true → pending_frame p < frames
+      at None fits there = absurd (false≢true there)
+      at (Some asked) fits there = ltb-true asked.frame frames (both-second (ltb asked.page pages) (ltb asked.frame frames) fits)
 
   pub asked-below : (p : ℕ) → is_asked pending p ≡ true → p < pages
   unfolding is_asked pending_in_range
   asked-below p = at pending fits
     where
-      at : (q : Pending) → pending_in_range pages frames q ≡ true → is_asked q p ≡ true → p < pages
-      at Nothing fits there = absurd (false≢true there)
-      at (Pair page frame) fits there = rw (eqb-true p page there) (ltb-true page pages (both_first _ _ fits))
+      at : (q : Option Pending) → pending_in_range pages frames q ≡ true → is_asked q p ≡ true → p < pages
+      at None fits there = absurd (false≢true there)
+      at (Some asked) fits there = rw (eqb-true p asked.page there) (ltb-true asked.page pages (both_first _ _ fits))
 
 -- Code is protected.
 pub code-protected : (policy : Policy) (terms : Terms) (f : ℕ) → code policy terms f ≡ true → protected policy terms f ≡ true

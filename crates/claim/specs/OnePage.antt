@@ -1,6 +1,6 @@
 -- Document 01, "The list and the one-page guard of demand 3", second part: the one-page guard of a page, and how the one-page guards
 -- settle a call. A one-page guard is a function of the policy, of what it holds and of what it is told, and of no call, table or other page.
-use Rattle.std.specs.Prelude.{ℕ, suc, Bool, true, false, cond, List, [], ◌∷◌, get_or, ltb, eqb}
+use Rattle.std.specs.Prelude.{ℕ, suc, Bool, true, false, cond, List, [], ◌∷◌, get_or, ltb, eqb, Option}
 use Rattle.model.specs.Basics.{member}
 use Rattle.model.specs.declared.Pending.{Pending}
 use Rattle.model.specs.Guard.{none, Guard}
@@ -133,7 +133,7 @@ news policy p drop = dropped
 -- what is pending (K6). A question reads nothing else of the guard.
 pub record Reached : Type 0 where
   pub devices : ℕ
-  pub pending : Pending
+  pub pending : Option Pending
 
 abbrev pub reached_in : Guard → Reached
 reached_in g = record { devices = g.state.devices; pending = g.state.pending }

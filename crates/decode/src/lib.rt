@@ -1,16 +1,14 @@
 // The runs of words that cross the boundary: the state in one, and a call's two numbers in another. They are read and asked about here; `encode` writes them.
-// A function that takes a state run has a `requires`: its callers have asked for the length.
 
 #![tactic(auto)]
 
-ghost use Rattle.std.specs.Prelude.{◌≡◌, length, eqb};
-ghost use Rattle.model.specs.Basics;
+ghost use Rattle.std.specs.Prelude.{◌≡◌, eqb};
 ghost use Rattle.model.specs.Guard.{mode_of};
-ghost use Rattle.model.specs.Questions.{state_in_order};
 ghost use Rattle.boundary_model.specs.Words;
-ghost use Rattle.boundary_model.specs.Words.{state_words, entry_pages_in, pending_in, state_in, runs_fit};
+ghost use Rattle.boundary_model.specs.Words.{entry_pages_in, pending_in, state_in, runs_fit};
+ghost use Rattle.decode.specs.Lent.{lent_state};
 
-use model::{ENTRY_PAGES, Mode, Pending, State};
+use model::{ENTRY_PAGES, Mode, Pending, Refusal, State};
 
 // The layout of a state run. include/guard.h has the same constants, which tests/header compares.
 pub const STATE_WORDS: usize = 25;
@@ -45,7 +43,8 @@ pub const NUMBERS: usize = 2;
 // The pending word where a pair is pending.
 const PENDING: u64 = 1;
 
-// Kernel or user, and the page that runs.
+// Kernel or user, and the page that runs: two words of a run, so that a `From` of a pair would be no plainer.
+#[tactic(auto, unfolding(model::specs::Guard::mode_of))]
 fn mode_of(word: u64, page: u64) -> Mode
     ensures { result ≡ mode_of (eqb word 1) page }
 {
@@ -57,79 +56,70 @@ fn mode_of(word: u64, page: u64) -> Mode
 }
 
 // The sixteen entry pages of a run.
-fn entry_pages(run: &[u64]) -> [u64; ENTRY_PAGES]
-    requires { length run.now ≡ state_words }
+#[tactic(auto, using(crate::proofs::WordLaws::pages_read))]
+fn entry_pages(run: &[u64; STATE_WORDS]) -> [u64; ENTRY_PAGES]
     ensures { result ≡ entry_pages_in run.now }
 {
-    let mut entry = [0u64; ENTRY_PAGES];
-    let mut i: usize = 0;
-    while i < ENTRY_PAGES {
-        entry[i] = run[STATE_ENTRY + i];
-        i += 1;
-    }
-    entry
+    run[STATE_ENTRY..STATE_MODE].try_into().unwrap()
 }
 
-// What is pending. Where no pair is, its words say nothing. They are loaded before that is asked: decoding then has no branch, and the compiler takes a
-// state apart in each call.
-fn pending_in(run: &[u64]) -> Pending
-    requires { length run.now ≡ state_words }
+// What is pending. Where no pair is, its words say nothing.
+#[tactic(auto, unfolding(boundary_model::specs::Words::pending_in))]
+fn pending_in(run: &[u64; STATE_WORDS]) -> Option<Pending>
     ensures { result ≡ pending_in run.now }
 {
-    let page = run[STATE_PENDING_PAGE];
-    let frame = run[STATE_PENDING_FRAME];
-    if run[STATE_PENDING] == PENDING {
-        Pending::Pair(page, frame)
-    } else {
-        Pending::Nothing
-    }
+    let pair = Pending {
+        page: run[STATE_PENDING_PAGE],
+        frame: run[STATE_PENDING_FRAME],
+    };
+    (run[STATE_PENDING] == PENDING).then_some(pair)
 }
 
-// The state that a run holds: every word as it comes, so that none is cut. The run has its length, which `usable` has asked for.
-pub fn state_in(run: &[u64]) -> State
-    requires { length run.now ≡ state_words }
+// The state that a run holds: every word as it comes, so that none is cut.
+#[tactic(auto, unfolding(boundary_model::specs::Words::state_in))]
+pub fn state_in(run: &[u64; STATE_WORDS]) -> State
     ensures { result ≡ state_in run.now }
 {
-    let pages = run[STATE_PAGES];
-    let frames = run[STATE_FRAMES];
-    let entry_count = run[STATE_ENTRIES];
-    let pages_in = entry_pages(run);
-    let mode = mode_of(run[STATE_MODE], run[STATE_RUNNING]);
-    let pending = pending_in(run);
     State {
-        pages,
-        frames,
-        entry_count,
-        entry_pages: pages_in,
-        mode,
+        pages: run[STATE_PAGES],
+        frames: run[STATE_FRAMES],
+        entry_count: run[STATE_ENTRIES],
+        entry_pages: entry_pages(run),
+        mode: mode_of(run[STATE_MODE], run[STATE_RUNNING]),
         devices: run[STATE_DEVICES],
-        pending,
+        pending: pending_in(run),
     }
 }
 
 // The boundary's part of question 7: the lengths of both runs, which the start asks for. A call's numbers run has a word for each of its numbers.
+#[tactic(auto, unfolding(boundary_model::specs::Words::runs_fit, model::specs::Basics::both))]
 pub fn runs_fit(run: &[u64], numbers: &[u64], count: usize) -> bool
     ensures { result ≡ runs_fit count run.now numbers.now }
 {
-    ranges::both(run.len() == STATE_WORDS, numbers.len() == count)
+    run.len() == STATE_WORDS && numbers.len() == count
 }
 
 // What every other call asks for: a mode word and a pending word of 0 or 1 too.
+#[tactic(auto, using(crate::proofs::WordLaws::run_fits), unfolding(boundary_model::specs::Words::lendable, model::specs::Basics::both))]
 fn lendable(run: &[u64], numbers: &[u64], count: usize) -> bool
     ensures { result ≡ Words.lendable count run.now numbers.now }
 {
-    if !runs_fit(run, numbers, count) {
-        return false;
-    }
-    ranges::both(run[STATE_MODE] <= MODE_USER, run[STATE_PENDING] <= PENDING)
+    runs_fit(run, numbers, count) && run[STATE_MODE] <= MODE_USER && run[STATE_PENDING] <= PENDING
 }
 
-// Both runs can be lent, and the state is in order.
-pub fn usable(run: &[u64], numbers: &[u64], count: usize) -> bool
-    ensures { result ≡ Basics.both (Words.lendable count run.now numbers.now) (state_in_order (state_in run.now)) }
+// The state that a call is lent, where both runs can be lent and it is in order: else question 7 refuses the call. Compiled into each call, it decodes the
+// words that the call reads, and no other.
+#[inline(always)]
+#[tactic(auto, using(crate::proofs::WordLaws::run_lent), unfolding(model::specs::Basics::both))]
+pub fn state_of(run: &[u64], numbers: &[u64], count: usize) -> Result<State, Refusal>
+    ensures { result ≡ lent_state count run.now numbers.now }
 {
     if !lendable(run, numbers, count) {
-        return false;
+        return Err(Refusal::StateOrTable);
     }
-    ranges::state_in_order(state_in(run))
+    let s = state_in(run.as_array().unwrap());
+    if !ranges::state_in_order(s) {
+        return Err(Refusal::StateOrTable);
+    }
+    Ok(s)
 }

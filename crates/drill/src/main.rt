@@ -6,13 +6,15 @@
 
 ghost use Rattle.std.specs.Prelude.{◌≤◌, ◌≡◌, IfOk, length};
 
-use drill_calls::{CALL_BYTES, POLICY_BYTES, TurnResult};
-use lines::Line;
-use model::{Device, MOST_DEVICES, MOST_PAGES, State, VECTOR_BYTES};
+use drill_calls::{CALL_BYTES, Machine, POLICY_BYTES};
+use lines::{CallLine, EntryLine};
+use model::{MOST_PAGES, VECTOR_BYTES};
 use std::io;
 use std::io::Read;
+use std::ops::ControlFlow;
 
-// Reads until the buffer is full or the input ends, and gives how many bytes it put at the buffer's start.
+// Reads until the buffer is full or the input ends, and gives how many bytes it put at the buffer's start. `read_exact` does not say how many
+// came before the input's end.
 fn read_full(input: &mut impl Read, buffer: &mut [u8]) -> io::Result<usize>
     ensures { IfOk result (λ n. n ≤ length buffer.new) }
 {
@@ -40,49 +42,26 @@ fn read_policy(input: &mut impl Read, room: &mut [u8]) -> io::Result<usize>
     Ok(8 + read_full(input, &mut room[8..extent])?)
 }
 
-fn write_line(output: &impl Print, l: Line) -> io::Result<()> {
-    let bytes = l.bytes;
-    let len = lines::extent(l);
-    output.write_all(&bytes[..len])
-}
-
-// Takes at most 16 bytes, makes the call and writes its line.
+// Takes at most 16 bytes and makes the call.
 fn take_turn(
     input: &mut impl Read,
-    output: &impl Print,
-    s: State,
-    kernel: &mut [u64],
-    shadow: &mut [u64],
-    map: &mut [u16],
-    exclusion: &[u8],
-    devices: [Device; MOST_DEVICES],
-) -> io::Result<TurnResult> {
+    machine: &mut Machine,
+) -> io::Result<ControlFlow<Option<CallLine>, CallLine>> {
     let mut call = [0u8; CALL_BYTES];
     let taken = read_full(input, &mut call)?;
-    let result = drill_calls::turn(s, kernel, shadow, map, exclusion, devices, &call[..taken]);
-    write_line(output, result.line)?;
-    Ok(result)
+    Ok(machine.turn(&call[..taken]))
 }
 
-// As many calls as there are, and no more than the limit.
-fn take_turns(
-    input: &mut impl Read,
-    output: &impl Print,
-    first: State,
-    frames: u16,
-    kernel: &mut [u64],
-    shadow: &mut [u64],
-    map: &mut [u16],
-    exclusion: &[u8],
-) -> io::Result<()> {
-    let devices = drill_calls::windows(frames);
-    let mut s = first;
+// As many calls as there are, and no more than the limit, each with its line. The loop is the one of `loops_as_defined`, and so no `for`.
+fn take_turns(input: &mut impl Read, output: &impl Print, machine: &mut Machine) -> io::Result<()> {
     let mut left = drill_loop::call_limit();
     while drill_loop::goes_on(left) {
-        let result = take_turn(input, output, s, kernel, shadow, map, exclusion, devices)?;
-        let next = result.state;
-        s = next;
-        left = drill_loop::left_after(left, result.goes);
+        let turn = take_turn(input, machine)?;
+        left = drill_loop::left_after(left, turn.is_continue());
+        match turn {
+            ControlFlow::Continue(line) | ControlFlow::Break(Some(line)) => output.print(line)?,
+            ControlFlow::Break(None) => {}
+        }
     }
     Ok(())
 }
@@ -94,13 +73,10 @@ fn write_closing(
     shadow: &[u64],
     exclusion: &[u8],
 ) -> io::Result<()> {
-    let mut i = 0;
-    while i < shadow.len() {
-        let line = lines::entry_line(shadow[i]);
-        output.write_all(&line)?;
-        i += 1;
+    for entry in shadow {
+        output.print(EntryLine(*entry))?;
     }
-    write_line(output, lines::share_line(frames, exclusion))
+    output.print(lines::share_line(frames, exclusion))
 }
 
 // The drill on tables of the policy's sizes, all zeros. A refused start writes its line alone.
@@ -113,14 +89,26 @@ fn drill_on(
     map: &mut [u16],
     exclusion: &mut [u8],
 ) -> io::Result<()> {
-    let opened = drill_calls::open(policy, shadow, map, exclusion);
-    write_line(output, opened.line)?;
-    if !opened.goes {
-        return Ok(());
-    }
-    let state = opened.state;
+    let (state, line) = match drill_calls::open(policy, shadow, map, exclusion) {
+        ControlFlow::Continue(opened) => opened,
+        ControlFlow::Break(line) => return output.print(line),
+    };
+    output.print(line)?;
     let frames = state.frames as u16;
-    take_turns(input, output, state, frames, kernel, shadow, map, exclusion)?;
+    let mut machine = Machine {
+        state,
+        kernel,
+        shadow,
+        map,
+        exclusion,
+        devices: drill_calls::windows(frames),
+    };
+    take_turns(input, output, &mut machine)?;
+    let Machine {
+        shadow,
+        exclusion,
+        ..
+    } = machine;
     write_closing(output, frames, shadow, exclusion)
 }
 

@@ -1,3 +1,3 @@
--- Laws that the proofs of several functions cite, those of the drill's program among them.
-pub mod TurnLaws
+-- Laws that the proofs of several functions cite: of a call by its kind, and of the start and a turn.
 mod CallLaws
+mod TurnLaws

@@ -1,29 +1,37 @@
--- The drill made of a guard, the kernel table and the list of devices, and what the functions of the drill leave, as records of the definitions.
-use Rattle.std.specs.Prelude.{ℕ, Bool, true, cond, List, ◌≡◌, eqb, replicate}
-use Rattle.model.specs.declared.Answer.{Answer}
-use Rattle.model.specs.declared.Called.{Called}
+-- The drill as its machine has it, and what the functions of the drill leave, as records of the definitions.
+use Rattle.std.specs.Prelude.{ℕ, Bool, true, false, cond, List, [], Option, None, Some, ◌≡◌, eqb, replicate}
+use Rattle.std.specs.declared.ops.ControlFlow.{ControlFlow}
+use Rattle.std.specs.declared.ops.ControlFlow.TheVariants.{Continue, Break}
+use Rattle.model.specs.declared.State.{State}
 use Rattle.model.specs.declared.Device.{Device}
 use Rattle.model.specs.Sizes.{pages_in_range, frames_in_range}
 use Rattle.model.specs.Guard.{Tables, tables, Guard, guard_of, vector_bytes}
-use Rattle.model.specs.Policy.{policy_of}
-use Rattle.model.specs.Calls.{Outcome, reply_of, start_of}
+use Rattle.model.specs.Policy.{policy_of, zero_state}
+use Rattle.model.specs.Calls.{Answer, Outcome, reply_of, start_of}
 use Rattle.drill_model.specs.Drill.{drill_given, Drill, Drilled, Turn, drill_start, start_line}
-use Rattle.lines.specs.Text.{text}
-use Rattle.drill_calls.specs.declared.TurnResult.{TurnResult}
+use Rattle.lines.specs.declared.CallLine.{CallLine}
+use Rattle.lines.specs.Text.{call_text}
+use Rattle.drill_calls.specs.declared.Machine.{Machine}
 
 abbrev pub drill_of : Guard → List ℕ → List Device → Drill
 drill_of g kernel devices = record { guard = g; kernel = kernel; devices = devices }
 
--- What an edit leaves, and what an edit or a guard call leaves of the drill.
-unfoldable pub edited_by : Answer → Drill → Drilled
-edited_by r d = record { reply = reply_of r; drill = d }
+-- The drill of a machine.
+abbrev pub drill_by : Machine → Drill
+drill_by m = drill_of (guard_of m.state (tables m.shadow.now m.map.now m.exclusion.now)) m.kernel.now m.devices
 
-unfoldable pub performed_by : Called → List ℕ → List Device → Tables → Drilled
-performed_by r kernel devices t = record { reply = reply_of r.answer; drill = drill_of (guard_of r.state t) kernel devices }
+-- What an edit or a guard call leaves of the drill.
+unfoldable pub performed_by : Answer → Drill → Drilled
+performed_by r d = record { reply = reply_of r; drill = d }
 
--- What a turn leaves.
-unfoldable pub turn_by : TurnResult → List ℕ → List Device → Tables → Turn
-turn_by r kernel devices t = record { drill = drill_of (guard_of r.state t) kernel devices; line = text r.line; goes = r.goes }
+-- What a turn leaves. The calls end with a line X, or with no line where no bytes remain.
+abbrev pub last_text : Option CallLine → List ℕ
+last_text None = []
+last_text (Some l) = call_text l
+
+unfoldable pub turn_by : ControlFlow (Option CallLine) CallLine → Drill → Turn
+turn_by (Continue l) d = record { drill = d; line = call_text l; goes = true }
+turn_by (Break l) d = record { drill = d; line = last_text l; goes = false }
 
 -- The start's guard, its line, and whether calls follow it: "A refused start prints its line alone."
 pub record Opening : Type 0 where
@@ -34,8 +42,10 @@ pub record Opening : Type 0 where
 unfoldable pub opening_of : Outcome → Opening
 opening_of start = record { guard = start.guard; line = start_line start; goes = eqb start.reply.number 0 }
 
-unfoldable pub opened_by : TurnResult → Tables → Opening
-opened_by r t = record { guard = guard_of r.state t; line = text r.line; goes = r.goes }
+-- A refused start leaves the state of zeros.
+unfoldable pub opened_by : ControlFlow CallLine (State × CallLine) → Tables → Opening
+opened_by (Continue o) t = record { guard = guard_of o.0 t; line = call_text o.1; goes = true }
+opened_by (Break l) t = record { guard = guard_of zero_state t; line = call_text l; goes = false }
 
 -- How many pages, and how many bytes of the exclusion vector, the start of a record is lent. A V or an F out of range lends nothing: question 2
 -- refuses it before any table is looked at.

@@ -1,2 +1,2 @@
--- Laws of the loop, which the drill's program cites too.
+-- The law of the loop that the drill's program cites.
 pub mod LoopLaws

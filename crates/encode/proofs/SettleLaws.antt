@@ -1,20 +1,20 @@
--- Laws of what a number in hand settles.
-use Prim.Native.Nat.{ℕ, zero, suc}
-use mathlib.Core.Path.{◌≡◌, refl, sym, ◌∙◌}
-use Rattle.model.specs.Calls.{settle}
-use Rattle.laws.proofs.QuestionLaws.{settle-accepted}
+-- Laws of what an answer settles.
+use Prim.Native.Nat.{ℕ}
+use mathlib.Core.Bool.{true, false}
+use mathlib.Core.Path.{◌≡◌, refl, sym}
+use Rattle.std.specs.Prelude.{Ok, Err, is_ok}
+use Rattle.model.specs.Refusals.{number_of}
+use Rattle.model.specs.Calls.{Answer, reply_of, settle}
+use Rattle.laws.proofs.CallLaws.{numbered, settle-refused-by}
 
-settle_other : {A : Type 0} (n : ℕ) (done : A) (refusal : ℕ → A) → (n ≡ 0 → ⊥) → settle n done refusal ≡ refusal n
-unfolding settle
-settle_other zero done refusal p = absurd (p refl)
-settle_other (suc n) done refusal p = refl
+-- What an answer settles: an accepted call's part, or a refused one's run as it was.
+pub settled_accepted : {A : Type 0} (answer : Answer) (after done : A) (refusal : ℕ → A) → is_ok answer ≡ true → after ≡ done
+    → after ≡ settle (reply_of answer).number done refusal
+unfolding reply_of settle
+settled_accepted (Ok (first, second)) after done refusal p e = e
+settled_accepted (Err r) after done refusal p e = cc
 
--- What a number in hand settles: an accepted call's part, a refused one's run as it was, or its number itself.
-pub settled-accepted : {A : Type 0} (n m : ℕ) (after done : A) (refusal : ℕ → A) → n ≡ m → n ≡ 0 → after ≡ done → after ≡ settle m done refusal
-settled-accepted n m after done refusal p q e = e ∙ sym (settle-accepted done refusal (sym p ∙ q))
-
-pub settled-refused : {A : Type 0} (n m : ℕ) (run done : A) → n ≡ m → (n ≡ 0 → ⊥) → run ≡ settle m done (λ _. run)
-settled-refused n m run done p q = sym (settle_other m done (λ _. run) (λ z. q (p ∙ z)))
-
-pub settled-number : (n m done : ℕ) → n ≡ m → (n ≡ 0 → ⊥) → n ≡ settle m done (λ k. k)
-settled-number n m done p q = p ∙ sym (settle_other m done (λ k. k) (λ z. q (p ∙ z)))
+pub settled_refused : {A : Type 0} (answer : Answer) (run done : A) → is_ok answer ≡ false → run ≡ settle (reply_of answer).number done (λ _. run)
+unfolding reply_of
+settled_refused (Ok (first, second)) run done p = cc
+settled_refused (Err r) run done p = sym (settle-refused-by (number_of r) done (λ _. run) (numbered r) refl)

@@ -1,68 +1,58 @@
 -- Laws of a state in a run that is written: all words, front to back, or those that a call puts.
+use Rattle.std.specs.Prelude.{None, Some, Option}
 use Prim.Native.Nat.{ℕ}
-use mathlib.Core.List.{List, [], ◌∷◌, ◌++◌, append-nil}
-use mathlib.Core.Path.{◌≡◌, refl, sym, ◌∙◌}
+use mathlib.Core.List.{List, [], ◌∷◌, ◌++◌}
+use mathlib.Core.Path.{◌≡◌, refl, sym, ap, ◌∙◌}
 use lib.ListN.{length, set, take, length-set}
-use lib.Seq.{paste}
+use borrow.Rule.Slice.PartMut.{put_mid}
+use Rattle.std.proofs.lemmas.Slice.{take-put_mid}
 use native.Mathlib.Omega.{arith}
 use Rattle.model.specs.declared.Pending.{Pending}
-use Rattle.model.specs.declared.Pending.TheVariants.{Nothing, Pair}
 use Rattle.model.specs.declared.State.{State}
 use Rattle.model.specs.Guard.{running}
 use Rattle.boundary_model.specs.Words.{state_words, pages_at, frames_at, entry_count_at, entry_pages_at, entry_words, mode_at, running_at, devices_at, pending_at}
 use Rattle.boundary_model.specs.Words.{pending_page_at, pending_frame_at, pending_words, mode_word, last_words, words_of, with_words, page_places, mode_places}
 use Rattle.boundary_model.specs.Words.{pending_places}
 use Rattle.boundary_model.proofs.StateLaws.{pending_word, mode-words, page-words, pending-words}
-use Rattle.encode.proofs.RunLaws.{front-none, front-word, front-table, front-so-far, front-known, front-full}
-
--- A run keeps its length where words are written between calls that keep it.
-pub front_kept : (run t : List ℕ) (a b d : ℕ) → length t ≡ length (set (set (set run pages_at a) frames_at b) entry_count_at d) → length t ≡ length run
-front_kept run t a b d p = p ∙ simp length-set refl
-
-pub devices-kept : (run u : List ℕ) (v : ℕ) → length u ≡ length run → length run ≡ state_words → length (set u devices_at v) ≡ state_words
-devices-kept run u v p e = simp length-set (p ∙ e)
-
-pub last-kept : (run u w : List ℕ) (v : ℕ) → length w ≡ length (set u devices_at v) → length u ≡ length run → length w ≡ length run
-last-kept run u w v e p = e ∙ simp length-set p
+use Rattle.encode.proofs.RunLaws.{front-none, front-word, front-so-far, front-known, front-full}
 
 -- The words before the mode, written front to back: V, F and e, the entry pages.
 abbrev front_words : State → List ℕ
 front_words s = s.pages ∷ s.frames ∷ s.entry_count ∷ s.entry_pages
 
-pub front-written : (s : State) (run t : List ℕ)
-    → t ≡ paste (set (set (set run pages_at s.pages) frames_at s.frames) entry_count_at s.entry_count) entry_pages_at s.entry_pages entry_words
-    → length run ≡ state_words → length s.entry_pages ≡ entry_words → take mode_at t ≡ front_words s
-front-written s run t e long k =
+pub front-written : (s : State) (run pages : List ℕ) → pages ≡ s.entry_pages → length run ≡ state_words → length s.entry_pages ≡ entry_words
+    → take mode_at (put_mid entry_pages_at entry_words (set (set (set run pages_at s.pages) frames_at s.frames) entry_count_at s.entry_count) pages) ≡ front_words s
+front-written s run pages e long k =
     rw e
-    (front-so-far state_words mode_at _ _
-    (front-table _ entry_pages_at entry_words s.entry_pages _ _ k (omega arith)
+    (take-put_mid entry_pages_at entry_words _ s.entry_pages mode_at (omega arith) (simp length-set (omega arith))
+    ∙ ap (λ (l : List ℕ). l ++ s.entry_pages)
+    (front-so-far state_words entry_pages_at _ _
     (front-word _ entry_count_at s.entry_count _ _ (omega arith)
     (front-word _ frames_at s.frames _ _ (omega arith)
-    (front-word _ pages_at s.pages _ _ (omega arith) (front-none _ run long)))))
-    ∙ append-nil (front_words s))
+    (front-word _ pages_at s.pages _ _ (omega arith) (front-none _ run long))))))
 
 -- The words that a call puts into a run, one by one.
 module _ (run : List ℕ) (s : State) (long : length s.entry_pages ≡ entry_words) where
-  pub mode-put : (word r : ℕ) → word ≡ mode_word s.mode → r ≡ running s.mode → set (set run mode_at word) running_at r ≡ with_words run s mode_places
-  mode-put word r e p = rw (e, p) (sym (mode-words run s long))
+  pub mode-put : (word : ℕ) (u : List ℕ) → word ≡ mode_word s.mode → u ≡ with_words (set run mode_at word) s page_places → u ≡ with_words run s mode_places
+  mode-put word u e p = rw (p, e) (page-words (set run mode_at (mode_word s.mode)) s long ∙ sym (mode-words run s long))
 
   pub page-put : (r : ℕ) → r ≡ running s.mode → set run running_at r ≡ with_words run s page_places
   page-put r p = rw p (sym (page-words run s long))
 
-  pub nothing_put : s.pending ≡ Nothing → set (set (set run pending_at 0) pending_page_at 0) pending_frame_at 0 ≡ with_words run s pending_places
+  pub nothing_put : s.pending ≡ None → set (set (set run pending_at 0) pending_page_at 0) pending_frame_at 0 ≡ with_words run s pending_places
   unfolding pending_words
   nothing_put e = rw (pending-words run s long, e) refl
 
-  pub pair_put : (page frame : ℕ) → s.pending ≡ Pair page frame
-      → set (set (set run pending_at 1) pending_page_at page) pending_frame_at frame ≡ with_words run s pending_places
+  pub pair_put : (asked : Pending) → s.pending ≡ Some asked
+      → set (set (set run pending_at 1) pending_page_at asked.page) pending_frame_at asked.frame ≡ with_words run s pending_places
   unfolding pending_words
-  pair_put page frame e = rw (pending-words run s long, e) refl
+  pair_put asked e = rw (pending-words run s long, e) refl
 
 -- What is pending has three words.
-three-words : (pending : Pending) → pending_words pending ≡ pending_word pending 0 ∷ pending_word pending 1 ∷ pending_word pending 2 ∷ []
+three-words : (pending : Option Pending) → pending_words pending ≡ pending_word pending 0 ∷ pending_word pending 1 ∷ pending_word pending 2 ∷ []
 unfolding pending_words
-three-words Nothing = refl
-three-words (Pair page frame) = refl
+three-words None = refl
+three-words (Some asked) = refl
 
 -- The words behind the entry pages, written front to back: the mode, the number of devices, what is pending.
 pub last_written : (s : State) (run u w : List ℕ) → w ≡ with_words (set u devices_at s.devices) s pending_places → u ≡ with_words run s mode_places

@@ -1,25 +1,27 @@
 // What is written into the runs of words that cross the boundary: the state in one, and a call's two numbers in another.
-// A function that takes a state run has a `requires`: its callers have asked for the length.
 
 #![tactic(auto)]
 
-ghost use Rattle.std.specs.Prelude.{◌≡◌, [], ◌∷◌, ◌++◌, length, take};
-ghost use Rattle.std.proofs.Math.Seq.{paste};
-ghost use Rattle.model.specs.Calls.{reply_of};
-ghost use Rattle.boundary_model.specs.Words.{state_words, entry_pages_at, mode_at, entry_words, answer_numbers, state_in, mode_word, last_words};
-ghost use Rattle.boundary_model.specs.Words.{words_of, with_words, page_places, mode_places, pending_places, overwritten, with_numbers, run_after, run_started};
+ghost use Rattle.std.specs.Prelude.{ℕ, List, [], ◌∷◌, ◌++◌, ◌≡◌, length, take};
+ghost use Rattle.model.specs.declared.State.{State};
+ghost use Rattle.model.specs.Calls.{reply_of, settle};
+ghost use Rattle.boundary_model.specs.Words.{state_words, entry_words, mode_at, answer_numbers, state_in, mode_word, last_words};
+ghost use Rattle.boundary_model.specs.Words.{words_of, with_words, page_places, mode_places, pending_places, overwritten, with_numbers};
 
 use decode::{
     MODE_KERNEL, MODE_USER, NUMBERS, STATE_DEVICES, STATE_ENTRIES, STATE_ENTRY, STATE_FRAMES,
     STATE_MODE, STATE_PAGES, STATE_PENDING, STATE_PENDING_FRAME, STATE_PENDING_PAGE, STATE_RUNNING,
+    STATE_WORDS,
 };
-use model::{Answer, Called, ENTRY_PAGES, Mode, Pending, State};
+use model::{Answer, ENTRY_PAGES, Mode, State};
 
 // The pending word, where no pair is pending and where one is.
 const NOT_PENDING: u64 = 0;
 
 const PENDING: u64 = 1;
 
+// The first word of a mode. The page that runs is the second, so that a `From` would give half of a mode.
+#[tactic(auto, unfolding(boundary_model::specs::Words::mode_word))]
 fn mode_word(mode: Mode) -> u64
     ensures { result ≡ mode_word mode }
 {
@@ -30,81 +32,94 @@ fn mode_word(mode: Mode) -> u64
     }
 }
 
-// Writes the page of a state that now runs into a run, and no other word.
-fn put_page(run: &mut [u64], s: State)
-    requires { length run.old ≡ state_words }
-    ensures { run.new ≡ with_words run.old s page_places }
-{
-    let mode = s.mode;
-    run[STATE_RUNNING] = state::running(mode);
+// The part of a state that a call can change: an accepted one writes its words into the state run, and no other.
+pub trait Part {
+    ghost written: { List ℕ → State → List ℕ };
+
+    fn put(run: &mut [u64; STATE_WORDS], s: State)
+        ensures { run.new ≡ written run.old s };
 }
 
-// Writes both words of a state's mode into a run, and no other.
-fn put_mode(run: &mut [u64], s: State)
-    requires { length run.old ≡ state_words }
-    ensures { run.new ≡ with_words run.old s mode_places }
-{
-    let mode = s.mode;
-    run[STATE_MODE] = mode_word(mode);
-    run[STATE_RUNNING] = state::running(mode);
-}
+// A fetch changes the page that now runs.
+pub struct RunningPage;
 
-// Writes the three words of what is pending into a run, and no other.
-fn put_pending(run: &mut [u64], s: State)
-    requires { length run.old ≡ state_words }
-    ensures { run.new ≡ with_words run.old s pending_places }
-{
-    let pending = s.pending;
-    match pending {
-        Pending::Nothing => {
-            run[STATE_PENDING] = NOT_PENDING;
-            run[STATE_PENDING_PAGE] = 0;
-            run[STATE_PENDING_FRAME] = 0;
-        }
-        Pending::Pair(page, frame) => {
-            run[STATE_PENDING] = PENDING;
-            run[STATE_PENDING_PAGE] = page;
-            run[STATE_PENDING_FRAME] = frame;
-        }
+impl Part for RunningPage {
+    ghost written = { λ run s. with_words run s page_places };
+
+    fn put(run: &mut [u64; STATE_WORDS], s: State) {
+        run[STATE_RUNNING] = state::running(s.mode);
     }
 }
 
-fn put_entry_pages(run: &mut [u64], entry: [u64; ENTRY_PAGES])
-    requires { length run.old ≡ state_words }
-    ensures { run.new ≡ paste run.old entry_pages_at entry entry_words }
-{
-    let mut i: usize = 0;
-    while i < ENTRY_PAGES {
-        run[STATE_ENTRY + i] = entry[i];
-        i += 1;
+// Enter and leave change both words of the mode.
+pub struct ModeAndPage;
+
+impl Part for ModeAndPage {
+    ghost written = { λ run s. with_words run s mode_places };
+
+    fn put(run: &mut [u64; STATE_WORDS], s: State) {
+        run[STATE_MODE] = mode_word(s.mode);
+        RunningPage::put(run, s);
     }
+}
+
+// Ask, commit and drop change the three words of what is pending.
+pub struct PendingPair;
+
+impl Part for PendingPair {
+    ghost written = { λ run s. with_words run s pending_places };
+
+    fn put(run: &mut [u64; STATE_WORDS], s: State) {
+        let (word, page, frame) = match s.pending {
+            None => (NOT_PENDING, 0, 0),
+            Some(asked) => (PENDING, asked.page, asked.frame),
+        };
+        run[STATE_PENDING] = word;
+        run[STATE_PENDING_PAGE] = page;
+        run[STATE_PENDING_FRAME] = frame;
+    }
+}
+
+// A start writes every word.
+pub struct WholeState;
+
+impl Part for WholeState {
+    ghost written = { λ run s. words_of s };
+
+    fn put(run: &mut [u64; STATE_WORDS], s: State) {
+        put_state(run, s);
+    }
+}
+
+// Stores the entry pages as one array: `copy_from_slice` would ask whether the two overlap, and go through the stack.
+fn put_entry_pages(words: &mut [u64], pages: [u64; ENTRY_PAGES])
+    requires { length words.old ≡ entry_words }
+    ensures { words.new ≡ pages }
+{
+    *words.as_mut_array().unwrap() = pages;
 }
 
 // Writes the words before the mode: V, F, e and the entry pages.
-fn put_front(run: &mut [u64], s: State)
-    requires { length run.old ≡ state_words }
+fn put_front(run: &mut [u64; STATE_WORDS], s: State)
     ensures { take mode_at run.new ≡ s.pages ∷ s.frames ∷ s.entry_count ∷ s.entry_pages }
 {
-    let entry = s.entry_pages;
     run[STATE_PAGES] = s.pages;
     run[STATE_FRAMES] = s.frames;
     run[STATE_ENTRIES] = s.entry_count;
-    put_entry_pages(run, entry);
+    put_entry_pages(&mut run[STATE_ENTRY..STATE_MODE], s.entry_pages);
 }
 
 // Writes the words behind the entry pages, and no other.
-fn put_last(run: &mut [u64], s: State)
-    requires { length run.old ≡ state_words }
+fn put_last(run: &mut [u64; STATE_WORDS], s: State)
     ensures { run.new ≡ take mode_at run.old ++ last_words s }
 {
-    put_mode(run, s);
+    ModeAndPage::put(run, s);
     run[STATE_DEVICES] = s.devices;
-    put_pending(run, s);
+    PendingPair::put(run, s);
 }
 
 // Writes all words of a state into a run, front to back. What was encoded decodes to the same state.
-fn put_state(run: &mut [u64], s: State)
-    requires { length run.old ≡ state_words }
+fn put_state(run: &mut [u64; STATE_WORDS], s: State)
     ensures encoded { run.new ≡ words_of s }
     ensures decoded { state_in run.new ≡ s }
 {
@@ -116,93 +131,39 @@ fn put_state(run: &mut [u64], s: State)
 fn put_numbers(numbers: &mut [u64], first: u64, second: u64)
     ensures { numbers.new ≡ overwritten numbers.old (first ∷ second ∷ []) }
 {
-    if numbers.len() == NUMBERS {
-        numbers[0] = first;
-        numbers[1] = second;
+    if let Some(both) = numbers.as_mut_array::<NUMBERS>() {
+        *both = [first, second];
     }
 }
 
 // An answer: the number to return, and the call's two numbers, which are 0 where it was refused.
+#[tactic(auto, unfolding(model::specs::Calls::reply_of, boundary_model::specs::Words::with_numbers))]
 pub fn reply(numbers: &mut [u64], answer: Answer) -> u64
     ensures number { result ≡ (reply_of answer).number }
     ensures both { numbers.new ≡ with_numbers answer_numbers numbers.old (reply_of answer) }
 {
     match answer {
-        Answer::Done(first, second) => {
+        Ok((first, second)) => {
             put_numbers(numbers, first, second);
             0
         }
-        Answer::Refused(number) => {
+        Err(refusal) => {
             put_numbers(numbers, 0, 0);
-            number
+            refusal.into()
         }
     }
 }
 
-// What a fetch gave: its answer to the numbers run, and the page that an accepted one runs to the state run.
-// The state run has its length, which `usable` has asked for.
-pub fn put_fetched(run: &mut [u64], numbers: &mut [u64], called: Called) -> u64
+// What a call that may change the state gave: its answer to the numbers run, and what an accepted one changed to the state run.
+// The state run has its length, which question 7 has asked for.
+pub fn put<P: Part>(run: &mut [u64], numbers: &mut [u64], answer: Answer, s: State) -> u64
     requires { length run.old ≡ state_words }
-    ensures number { result ≡ (reply_of called.answer).number }
-    ensures words { run.new ≡ run_after run.old page_places (reply_of called.answer) called.state }
-    ensures both { numbers.new ≡ with_numbers answer_numbers numbers.old (reply_of called.answer) }
+    ensures number { result ≡ (reply_of answer).number }
+    ensures words { run.new ≡ settle (reply_of answer).number (P.written run.old s) (λ _. run.old) }
+    ensures both { numbers.new ≡ with_numbers answer_numbers numbers.old (reply_of answer) }
 {
-    let answer = called.answer;
-    let after = called.state;
-    let number = reply(numbers, answer);
-    if number == 0 {
-        put_page(run, after);
+    if answer.is_ok() {
+        P::put(run.as_mut_array().unwrap(), s);
     }
-    number
-}
-
-// What enter or leave gave: its answer to the numbers run, and the mode of an accepted one to the state run.
-// The state run has its length, which `usable` has asked for.
-pub fn put_switched(run: &mut [u64], numbers: &mut [u64], called: Called) -> u64
-    requires { length run.old ≡ state_words }
-    ensures number { result ≡ (reply_of called.answer).number }
-    ensures words { run.new ≡ run_after run.old mode_places (reply_of called.answer) called.state }
-    ensures both { numbers.new ≡ with_numbers answer_numbers numbers.old (reply_of called.answer) }
-{
-    let answer = called.answer;
-    let after = called.state;
-    let number = reply(numbers, answer);
-    if number == 0 {
-        put_mode(run, after);
-    }
-    number
-}
-
-// What ask, commit or drop gave: its answer to the numbers run, and what is pending after an accepted one to the state run.
-// The state run has its length, which `usable` has asked for.
-pub fn put_paired(run: &mut [u64], numbers: &mut [u64], called: Called) -> u64
-    requires { length run.old ≡ state_words }
-    ensures number { result ≡ (reply_of called.answer).number }
-    ensures words { run.new ≡ run_after run.old pending_places (reply_of called.answer) called.state }
-    ensures both { numbers.new ≡ with_numbers answer_numbers numbers.old (reply_of called.answer) }
-{
-    let answer = called.answer;
-    let after = called.state;
-    let number = reply(numbers, answer);
-    if number == 0 {
-        put_pending(run, after);
-    }
-    number
-}
-
-// What a start gave: its answer to the numbers run, and the state of an accepted one to the state run.
-// The state run has its length, which `runs_fit` has asked for.
-pub fn put_started(run: &mut [u64], numbers: &mut [u64], called: Called) -> u64
-    requires { length run.old ≡ state_words }
-    ensures number { result ≡ (reply_of called.answer).number }
-    ensures words { run.new ≡ run_started run.old (reply_of called.answer) called.state }
-    ensures both { numbers.new ≡ with_numbers answer_numbers numbers.old (reply_of called.answer) }
-{
-    let answer = called.answer;
-    let after = called.state;
-    let refusal = reply(numbers, answer);
-    if refusal == 0 {
-        put_state(run, after);
-    }
-    refusal
+    reply(numbers, answer)
 }

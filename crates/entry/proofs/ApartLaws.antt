@@ -1,11 +1,9 @@
 -- Kernel entries taken apart: the test of bit 0 and the reserved bits together, the frame and the other fields.
-use Rattle.std.proofs.Common.{◌≡◌, ℕ, zero, suc, ◌+◌, ◌-◌, ◌*◌, ◌/◌, ◌%◌, ◌^◌, ◌<◌, Bool, true, false, eqb, refl, ap, ◌∙◌, ap₂, arith, eq-eqb, ne_eqb, eqb-true}
+use Rattle.std.proofs.Common.{◌≡◌, ℕ, zero, suc, ◌+◌, ◌-◌, ◌*◌, ◌/◌, ◌%◌, ◌^◌, ◌<◌, true, eqb, refl, ap, ◌∙◌, ap₂, arith}
 use lib.Bits.{bit_and, and_mask, and_high, and_block}
-use borrow.Author.Tests.{eqb-false}
-use Rattle.model.specs.declared.Entry.TheVariants.{Absent, Present}
-use Rattle.model.specs.declared.Fields.{Fields}
 use Rattle.model.specs.Basics.{bit, both}
-use Rattle.model.specs.Bits.{present, writable, user_bit, write_through, cache_disable, no_execute, frame_of, fields_of, reserved, valid, taken_apart}
+use Rattle.model.specs.Bits.{present, frame_of, reserved, valid}
+use Rattle.std.proofs.lemmas.Bool.Decides.{nat_tests}
 use Rattle.laws.proofs.BitLaws.{valid-parts}
 
 -- Bit 1 and bits 53 to 63 of a number of 64 bits, as the mask of both takes them.
@@ -18,24 +16,10 @@ masked x h =
     ∙ and_block 53 (x / 2 ^ 53) (2 ^ 11 - 1) (x % 2 ^ 53) (2 ^ (1 + 1) - 2 ^ 1) (omega arith) (omega arith)
     ∙ ap₂ (λ (a b : ℕ). a * 2 ^ 53 + b) (and_mask (x / 2 ^ 53) 11 ∙ high) (and_high (x % 2 ^ 53) 1 1 ∙ ap (λ (d : ℕ). d * 2) low)
 
-scaled : (r d : ℕ) → d ≡ 0 → eqb (r * 2 ^ 53 + d * 2) 0 ≡ eqb r 0
-scaled zero d p = rw p
-scaled (suc r) d p = rw (ne_eqb (suc r) 0 (λ q. omega arith)) (ne_eqb (suc r * 2 ^ 53 + d * 2) 0 (λ q. omega arith))
-
 -- Of a number above 0: it is odd and its bits from 52 on are 0 just where twice the number before it has none of the mask's bits.
 none_of : (z : ℕ) → eqb (z / 2 ^ 52 * 2 ^ 53 + z % 2 * 2) 0 ≡ both (eqb (suc z % 2) 1) (eqb (suc z / 2 ^ 52) 0)
 unfolding both
-none_of z = by (eqb (z % 2) 0) refl
-  where
-    by : (t : Bool) → eqb (z % 2) 0 ≡ t → eqb (z / 2 ^ 52 * 2 ^ 53 + z % 2 * 2) 0 ≡ both (eqb (suc z % 2) 1) (eqb (suc z / 2 ^ 52) 0)
-    by true t =
-        let even : z % 2 ≡ 0 = eqb-true (z % 2) 0 t in
-        let odd : suc z % 2 ≡ 1 = omega arith in
-        let same : suc z / 2 ^ 52 ≡ z / 2 ^ 52 = omega arith in
-        rw (eq-eqb (suc z % 2) 1 odd, same) (scaled (z / 2 ^ 52) (z % 2) even)
-    by false t =
-        let odd : z % 2 ≡ 0 → ⊥ = eqb-false (z % 2) 0 t in
-        rw (ne_eqb (suc z % 2) 1 (λ p. odd (omega arith))) (ne_eqb (z / 2 ^ 52 * 2 ^ 53 + z % 2 * 2) 0 (λ p. odd (omega arith)))
+none_of z = grind (arith, nat_tests)
 
 -- An entry shifted left once, less 2, is twice one less than the entry without its bit 63, or where that is 0 the highest even number.
 doubled : (entry : ℕ) → entry * 2 % 2 ^ 64 ≡ entry % 2 ^ 63 * 2
@@ -48,9 +32,9 @@ shifted-zero : (entry x : ℕ) → x < 2 ^ 64 → (x + 2) % 2 ^ 64 ≡ entry * 2
 shifted-zero entry x h e p = omega (arith, doubled entry)
 
 -- The test of bit 0 and the reserved bits together, on the shifted entry.
-pub valid-is : (entry x : ℕ) → x < 2 ^ 64 → (x + 2) % 2 ^ 64 ≡ entry * 2 % 2 ^ 64 → eqb (bit_and x 0xffe0000000000002) 0 ≡ valid entry
+pub valid_is : (entry x : ℕ) → x < 2 ^ 64 → (x + 2) % 2 ^ 64 ≡ entry * 2 % 2 ^ 64 → eqb (bit_and x 0xffe0000000000002) 0 ≡ valid entry
 unfolding valid present reserved bit both
-valid-is entry x h e = rw (masked x h, bit-0, high) (by (entry % 2 ^ 63) refl)
+valid_is entry x h e = rw (masked x h, bit-0, high) (by (entry % 2 ^ 63) refl)
   where
     bit-0 : entry / 2 ^ 0 % 2 ≡ entry % 2 ^ 63 % 2
     bit-0 = omega arith
@@ -98,20 +82,3 @@ frame_is entry x h e p = by (entry % 2 ^ 63) refl
         let even : z % 2 ≡ 0 = omega (arith, odd) in
         let same : suc z / 2 ^ 12 ≡ z / 2 ^ 12 = omega arith in
         rw (shifted-is entry x z h e q, low, above, q, same)
-
--- Fields each of which is the entry's are its fields.
-pub fields-are : (entry : ℕ) {x : Fields} → x.writable ≡ writable entry → x.user ≡ user_bit entry → x.write_through ≡ bit 3 entry
-    → x.cache_disable ≡ bit 4 entry → x.no_execute ≡ no_execute entry → x.frame ≡ frame_of entry → x ≡ fields_of entry
-unfolding fields_of write_through cache_disable
-fields-are entry w u t c n f = rw (w, u, t, c, n, f)
-
-pub valid-yes : (entry : ℕ) {b : Bool} → b ≡ valid entry → b ≡ true → valid entry ≡ true
-valid-yes entry p q = rw (← p) q
-
-pub apart-present : (entry : ℕ) {p : Bool} {x : Fields} → p ≡ valid entry → p ≡ true → x ≡ fields_of entry → Present x ≡ taken_apart entry
-unfolding taken_apart
-apart-present entry p t x = rw (← p, t, x)
-
-pub apart-absent : (entry : ℕ) {p : Bool} → p ≡ valid entry → p ≡ false → Absent ≡ taken_apart entry
-unfolding taken_apart
-apart-absent entry p t = rw (← p, t)

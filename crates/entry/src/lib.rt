@@ -1,20 +1,22 @@
 // Document 01, "Entry bits", with requests K1, K3 and K6: the bits of kernel and shadow entries, and kernel entries taken apart. `shadow_entry` makes and
 // switches shadow entries.
-// Every function gives what its definition in the model gives; one asks for a kernel entry that is valid.
+// Every function gives what its definition in the model gives.
 
 #![tactic(auto)]
 
-ghost use Rattle.std.specs.Prelude.{◌≡◌, ◌+◌, ◌*◌, ◌%◌, ◌^◌, ◌<◌, true};
-ghost use Rattle.model.specs.Basics.{bit};
-ghost use Rattle.model.specs.Bits.{present, writable, user_bit, no_execute, kernel_no_execute, approved_mark, frame_of, fields_of, valid, taken_apart};
+ghost use Rattle.std.specs.Prelude.{◌≡◌, ◌+◌, ◌*◌, ◌%◌, ◌^◌, ◌<◌, ◌≤◌, eqb, true, false, MatchOption};
+ghost use Rattle.model.specs.Basics.{bit, both};
+ghost use Rattle.model.specs.Bits.{present, writable, user_bit, no_execute, kernel_no_execute, approved_mark, frame_of, valid, taken_apart};
 ghost use Rattle.model.specs.Approvals.{maps, maps_writable};
 
-use model::{Entry, Fields};
+use model::Fields;
 
 // The weights of the bits. Division and remainder by them are shifts and masks.
 pub const PRESENT: u64 = 0x1;
 
 const WRITABLE: u64 = 0x2;
+
+const PRESENT_WRITABLE: u64 = PRESENT + WRITABLE;
 
 pub const USER: u64 = 0x4;
 
@@ -31,50 +33,58 @@ const RESERVED: u64 = 0x7ff0_0000_0000_0000;
 // One above the largest number that the 40 bits of a frame hold.
 const FRAMES: u64 = 0x100_0000_0000;
 
+// Bit K of an entry: a shift and a mask.
+#[tactic(auto, unfolding(model::specs::Basics::bit))]
+fn bit<const K: u32>(entry: u64) -> bool
+    requires { K < 64 }
+    ensures { result ≡ bit K entry }
+{
+    (entry >> K) % 2 == 1
+}
+
+#[tactic(auto, unfolding(model::specs::Bits::present))]
 pub fn present(entry: u64) -> bool
     ensures { result ≡ present entry }
 {
-    entry % 2 == 1
+    bit::<0>(entry)
 }
 
+#[tactic(auto, unfolding(model::specs::Bits::writable))]
 pub fn writable(entry: u64) -> bool
     ensures { result ≡ writable entry }
 {
-    entry / WRITABLE % 2 == 1
+    bit::<1>(entry)
 }
 
+#[tactic(auto, unfolding(model::specs::Bits::user_bit))]
 pub fn user_bit(entry: u64) -> bool
     ensures { result ≡ user_bit entry }
 {
-    entry / USER % 2 == 1
+    bit::<2>(entry)
 }
 
-// Bit k of an entry, for fields that nothing else asks for.
-fn bit(entry: u64, k: u32) -> bool
-    requires { k < 64 }
-    ensures { result ≡ bit k entry }
-{
-    (entry >> k) % 2 == 1
-}
-
+#[tactic(auto, unfolding(model::specs::Bits::kernel_no_execute))]
 pub fn kernel_no_execute(entry: u64) -> bool
     ensures { result ≡ kernel_no_execute entry }
 {
-    entry / KERNEL_NO_EXECUTE % 2 == 1
+    bit::<9>(entry)
 }
 
+#[tactic(auto, unfolding(model::specs::Bits::approved_mark))]
 pub fn approved_mark(entry: u64) -> bool
     ensures { result ≡ approved_mark entry }
 {
-    entry / APPROVED % 2 == 1
+    bit::<10>(entry)
 }
 
+#[tactic(auto, unfolding(model::specs::Bits::no_execute))]
 pub fn no_execute(entry: u64) -> bool
     ensures { result ≡ no_execute entry }
 {
-    entry / NO_EXECUTE % 2 == 1
+    bit::<63>(entry)
 }
 
+#[tactic(auto, unfolding(model::specs::Bits::frame_of))]
 pub fn frame_of(entry: u64) -> u64
     ensures { (result ≡ frame_of entry) × (result < 2 ^ 40) }
 {
@@ -87,50 +97,82 @@ pub fn frame_of(entry: u64) -> u64
 fn shifted(entry: u64) -> u64
     ensures { (result + 2) % 2 ^ 64 ≡ entry * 2 % 2 ^ 64 }
 {
-    std::num::wrapping_sub_u64(entry << 1, 2)
+    (entry << 1).wrapping_sub(2)
 }
 
 // Whether a kernel entry is present and has no reserved bit, in one test.
+#[tactic(auto, using(crate::proofs::ApartLaws::valid_is))]
 fn valid(entry: u64) -> bool
     ensures { result ≡ valid entry }
 {
     shifted(entry) & (RESERVED | PRESENT) << 1 == 0
 }
 
-// The fields of a valid entry. Shifted, it has nothing above its frame: the frame takes a shift and no mask.
-fn fields_of(entry: u64) -> Fields
-    requires { valid entry ≡ true }
-    ensures { result ≡ fields_of entry }
-{
-    Fields {
-        writable: writable(entry),
-        user: user_bit(entry),
-        write_through: bit(entry, 3),
-        cache_disable: bit(entry, 4),
-        no_execute: no_execute(entry),
-        frame: shifted(entry) / (FRAME * 2),
+// A kernel entry that is present and has no reserved bit. `new` alone asks; what is made of its bits asks no more.
+#[derive(Clone, Copy)]
+pub struct ValidEntry {
+    pub bits: u64,
+    pub ghost is_valid: { valid bits ≡ true },
+}
+
+impl ValidEntry {
+    pub fn new(entry: u64) -> Option<ValidEntry>
+        ensures { MatchOption result (valid entry ≡ false) (λ v. v.bits ≡ entry) }
+    {
+        if valid(entry) {
+            Some(ValidEntry { bits: entry })
+        } else {
+            None
+        }
+    }
+
+    // Shifted, a valid entry has nothing above its frame: the frame takes a shift and no mask.
+    #[tactic(auto, using(crate::proofs::ApartLaws::frame_is))]
+    pub fn frame(self) -> u64
+        ensures { result ≡ frame_of self.bits }
+    {
+        shifted(self.bits) / (FRAME * 2)
     }
 }
 
-pub fn take_apart(entry: u64) -> Entry
+// The fields of an entry that is present, or nothing.
+pub fn take_apart(entry: u64) -> Option<Fields>
     ensures { result ≡ taken_apart entry }
 {
-    if valid(entry) {
-        Entry::Present(fields_of(entry))
-    } else {
-        Entry::Absent
-    }
+    let Some(valid) = ValidEntry::new(entry) else {
+        return None;
+    };
+    Some(Fields {
+        writable: writable(entry),
+        user: user_bit(entry),
+        write_through: bit::<3>(entry),
+        cache_disable: bit::<4>(entry),
+        no_execute: no_execute(entry),
+        frame: valid.frame(),
+    })
 }
 
-// A present shadow entry has the frame (K6), and one that has it is writable: both parts in one comparison.
+// The bits of an entry below a weight are those, and its frame is the frame: both parts in one comparison.
+#[tactic(auto, using(crate::proofs::MapsLaws::apart))]
+fn has<const ABOVE: u64, const BITS: u64>(entry: u64, frame: u16) -> bool
+    requires { (BITS < ABOVE) × (ABOVE ≤ 4096) }
+    ensures { result ≡ both (eqb (entry % ABOVE) BITS) (eqb (frame_of entry) frame) }
+{
+    entry % ABOVE + frame_of(entry) * FRAME == BITS + frame as u64 * FRAME
+}
+
+// A present shadow entry has the frame (K6).
+#[tactic(auto, using(crate::proofs::MapsLaws::present_with))]
 pub fn maps(entry: u64, frame: u16) -> bool
     ensures { result ≡ maps frame entry }
 {
-    entry % WRITABLE + frame_of(entry) * FRAME == PRESENT + frame as u64 * FRAME
+    has::<WRITABLE, PRESENT>(entry, frame)
 }
 
+// One that has it is writable.
+#[tactic(auto, using(crate::proofs::MapsLaws::writable_with))]
 pub fn maps_writable(entry: u64, frame: u16) -> bool
     ensures { result ≡ maps_writable frame entry }
 {
-    entry % USER + frame_of(entry) * FRAME == PRESENT + WRITABLE + frame as u64 * FRAME
+    has::<USER, PRESENT_WRITABLE>(entry, frame)
 }

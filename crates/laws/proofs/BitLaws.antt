@@ -1,5 +1,6 @@
 -- Laws of the bits of entries: those of an approved and of an ordinary entry, and those that a mode switch keeps and sets. What is said of several
 -- bits is said once, of the bit.
+use Rattle.std.specs.Prelude.{None, Some, Option}
 use Prim.Native.Nat.{ℕ, zero, suc, ◌+◌, ◌-◌, ◌*◌, ◌/◌, ◌%◌, ◌^◌, ◌≤◌, ◌<◌}
 use mathlib.Core.Bool.{Bool, true, false, cond}
 use mathlib.Core.Logic.{◌⊎◌, inl, inr}
@@ -8,8 +9,6 @@ use native.Mathlib.Omega.{arith}
 use lib.Pow.{pow-lt, shr_lt, field, mod-mod-pow}
 use lib.Dec.{eqb}
 use borrow.Author.Tests.{eqb-true}
-use Rattle.model.specs.declared.Entry.{Entry}
-use Rattle.model.specs.declared.Entry.TheVariants.{Absent, Present}
 use Rattle.model.specs.declared.Fields.{Fields}
 use Rattle.model.specs.Basics.{bit, flag}
 use Rattle.model.specs.Bits.{present, writable, user_bit, write_through, cache_disable, no_execute, frame_of, kernel_no_execute, approved_mark}
@@ -64,36 +63,36 @@ bit-flag true x h = bit-on 63 (x + 2 ^ 63) (omega arith)
 bit-flag false x h = bit-off 63 (x + 0) (omega arith)
 
 -- A kernel entry is taken apart as absent, or as present with its own fields.
-pub taken-apart : (entry : ℕ) → (taken_apart entry ≡ Absent) ⊎ (taken_apart entry ≡ Present (fields_of entry))
+pub taken-apart : (entry : ℕ) → (taken_apart entry ≡ None) ⊎ (taken_apart entry ≡ Some (fields_of entry))
 unfolding taken_apart
 taken-apart entry = by (valid entry)
   where
-    by : (b : Bool) → (cond b (Present (fields_of entry)) Absent ≡ Absent) ⊎ (cond b (Present (fields_of entry)) Absent ≡ Present (fields_of entry))
+    by : (b : Bool) → (cond b (Some (fields_of entry)) None ≡ None) ⊎ (cond b (Some (fields_of entry)) None ≡ Some (fields_of entry))
     by true = inr refl
     by false = inl refl
 
-is_present : Entry → Bool
-is_present Absent = false
-is_present (Present x) = true
+is_present : Option Fields → Bool
+is_present None = false
+is_present (Some x) = true
 
-pub present-valid : (entry : ℕ) (x : Fields) → taken_apart entry ≡ Present x → valid entry ≡ true
+pub present-valid : (entry : ℕ) (x : Fields) → taken_apart entry ≡ Some x → valid entry ≡ true
 unfolding taken_apart is_present
 present-valid entry x p = by (valid entry) ∙ ap is_present p
   where
-    by : (b : Bool) → b ≡ is_present (cond b (Present (fields_of entry)) Absent)
+    by : (b : Bool) → b ≡ is_present (cond b (Some (fields_of entry)) None)
     by true = refl
     by false = refl
 
 -- The fields of a present entry.
-held : Fields → Entry → Fields
-held d Absent = d
-held d (Present x) = x
+held : Fields → Option Fields → Fields
+held d None = d
+held d (Some x) = x
 
-pub fields-apart : (entry : ℕ) (x : Fields) → taken_apart entry ≡ Present x → fields_of entry ≡ x
+pub fields-apart : (entry : ℕ) (x : Fields) → taken_apart entry ≡ Some x → fields_of entry ≡ x
 unfolding held
 fields-apart entry x p = by (taken-apart entry)
   where
-    by : (taken_apart entry ≡ Absent) ⊎ (taken_apart entry ≡ Present (fields_of entry)) → fields_of entry ≡ x
+    by : (taken_apart entry ≡ None) ⊎ (taken_apart entry ≡ Some (fields_of entry)) → fields_of entry ≡ x
     by (inl e) = ap (held (fields_of entry)) (sym e ∙ p)
     by (inr e) = ap (held (fields_of entry)) (sym e ∙ p)
 

@@ -6,13 +6,16 @@ use mathlib.Core.Logic.{◌⊎◌, inl, inr}
 use mathlib.Core.Path.{◌≡◌, refl, sym, ◌∙◌}
 use native.Mathlib.Omega.{arith}
 use borrow.Author.Tests.{not-true, not-false}
-use Rattle.model.specs.declared.Answer.TheVariants.{Refused}
-use Rattle.model.specs.declared.Called.{Called}
+use Rattle.std.specs.Prelude.{Err}
+use Rattle.model.specs.declared.State.{State}
+use Rattle.model.specs.declared.Refusal.{Refusal}
+use Rattle.model.specs.declared.Refusal.TheVariants.{RecordTooShort, SizeOutOfRange, CountOutOfRange, RecordLength, ListedPage, ListedFrame, StateOrTable, LengthOutOfRange, DoesNotExist, WrongMode, NotPresent, NotPermitted, Excluded, CallCutShort, UnknownKind, BufferTooShort, Tree, NoDevice, OutsideWindow, ApprovalConflict, MappedWritable, NothingPending}
+use Rattle.model.specs.Refusals.{number_of}
 use Rattle.model.specs.Guard.{Guard, running, in_mode, with_pending}
 use Rattle.model.specs.Questions.{Question, question, first_no, View, seen, state_in_order, sync_page_questions, sync_all_questions, sync_page_tree_questions}
 use Rattle.model.specs.Questions.{sync_all_tree_questions, fetch_questions, write_questions, enter_questions, leave_questions, device_write_questions, ask_questions}
 use Rattle.model.specs.Questions.{commit_questions, drop_questions}
-use Rattle.model.specs.Calls.{reply_of, settle, Outcome, outcome_by, refused_of, Call, sync_page, sync_all, sync_page_tree, sync_all_tree, fetch, write, enter, leave}
+use Rattle.model.specs.Calls.{Answer, reply_of, settle, Outcome, outcome_by, refused_of, Call, sync_page, sync_all, sync_page_tree, sync_all_tree, fetch, write, enter, leave}
 use Rattle.model.specs.Calls.{device_write, ask, commit, drop, brought_by, questions_of, page_synced, all_synced, page_from, all_from, switch_to, bit_put, pair_committed}
 use Rattle.model.specs.Calls.{effect_of, answer}
 use Rattle.laws.proofs.QuestionLaws.{first_no-yes, first_no-no, settle-accepted}
@@ -40,12 +43,37 @@ unfolding settle
 settle-refused-by zero done refusal t p = absurd (t refl)
 settle-refused-by (suc n) done refusal t p = rw p refl
 
+-- No question has the number 0.
+pub numbered : (refusal : Refusal) → number_of refusal ≡ 0 → ⊥
+numbered RecordTooShort z = omega arith
+numbered SizeOutOfRange z = omega arith
+numbered CountOutOfRange z = omega arith
+numbered RecordLength z = omega arith
+numbered ListedPage z = omega arith
+numbered ListedFrame z = omega arith
+numbered StateOrTable z = omega arith
+numbered LengthOutOfRange z = omega arith
+numbered DoesNotExist z = omega arith
+numbered WrongMode z = omega arith
+numbered NotPresent z = omega arith
+numbered NotPermitted z = omega arith
+numbered Excluded z = omega arith
+numbered CallCutShort z = omega arith
+numbered UnknownKind z = omega arith
+numbered BufferTooShort z = omega arith
+numbered Tree z = omega arith
+numbered NoDevice z = omega arith
+numbered OutsideWindow z = omega arith
+numbered ApprovalConflict z = omega arith
+numbered MappedWritable z = omega arith
+numbered NothingPending z = omega arith
+
 -- A call by the number that its questions settle: refused, and accepted.
 module _ (g : Guard) (call : Call) where
-  pub refused-by : (r : Called) (number : ℕ) → first_no (questions_of (seen g) call) ≡ number → (number ≡ 0 → ⊥) → r.answer ≡ Refused number
-      → r.state ≡ g.state → outcome_by r g.tables ≡ answer g call
+  pub refused-by : (r : Answer) (s : State) (refusal : Refusal) → first_no (questions_of (seen g) call) ≡ number_of refusal → r ≡ Err refusal
+      → s ≡ g.state → outcome_by r s g.tables ≡ answer g call
   unfolding outcome_by reply_of answer brought_by
-  refused-by r number e z a s = rw (a, s) (sym (settle-refused-by number _ _ z e))
+  refused-by r s refusal e a i = rw (a, i) (sym (settle-refused-by (number_of refusal) _ _ (numbered refusal) e))
 
   pub accepted-by : (o : Outcome) → first_no (questions_of (seen g) call) ≡ 0 → o ≡ effect_of g call → o ≡ answer g call
   unfolding answer

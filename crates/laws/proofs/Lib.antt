@@ -6,6 +6,7 @@ pub mod TableLaws
 pub mod PolicyLaws
 pub mod VectorLaws
 pub mod CallLaws
+pub mod AskedLaws
 pub mod TouchLaws
 pub mod AcceptedLaws
 pub mod SweepLaws

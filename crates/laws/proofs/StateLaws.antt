@@ -1,5 +1,6 @@
 -- Laws of the mode, and of question 7 by its parts: the tables that a call is lent, and of the state V, F, the page that runs and the pending pair. Another mode on
 -- a page below V keeps it, and so does another pair below V and F.
+use Rattle.std.specs.Prelude.{Option}
 use Prim.Native.Nat.{ℕ, ◌≤◌, ◌<◌}
 use mathlib.Core.Bool.{Bool, true, false, not}
 use mathlib.Core.List.{List, [], ◌∷◌}
@@ -71,7 +72,7 @@ mode-fits s m p r =
     state-whole (in_mode s m)
     (record { pages = f.pages; frames = f.frames; entry_count = f.entry_count; running-below = r; devices = f.devices; pending = f.pending })
 
-pub pending-fits : (s : State) (pending : Pending) → state_in_order s ≡ true → pending_in_range s.pages s.frames pending ≡ true
+pub pending-fits : (s : State) (pending : Option Pending) → state_in_order s ≡ true → pending_in_range s.pages s.frames pending ≡ true
     → state_in_order (with_pending s pending) ≡ true
 unfolding with_pending
 pending-fits s pending p r =

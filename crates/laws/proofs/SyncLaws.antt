@@ -1,11 +1,11 @@
 -- Steps 1 to 5 of a page by the kinds of slot that they give, for every law about what a synchronisation leaves.
+use Rattle.std.specs.Prelude.{None, Some}
 use Prim.Native.Nat.{ℕ, ◌<◌}
 use mathlib.Core.Bool.{Bool, true, false, not, cond}
 use mathlib.Core.Logic.{◌⊎◌, inl, inr}
 use mathlib.Core.Path.{◌≡◌, refl}
 use lib.Dec.{leb, eqb}
 use borrow.Author.Tests.{leb-false, not-true}
-use Rattle.model.specs.declared.Entry.TheVariants.{Absent, Present}
 use Rattle.model.specs.Guard.{none}
 use Rattle.model.specs.Bits.{frame_of, fields_of, valid, taken_apart, approved, ordinary, inspected}
 use Rattle.model.specs.Sync.{Rules, Slot, slot, step_of, step}
@@ -30,7 +30,7 @@ pub step-cases : (P : Slot → Type 0) (rules : Rules) (k a : ℕ)
 unfolding step fields_of step_of
 step-cases P rules k a absent mapped waits joins plain = by (taken-apart k)
   where
-    by : (taken_apart k ≡ Absent) ⊎ (taken_apart k ≡ Present (fields_of k)) → P (step_of rules (taken_apart k) a)
+    by : (taken_apart k ≡ None) ⊎ (taken_apart k ≡ Some (fields_of k)) → P (step_of rules (taken_apart k) a)
     by (inl e) = rw e absent
     by (inr there) =
         rw there

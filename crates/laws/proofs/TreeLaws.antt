@@ -1,4 +1,5 @@
 -- K4: laws of a walk's reads, and of a tree's calls beside those of the flat table of its walks.
+use Rattle.std.specs.Prelude.{None, Some, Option}
 use Prim.Native.Nat.{ℕ, zero, suc, ◌+◌, ◌*◌, ◌^◌, ◌≤◌, ◌<◌}
 use mathlib.Core.Bool.{Bool, true, false, cond}
 use mathlib.Core.List.{List, [], ◌∷◌}
@@ -7,8 +8,7 @@ use lib.Dec.{ltb, eqb}
 use lib.ListN.{length, get_or}
 use native.Mathlib.Omega.{arith}
 use borrow.Author.Tests.{eq-eqb, eqb-true, lt-ltb, ltb-true}
-use Rattle.model.specs.declared.Entry.{Entry}
-use Rattle.model.specs.declared.Entry.TheVariants.{Absent, Present}
+use Rattle.model.specs.declared.Fields.{Fields}
 use Rattle.model.specs.Basics.{both, either, bit}
 use Rattle.model.specs.Guard.{Guard}
 use Rattle.model.specs.Bits.{taken_apart}
@@ -32,11 +32,11 @@ either-reads limit true x y p q = p
 either-reads limit false x y p q = q
 
 -- What follows an entry meets no more entries than the walk below does.
-onward-reads : (level page limit : ℕ) (rights : Rights) (entry : ℕ) (down : Rights → ℕ → Walk) (e : Entry)
+onward-reads : (level page limit : ℕ) (rights : Rights) (entry : ℕ) (down : Rights → ℕ → Walk) (e : Option Fields)
     → ((these : Rights) (next : ℕ) → length (down these next).met ≤ limit) → length (onward level page rights entry down e).met ≤ limit
 unfolding onward
-onward-reads level page limit rights entry down Absent h = omega arith
-onward-reads level page limit rights entry down (Present x) h =
+onward-reads level page limit rights entry down None h = omega arith
+onward-reads level page limit rights entry down (Some x) h =
     either-reads limit (eqb level 1) _ _ (omega arith) (either-reads limit (both (eqb level 2) (bit 7 entry)) _ _ (omega arith) (h _ x.frame))
 
 pub reads-from : (words : List ℕ) (page level : ℕ) (rights : Rights) (number : ℕ) → length (walk_from words page level rights number).met ≤ level

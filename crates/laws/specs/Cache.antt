@@ -1,6 +1,5 @@
 -- Document 02, K3: which shadow entries carry the cache bits, for every kernel entry and in both modes.
-use Rattle.std.specs.Prelude.{ℕ, ◌/◌, ◌%◌, ◌^◌, ◌≤◌, ◌<◌, Bool, false, not, cond, ◌≡◌, eqb}
-use Rattle.model.specs.declared.Entry.TheVariants.{Present}
+use Rattle.std.specs.Prelude.{ℕ, ◌/◌, ◌%◌, ◌^◌, ◌≤◌, ◌<◌, Bool, false, not, cond, ◌≡◌, eqb, Some}
 use Rattle.model.specs.declared.Fields.{Fields}
 use Rattle.model.specs.Bits.{fields_of, taken_apart, ordinary}
 use Rattle.model.specs.Sync.{Rules, step}
@@ -15,7 +14,7 @@ frame_field entry = entry / 2 ^ 12 % 2 ^ 40
 
 -- "Taking a kernel entry apart now yields both bits".
 abbrev pub ApartYields : Type 0
-ApartYields = (entry : ℕ) (x : Fields) → taken_apart entry ≡ Present x → (x.write_through ≡ digit 3 entry) × (x.cache_disable ≡ digit 4 entry)
+ApartYields = (entry : ℕ) (x : Fields) → taken_apart entry ≡ Some x → (x.write_through ≡ digit 3 entry) × (x.cache_disable ≡ digit 4 entry)
 
 -- "an ordinary shadow entry carries them": its bits 0 to 4 are those of the kernel entry that it is made of, which is present.
 abbrev pub OrdinaryCarries : Type 0

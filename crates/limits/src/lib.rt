@@ -8,8 +8,8 @@ ghost use Rattle.model.specs.Basics;
 ghost use Rattle.model.specs.Basics.{within};
 ghost use Rattle.model.specs.Sizes.{page_bytes, last_byte, last_page};
 
-use model::{ENTRY_PAGES, MOST_TRANSFERRED, MOST_WRITTEN, PAGE_BYTES, State};
-use ranges::{both, in_range};
+use model::{MOST_TRANSFERRED, MOST_WRITTEN, PAGE_BYTES, State};
+use ranges::in_range;
 
 // Question 8.
 
@@ -34,26 +34,23 @@ pub fn page_exists(page: u64, pages: u64) -> bool
 }
 
 // The page that an ask names is below V, and its frame below F (K6).
+#[tactic(auto, unfolding(model::specs::Basics::both))]
 pub fn pair_exists(page: u64, frame: u64, pages: u64, frames: u64) -> bool
     ensures { result ≡ Basics.both (ltb page pages) (ltb frame frames) }
 {
-    both(page < pages, frame < frames)
+    page < pages && frame < frames
 }
 
 // The last byte of a run of bytes is below a limit. A run of no bytes ends one below its address, or at 0.
+#[tactic(auto, using(std::proofs::lemmas::Bool::Decides::nat_tests), unfolding(model::specs::Sizes::last_byte))]
 pub fn ends_below(address: u64, length: u64, limit: u64) -> bool
     ensures { result ≡ ltb (last_byte address length) limit }
 {
-    if limit == 0 {
-        return false;
-    }
-    if limit < address {
-        return false;
-    }
-    length <= limit - address
+    limit != 0 && address <= limit && length <= limit - address
 }
 
 // The page of a write's last byte is below V. Question 7 has settled that V is in its range, so that its bytes can be counted.
+#[tactic(auto, using(std::proofs::lemmas::Bool::Decides::nat_tests), unfolding(model::specs::Sizes::last_page))]
 pub fn write_exists(address: u64, length: u64, pages: u64) -> bool
     requires { pages ≤ 2048 }
     ensures { result ≡ ltb (last_page address length) pages }
@@ -70,6 +67,7 @@ pub fn transfer_exists(address: u64, length: u64, frames: u64) -> bool
 }
 
 // The page of a write's last byte, or the frame of a transfer's. It asks for what questions 8 and 9 have settled, so that the sum does not wrap.
+#[tactic(auto, unfolding(model::specs::Sizes::last_page, model::specs::Sizes::last_byte))]
 pub fn last_page(address: u64, length: u64) -> u64
     requires { (1 ≤ length) × (last_page address length < 65536) }
     ensures { result ≡ last_page address length }
@@ -81,17 +79,13 @@ pub fn last_page(address: u64, length: u64) -> u64
 pub fn entry_page(s: State, index: u64) -> u64
     ensures { result ≡ get_or s.entry_pages index 0 }
 {
-    let entry_pages = s.entry_pages;
-    if index < ENTRY_PAGES as u64 {
-        entry_pages[index as usize]
-    } else {
-        0
-    }
+    s.entry_pages.get(index as usize).copied().unwrap_or(0)
 }
 
 // An entry index is below e, and its page below V.
+#[tactic(auto, unfolding(model::specs::Basics::both))]
 pub fn entry_exists(s: State, index: u64) -> bool
     ensures { result ≡ Basics.both (ltb index s.entry_count) (ltb (get_or s.entry_pages index 0) s.pages) }
 {
-    both(index < s.entry_count, entry_page(s, index) < s.pages)
+    index < s.entry_count && entry_page(s, index) < s.pages
 }

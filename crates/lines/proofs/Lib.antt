@@ -1,2 +1,3 @@
--- Laws that the proofs of several functions cite.
+-- Laws that the proofs of several functions cite, and those of an entry in hexadecimal.
 mod LineLaws
+mod HexLaws

@@ -1,2 +1,2 @@
--- What a line that is being written holds.
+-- The bytes of the lines.
 pub mod Text

@@ -17,7 +17,7 @@ use Rattle.model.specs.Questions.{givens_in_range, record_questions, lengths_fit
 use Rattle.model.specs.Questions.{sync_page_tree_questions, fetch_permitted, fetch_questions, write_permitted, free, every_touched, write_questions}
 use Rattle.model.specs.Questions.{enter_questions, leave_permitted, leave_questions, device_write_questions, ask_questions, page_unapproved, commit_questions}
 use Rattle.model.specs.Questions.{drop_questions}
-use Rattle.model.specs.Calls.{reply_of, outcome_by, settle, start_of, brought_by, questions_of, page_synced, all_synced, page_from, all_from, switch_to, bit_put}
+use Rattle.model.specs.Calls.{reply_of, outcome_by, started_by, settle, start_of, brought_by, questions_of, page_synced, all_synced, page_from, all_from, switch_to, bit_put}
 use Rattle.model.specs.Calls.{pair_committed, effect_of, answer}
 use Rattle.model.specs.Walks.{walk_questions, walk_reply, flat_table}
 
@@ -30,6 +30,6 @@ unfolding both either within pages_in_range frames_in_range devices_in_range eve
     switched_all changes maps maps_writable committed_slot first_no pending_in_range state_in_order sizes_in_range counts_in_range rising all_below in_order policy_questions
     givens_in_range record_questions lengths_fit start_questions sync_all_questions sync_page_questions sync_all_tree_questions sync_page_tree_questions fetch_permitted
     fetch_questions write_permitted free every_touched write_questions enter_questions leave_permitted leave_questions device_write_questions ask_questions page_unapproved
-    commit_questions drop_questions reply_of outcome_by settle start_of brought_by questions_of page_synced all_synced page_from all_from switch_to bit_put pair_committed
+    commit_questions drop_questions reply_of outcome_by started_by settle start_of brought_by questions_of page_synced all_synced page_from all_from switch_to bit_put pair_committed
     effect_of answer walk_questions walk_reply flat_table
 computed = tt

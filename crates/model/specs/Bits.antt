@@ -1,7 +1,5 @@
 -- Document 01, "Entry bits", as requests K1 and K3 (document 02) changed them, with the entries that "Synchronising one page" makes of them: kernel entries taken apart, shadow entries made.
-use Rattle.std.specs.Prelude.{ℕ, ◌+◌, ◌*◌, ◌/◌, ◌%◌, ◌^◌, Bool, true, false, not, cond, eqb}
-use Rattle.model.specs.declared.Entry.{Entry}
-use Rattle.model.specs.declared.Entry.TheVariants.{Absent, Present}
+use Rattle.std.specs.Prelude.{ℕ, ◌+◌, ◌*◌, ◌/◌, ◌%◌, ◌^◌, Bool, true, false, not, cond, eqb, None, Some, Option}
 use Rattle.model.specs.declared.Fields.{Fields}
 use Rattle.model.specs.Basics.{bit, both, either, flag}
 
@@ -57,8 +55,8 @@ unfoldable pub valid : ℕ → Bool
 valid entry = both (present entry) (eqb (reserved entry) 0)
 
 -- "A kernel entry is taken apart first: absent, or present with its fields." "Other bits are ignored": since K1 and K3 these are bits 5 to 11.
-unfoldable pub taken_apart : ℕ → Entry
-taken_apart entry = cond (valid entry) (Present (fields_of entry)) Absent
+unfoldable pub taken_apart : ℕ → Option Fields
+taken_apart entry = cond (valid entry) (Some (fields_of entry)) None
 
 -- "Approved entry: bits 0 and 10, the frame; bit 63 set in user mode only."
 unfoldable pub approved_no_execute : Bool → Bool

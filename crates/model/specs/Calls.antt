@@ -1,14 +1,12 @@
 -- Document 01, "Calls and their two numbers": what each call answers and leaves, on every input, by the questions in order.
-use Rattle.std.specs.Prelude.{ℕ, zero, suc, ◌/◌, Bool, true, false, List, length, get_or, set}
+use Rattle.std.specs.Prelude.{ℕ, zero, suc, ◌/◌, Bool, true, false, List, length, get_or, set, None, Option, Result, Ok, Err}
+use Rattle.model.specs.Guard.{pair}
 use Rattle.model.specs.declared.Pending.{Pending}
-use Rattle.model.specs.declared.Pending.TheVariants.{Nothing, Pair}
 use Rattle.model.specs.declared.State.{State}
 use Rattle.model.specs.declared.Device.{Device}
 use Rattle.model.specs.declared.Mode.{Mode}
 use Rattle.model.specs.declared.Mode.TheVariants.{Kernel, User}
-use Rattle.model.specs.declared.Answer.{Answer}
-use Rattle.model.specs.declared.Answer.TheVariants.{Done, Refused}
-use Rattle.model.specs.declared.Called.{Called}
+use Rattle.model.specs.declared.Refusal.{Refusal}
 use Rattle.model.specs.Basics.{differs}
 use Rattle.model.specs.Sizes.{page_bytes, last_page}
 use Rattle.model.specs.Guard.{none, Tables, with_shadow, with_map, with_exclusion, Guard, guard_of, has_bit, with_bit, in_user, mode_of, pending_frame, is_asked}
@@ -20,6 +18,7 @@ use Rattle.model.specs.Devices.{device_at}
 use Rattle.model.specs.Approvals.{committed_slot}
 use Rattle.model.specs.Sync.{Rules, rules, Slot, Sweep, sweep_from, entry_in, step_from}
 use Rattle.model.specs.Switch.{switched_all, changes}
+use Rattle.model.specs.Refusals.{number_of}
 use Rattle.model.specs.Questions.{Question, first_no, View, seen, lengths_of, start_questions, sync_page_questions, sync_all_questions, sync_page_tree_questions}
 use Rattle.model.specs.Questions.{sync_all_tree_questions, fetch_questions, write_questions, enter_questions, leave_questions, device_write_questions}
 use Rattle.model.specs.Questions.{ask_questions, commit_questions, drop_questions}
@@ -38,10 +37,14 @@ refused number = record { allowed = false; number = number; first = 0; second = 
 abbrev pub accepted : ℕ → ℕ → Reply
 accepted first second = record { allowed = true; number = 0; first = first; second = second }
 
+-- What a call answers: its two numbers, or the question that refused it.
+abbrev pub Answer : Type 0
+Answer = Result (ℕ × ℕ) Refusal
+
 -- The number and the two values of an answer.
 unfoldable pub reply_of : Answer → Reply
-reply_of (Done first second) = accepted first second
-reply_of (Refused number) = refused number
+reply_of (Ok (first, second)) = accepted first second
+reply_of (Err refusal) = refused (number_of refusal)
 
 -- By the first no of a call's questions: what an accepted call gives, or what one refused with this number does.
 unfoldable pub settle : {A : Type 0} → ℕ → A → (ℕ → A) → A
@@ -63,13 +66,14 @@ pub record Outcome : Type 0 where
 abbrev pub outcome : Reply → Guard → Outcome
 outcome reply g = record { reply = reply; guard = g; brought = nothing_brought }
 
--- What a call answered, with the tables that it left, in that form.
-unfoldable pub outcome_by : Called → Tables → Outcome
-outcome_by r t = outcome (reply_of r.answer) (guard_of r.state t)
+-- What a call answered, with the state and the tables that it left, in that form.
+unfoldable pub outcome_by : Answer → State → Tables → Outcome
+outcome_by r s t = outcome (reply_of r) (guard_of s t)
 
--- The same of a call that keeps the state.
-abbrev pub kept_by : Answer → State → Tables → Outcome
-kept_by r s t = outcome_by (record { answer = r; state = s }) t
+-- The same of a start, which answers the first state beside its numbers. "A refused start, which has no state to keep, answers a state of zeros".
+unfoldable pub started_by : Result (State × (ℕ × ℕ)) Refusal → Tables → Outcome
+started_by (Ok (s, numbers)) t = outcome_by (Ok numbers) s t
+started_by (Err refusal) t = outcome_by (Err refusal) zero_state t
 
 -- A refused call: its number, and nothing changed.
 abbrev pub refused_of : Guard → Brought → ℕ → Outcome
@@ -153,7 +157,7 @@ switch_to g mode =
 
 -- K6: "Ask sets the frame's exclusion bit", "Drop clears the exclusion bit": the vector with this bit of a frame, and another pair or none. They give 0
 -- and 0: no shadow entry changes, and no page joins.
-unfoldable pub bit_put : Guard → Bool → ℕ → Pending → Outcome
+unfoldable pub bit_put : Guard → Bool → ℕ → Option Pending → Outcome
 bit_put g b frame pending =
     outcome (accepted 0 0) (guard_of (with_pending g.state pending) (with_exclusion (with_bit b g.tables.exclusion frame) g.tables))
 
@@ -165,7 +169,7 @@ pair_committed g =
     let r : Sweep =
     sweep_from (λ p entry approval. committed_slot (in_user s.mode) (pending_frame s.pending) (is_asked s.pending p) entry approval) 0
     g.tables.shadow g.tables.map in
-    outcome (accepted r.changed r.joined) (guard_of (with_pending s Nothing) (with_shadow r.shadow (with_map r.map g.tables)))
+    outcome (accepted r.changed r.joined) (guard_of (with_pending s None) (with_shadow r.shadow (with_map r.map g.tables)))
 
 -- What each call gives where no question refuses it. A tree gives each page the flat entry of its walk.
 -- "Fetch a page: its frame, twice; that page is now running." The mode stays.
@@ -183,9 +187,9 @@ effect_of g (write address length) =
 effect_of g (enter index) = switch_to g (Kernel (get_or g.state.entry_pages index 0))
 effect_of g (leave page) = switch_to g (User page)
 effect_of g (device_write devices device address size) = outcome (accepted (address / page_bytes) (last_page address size)) g
-effect_of g (ask page frame) = bit_put g true frame (Pair page frame)
+effect_of g (ask page frame) = bit_put g true frame (pair page frame)
 effect_of g commit = pair_committed g
-effect_of g drop = bit_put g false (pending_frame g.state.pending) Nothing
+effect_of g drop = bit_put g false (pending_frame g.state.pending) None
 
 -- What the guard answers to a call, and leaves. "Each call gets these as the last one returned or left them": what a call does not change
 -- stays as it is, and a refused call changes nothing.

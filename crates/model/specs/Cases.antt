@@ -1,7 +1,6 @@
 -- Document 01, "Twelve cases on that policy, just started unless a mode is named": one table, a row or two for each case. Each row has
 -- the outcome that the definitions give, and the whole outcome that the document fixes: number, both values, state and the three tables.
-use Rattle.std.specs.Prelude.{ℕ, List, [], ◌∷◌, ◌≡◌, replicate, set}
-use Rattle.model.specs.declared.Pending.TheVariants.{Nothing}
+use Rattle.std.specs.Prelude.{ℕ, List, [], ◌∷◌, ◌≡◌, replicate, set, None}
 use Rattle.model.specs.declared.State.{State}
 use Rattle.model.specs.declared.Mode.{Mode}
 use Rattle.model.specs.declared.Mode.TheVariants.{Kernel, User}
@@ -40,7 +39,7 @@ started_writable = (answer started (sync_page (only 0 0x3003) 0)).guard
 
 -- The state after the start, with its mode.
 unfoldable pub four_pages : Mode → State
-four_pages mode = state_of 4 4 1 (1 ∷ replicate 15 0) mode 2 Nothing
+four_pages mode = state_of 4 4 1 (1 ∷ replicate 15 0) mode 2 None
 
 -- A guard of that policy with these contents. No call changes the exclusion vector, whose one byte is 0x04.
 unfoldable pub holding : Mode → List ℕ → List ℕ → Guard

@@ -1,7 +1,6 @@
 -- Document 02, K5: the number of devices at the start and in a state, and what a device write answers by its list. The guard is that of Further:
 -- V 6, F 8, frames 3 and 5 excluded, three devices.
-use Rattle.std.specs.Prelude.{ℕ, List, [], ◌∷◌, ◌++◌, replicate, set, take}
-use Rattle.model.specs.declared.Pending.TheVariants.{Nothing}
+use Rattle.std.specs.Prelude.{ℕ, List, [], ◌∷◌, ◌++◌, replicate, set, take, None}
 use Rattle.model.specs.declared.Device.{Device}
 use Rattle.model.specs.declared.Mode.TheVariants.{Kernel, User}
 use Rattle.model.specs.Guard.{Guard, guard_of, state_of}
@@ -20,12 +19,12 @@ start_with devices bytes =
 
 -- The started guard with so many devices.
 unfoldable pub of_devices : ℕ → Guard
-of_devices devices = guard_of (state_of 6 8 2 (1 ∷ 2 ∷ replicate 14 0) (Kernel 1) devices Nothing) started6.tables
+of_devices devices = guard_of (state_of 6 8 2 (1 ∷ 2 ∷ replicate 14 0) (Kernel 1) devices None) started6.tables
 
 -- F 4,096, three devices, and the last frame alone excluded.
 unfoldable pub many_frames : Guard
 many_frames =
-    guard_of (state_of 6 4096 2 (1 ∷ 2 ∷ replicate 14 0) (Kernel 1) 3 Nothing)
+    guard_of (state_of 6 4096 2 (1 ∷ 2 ∷ replicate 14 0) (Kernel 1) 3 None)
     (record { shadow = shadow6; map = started6.tables.map; exclusion = set (replicate 512 0) 511 0x80 })
 
 -- Sixty-three devices with empty windows, and one with all frames.
@@ -128,7 +127,7 @@ device_cases =
     ∷ stays (with6 (User 1) left6) (device_write three_devices 3 0 1) (refused 18)
     ∷ stays (with6 (User 1) left6) (device_write three_devices 0 32767 2) (refused 9)
     ∷ stays (with6 (User 1) left6) (device_write (windowed 6 6) 1 28672 1) (refused 19)
-    ∷ stays (guard_of (state_of 6 8 2 (1 ∷ 2 ∷ replicate 14 0) (User 1) 0 Nothing) started6.tables) (enter 0) (refused 7)
+    ∷ stays (guard_of (state_of 6 8 2 (1 ∷ 2 ∷ replicate 14 0) (User 1) 0 None) started6.tables) (enter 0) (refused 7)
     -- The order of two questions: 7 and 8 by the list's length, 7 and 18, 8 and 18, 18 and 9, 18 and 13, 9 and 19, 19 and 13
     ∷ stays started6 (device_write (replicate 4 (device_of 0 7)) 0 0 0) (refused 7)
     ∷ stays started6 (device_write (device_of 0 7 ∷ device_of 0 7 ∷ []) 2 0 1) (refused 7)

@@ -1,19 +1,17 @@
 -- Cases beside the twelve of document 01, each from one of its sentences or of a request's (K1, K3): a policy with two entry pages and a repeated
 -- frame, the calls that C1 to C12 do not make, and refusals with what comes before them. Rows as in Cases.
-use Rattle.std.specs.Prelude.{ℕ, true, false, List, [], ◌∷◌, replicate, set}
-use Rattle.model.specs.declared.Pending.TheVariants.{Nothing}
-use Rattle.model.specs.declared.Entry.{Entry}
-use Rattle.model.specs.declared.Entry.TheVariants.{Absent, Present}
+use Rattle.std.specs.Prelude.{ℕ, true, false, List, [], ◌∷◌, replicate, set, None, Some, Option, Ok, Err}
+use Rattle.model.specs.declared.Fields.{Fields}
 use Rattle.model.specs.declared.State.{State}
 use Rattle.model.specs.declared.Mode.{Mode}
 use Rattle.model.specs.declared.Mode.TheVariants.{Kernel, User}
-use Rattle.model.specs.declared.Answer.TheVariants.{Done, Refused}
+use Rattle.model.specs.declared.Refusal.TheVariants.{RecordTooShort, StateOrTable}
 use Rattle.model.specs.declared.Device.{Device}
 use Rattle.model.specs.Guard.{tables, with_shadow, with_map, with_exclusion, Guard, guard_of, with_bit, state_of}
 use Rattle.model.specs.Policy.{given_of}
 use Rattle.model.specs.Devices.{device_of}
 use Rattle.model.specs.Bits.{taken_apart}
-use Rattle.model.specs.Calls.{Reply, Outcome, outcome, outcome_by, accepted, refused, start_of, Call, sync_page, sync_all, fetch, write, enter, leave}
+use Rattle.model.specs.Calls.{Reply, Outcome, outcome, outcome_by, started_by, accepted, refused, start_of, Call, sync_page, sync_all, fetch, write, enter, leave}
 use Rattle.model.specs.Calls.{device_write, answer}
 use Rattle.model.specs.Cases.{started, started_user, holding, map_started, Row, Case, row}
 
@@ -40,7 +38,7 @@ zeros =
       entry_pages = 0 ∷ 0 ∷ 0 ∷ 0 ∷ 0 ∷ 0 ∷ 0 ∷ 0 ∷ 0 ∷ 0 ∷ 0 ∷ 0 ∷ 0 ∷ 0 ∷ 0 ∷ 0 ∷ [];
       mode = User 0;
       devices = 0;
-      pending = Nothing;
+      pending = None;
     }
 
 -- A refused start leaves those tables, and answers the state of zeros.
@@ -53,7 +51,7 @@ unfoldable pub three_devices : List Device
 three_devices = replicate 3 (device_of 0 7)
 
 unfoldable pub six_pages : Mode → State
-six_pages mode = state_of 6 8 2 (1 ∷ 2 ∷ replicate 14 0) mode 3 Nothing
+six_pages mode = state_of 6 8 2 (1 ∷ 2 ∷ replicate 14 0) mode 3 None
 
 -- A guard of that policy in a mode, with these shadow entries; map and vector as the start leaves them.
 unfoldable pub with6 : Mode → List ℕ → Guard
@@ -79,12 +77,12 @@ stays g call reply = row (answer g call) (outcome reply g)
 
 -- The started guard with a state of these V, F and e, these entry pages and this mode.
 unfoldable pub in_state : ℕ → ℕ → ℕ → List ℕ → Mode → Guard
-in_state pages frames entry_count entry_pages mode = guard_of (state_of pages frames entry_count entry_pages mode 3 Nothing) started6.tables
+in_state pages frames entry_count entry_pages mode = guard_of (state_of pages frames entry_count entry_pages mode 3 None) started6.tables
 
 -- A guard of so many pages, none present.
 unfoldable pub many_pages : ℕ → Guard
 many_pages pages =
-    guard_of (state_of pages 8 1 (replicate 16 0) (Kernel 0) 1 Nothing)
+    guard_of (state_of pages 8 1 (replicate 16 0) (Kernel 0) 1 None)
     (record { shadow = replicate pages 0; map = []; exclusion = [] })
 
 -- A guard of that policy in a mode, whose tables hold zeros and have these lengths.
@@ -135,7 +133,7 @@ start_cases =
     -- Page 0 first, every page listed up to V - 1, frame F - 1, and a vector of two bytes.
     ∷ row (start_on every_page 3 3 2)
     (outcome (accepted 3 1)
-    (guard_of (state_of 3 9 1 (replicate 16 0) (Kernel 0) 3 Nothing)
+    (guard_of (state_of 3 9 1 (replicate 16 0) (Kernel 0) 3 None)
     (record { shadow = 0x8401 ∷ 0x401 ∷ 0x8401 ∷ []; map = 8 ∷ 0 ∷ 8 ∷ []; exclusion = 1 ∷ 1 ∷ [] })))
     -- 1 to 7, each with all before it yes
     ∷ row (start_on (6 ∷ 0 ∷ 8 ∷ 0 ∷ 3 ∷ 0 ∷ 2 ∷ []) 6 6 1) (start_refused 1 6 6 1)
@@ -162,7 +160,7 @@ start_cases =
     -- V 1 and F 1 start
     ∷ row (start_on (1 ∷ 0 ∷ 1 ∷ 0 ∷ 1 ∷ 0 ∷ 1 ∷ 0 ∷ 0 ∷ 0 ∷ 0 ∷ 0 ∷ []) 1 1 1)
     (outcome (accepted 1 1)
-    (guard_of (state_of 1 1 1 (replicate 16 0) (Kernel 0) 3 Nothing) (record { shadow = 0x401 ∷ []; map = 0 ∷ []; exclusion = 1 ∷ [] })))
+    (guard_of (state_of 1 1 1 (replicate 16 0) (Kernel 0) 3 None) (record { shadow = 0x401 ∷ []; map = 0 ∷ []; exclusion = 1 ∷ [] })))
     -- n V and e n go on to 4, e 0 does not; e 16 of 17 goes on to 4, e 17 does not
     ∷ row (start_on (set two_entries 4 6) 6 6 1) (start_refused 4 6 6 1)
     ∷ row (start_on (set (set two_entries 4 2) 6 2) 6 6 1) (start_refused 4 6 6 1)
@@ -469,7 +467,7 @@ switch_cases =
 -- What an answer gives, with the tables that a call left.
 unfoldable pub answer_cases : List Case
 answer_cases =
-    row (outcome_by (record { answer = Done 1 2; state = zeros }) (tables (3 ∷ []) (4 ∷ []) (5 ∷ [])))
+    row (outcome_by (Ok (1, 2)) zeros (tables (3 ∷ []) (4 ∷ []) (5 ∷ [])))
     (outcome (record { allowed = true; number = 0; first = 1; second = 2 })
     (guard_of zeros (record { shadow = 3 ∷ []; map = 4 ∷ []; exclusion = 5 ∷ [] })))
     -- one table in its place, and the others as they were
@@ -479,21 +477,26 @@ answer_cases =
     (outcome (accepted 0 0) (guard_of zeros (record { shadow = 3 ∷ []; map = 6 ∷ []; exclusion = 5 ∷ [] })))
     ∷ row (outcome (accepted 0 0) (guard_of zeros (with_exclusion (6 ∷ []) (tables (3 ∷ []) (4 ∷ []) (5 ∷ [])))))
     (outcome (accepted 0 0) (guard_of zeros (record { shadow = 3 ∷ []; map = 4 ∷ []; exclusion = 6 ∷ [] })))
-    ∷ row (outcome_by (record { answer = Refused 7; state = zeros }) (tables [] [] []))
+    ∷ row (outcome_by (Err StateOrTable) zeros (tables [] [] []))
     (outcome (record { allowed = false; number = 7; first = 0; second = 0 }) (guard_of zeros (record { shadow = []; map = []; exclusion = [] })))
+    -- of a start: the state that it answers, and where it is refused a state of zeros in user mode
+    ∷ row (started_by (Ok (six_pages (Kernel 1), (1, 2))) (tables (3 ∷ []) (4 ∷ []) (5 ∷ [])))
+    (outcome (accepted 1 2) (guard_of (six_pages (Kernel 1)) (tables (3 ∷ []) (4 ∷ []) (5 ∷ []))))
+    ∷ row (started_by (Err RecordTooShort) (tables (3 ∷ []) (4 ∷ []) (5 ∷ [])))
+    (outcome (refused 1) (guard_of (state_of 0 0 0 (replicate 16 0) (User 0) 0 None) (tables (3 ∷ []) (4 ∷ []) (5 ∷ []))))
     ∷ []
 
 -- K3: "Taking a kernel entry apart now yields both bits".
 abbrev pub ApartCase : Type 0
-ApartCase = Row Entry
+ApartCase = Row (Option Fields)
 
 unfoldable pub apart_cases : List ApartCase
 apart_cases =
     row (taken_apart 0x300b)
-    (Present (record { writable = true; user = false; write_through = true; cache_disable = false; no_execute = false; frame = 3 }))
+    (Some (record { writable = true; user = false; write_through = true; cache_disable = false; no_execute = false; frame = 3 }))
     ∷ row (taken_apart 0x8000000000003015)
-    (Present (record { writable = false; user = true; write_through = false; cache_disable = true; no_execute = true; frame = 3 }))
-    ∷ row (taken_apart 0x3018) Absent
+    (Some (record { writable = false; user = true; write_through = false; cache_disable = true; no_execute = true; frame = 3 }))
+    ∷ row (taken_apart 0x3018) None
     ∷ []
 
 -- A vector with a bit set, cleared, and past its end.

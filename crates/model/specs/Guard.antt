@@ -1,9 +1,8 @@
 -- Document 01, "What the guard keeps": the tables as lists of numbers, and the mode.
-use Rattle.std.specs.Prelude.{ℕ, ◌+◌, ◌*◌, ◌/◌, ◌%◌, Bool, true, false, cond, List, get_or, set, eqb}
+use Rattle.std.specs.Prelude.{ℕ, ◌+◌, ◌*◌, ◌/◌, ◌%◌, Bool, true, false, cond, List, get_or, set, eqb, None, Some, Option}
 use Rattle.model.specs.declared.Mode.{Mode}
 use Rattle.model.specs.declared.Mode.TheVariants.{Kernel, User}
 use Rattle.model.specs.declared.Pending.{Pending}
-use Rattle.model.specs.declared.Pending.TheVariants.{Nothing, Pair}
 use Rattle.model.specs.declared.State.{State}
 use Rattle.model.specs.Basics.{bit, flag, table}
 
@@ -77,22 +76,26 @@ unfoldable pub mode_of : Bool → ℕ → Mode
 mode_of false page = Kernel page
 mode_of true page = User page
 
--- K6: "the state holds at most one pending pair". Whether it holds one; the frame of it, "or 65535 for none", as in the map; and whether a page is the
+-- K6: the pending pair of a page and a frame.
+abbrev pub pair : ℕ → ℕ → Option Pending
+pair page frame = Some (record { page = page; frame = frame })
+
+-- "the state holds at most one pending pair". Whether it holds one; the frame of it, "or 65535 for none", as in the map; and whether a page is the
 -- one that was asked for.
-unfoldable pub is_pending : Pending → Bool
-is_pending Nothing = false
-is_pending (Pair page frame) = true
+unfoldable pub is_pending : Option Pending → Bool
+is_pending None = false
+is_pending (Some asked) = true
 
-unfoldable pub pending_frame : Pending → ℕ
-pending_frame Nothing = none
-pending_frame (Pair page frame) = frame
+unfoldable pub pending_frame : Option Pending → ℕ
+pending_frame None = none
+pending_frame (Some asked) = asked.frame
 
-unfoldable pub is_asked : Pending → ℕ → Bool
-is_asked Nothing p = false
-is_asked (Pair page frame) p = eqb p page
+unfoldable pub is_asked : Option Pending → ℕ → Bool
+is_asked None p = false
+is_asked (Some asked) p = eqb p asked.page
 
 -- A state by V, F, e, its sixteen entry pages, its mode, its number of devices (K5) and what is pending (K6).
-abbrev pub state_of : ℕ → ℕ → ℕ → List ℕ → Mode → ℕ → Pending → State
+abbrev pub state_of : ℕ → ℕ → ℕ → List ℕ → Mode → ℕ → Option Pending → State
 state_of pages frames entry_count entry_pages mode devices pending =
     record { pages = pages; frames = frames; entry_count = entry_count; entry_pages = entry_pages; mode = mode; devices = devices; pending = pending }
 
@@ -100,5 +103,5 @@ state_of pages frames entry_count entry_pages mode devices pending =
 unfoldable pub in_mode : State → Mode → State
 in_mode s m = state_of s.pages s.frames s.entry_count s.entry_pages m s.devices s.pending
 
-unfoldable pub with_pending : State → Pending → State
+unfoldable pub with_pending : State → Option Pending → State
 with_pending s pending = state_of s.pages s.frames s.entry_count s.entry_pages s.mode s.devices pending

@@ -10,6 +10,7 @@ pub mod Devices
 pub mod Sync
 pub mod Switch
 pub mod Approvals
+pub mod Refusals
 pub mod Calls
 pub mod Questions
 pub mod Walks

@@ -1,7 +1,6 @@
 -- Document 01, "The policy record": the record read into V, F, n, e and two lists, and what an accepted start sets.
-use Rattle.std.specs.Prelude.{ℕ, zero, suc, ◌+◌, ◌*◌, Bool, false, cond, List, [], ◌∷◌, get_or, ltb, eqb}
+use Rattle.std.specs.Prelude.{ℕ, zero, suc, ◌+◌, ◌*◌, Bool, false, cond, List, [], ◌∷◌, get_or, ltb, eqb, None}
 use Rattle.model.specs.declared.Mode.TheVariants.{Kernel, User}
-use Rattle.model.specs.declared.Pending.TheVariants.{Nothing}
 use Rattle.model.specs.declared.State.{State}
 use Rattle.model.specs.Basics.{table, member}
 use Rattle.model.specs.Guard.{none, Tables, Guard, guard_of, vector_of, state_of}
@@ -75,7 +74,7 @@ entry_pages policy = table 16 (λ i. cond (ltb i policy.entry_count) (get_or pol
 unfoldable pub start_state : Givens → Policy → State
 start_state given policy =
     state_of policy.pages policy.frames policy.entry_count (entry_pages policy) (Kernel (get_or policy.listed_pages 0 0)) given.devices
-    Nothing
+    None
 
 -- "An accepted start sets the map and exclusion bits from the arrays, every other map place to 65535 and every other exclusion bit to 0,
 -- makes the shadow entry of each listed page an approved one, zeroes the others, and stands in kernel mode on the first entry page."
@@ -92,4 +91,4 @@ start_guard given policy = guard_of (start_state given policy) (start_tables pol
 
 -- "A refused start, which has no state to keep, answers a state of zeros in user mode on page 0."
 unfoldable pub zero_state : State
-zero_state = state_of 0 0 0 (table 16 (λ i. 0)) (User 0) 0 Nothing
+zero_state = state_of 0 0 0 (table 16 (λ i. 0)) (User 0) 0 None

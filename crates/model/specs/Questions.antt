@@ -1,7 +1,6 @@
 -- Document 01, "Questions in order": each question, and the list of them that each call goes down.
-use Rattle.std.specs.Prelude.{ℕ, suc, ◌+◌, ◌*◌, ◌/◌, min, Bool, true, not, cond, List, [], ◌∷◌, ◌++◌, length, get_or, leb, ltb, eqb}
+use Rattle.std.specs.Prelude.{ℕ, suc, ◌+◌, ◌*◌, ◌/◌, min, Bool, true, not, cond, List, [], ◌∷◌, ◌++◌, length, get_or, leb, ltb, eqb, None, Some, Option}
 use Rattle.model.specs.declared.Pending.{Pending}
-use Rattle.model.specs.declared.Pending.TheVariants.{Nothing, Pair}
 use Rattle.model.specs.declared.State.{State}
 use Rattle.model.specs.declared.Device.{Device}
 use Rattle.model.specs.Basics.{both, either, within, every_from}
@@ -36,7 +35,7 @@ pub record View : Type 0 where
   -- how many devices there are (K5)
   pub devices : ℕ
   -- what is pending (K6)
-  pub pending : Pending
+  pub pending : Option Pending
   -- user mode
   pub user : Bool
   -- the shadow entry and the approval of a page, and whether a frame is excluded
@@ -50,9 +49,9 @@ pub record View : Type 0 where
   pub exclusion_fits : Bool
 
 -- K6: "Question 7 wants a pending pair below V and F".
-unfoldable pub pending_in_range : ℕ → ℕ → Pending → Bool
-pending_in_range pages frames Nothing = true
-pending_in_range pages frames (Pair page frame) = both (ltb page pages) (ltb frame frames)
+unfoldable pub pending_in_range : ℕ → ℕ → Option Pending → Bool
+pending_in_range pages frames None = true
+pending_in_range pages frames (Some asked) = both (ltb asked.page pages) (ltb asked.frame frames)
 
 -- "7. Are the state's V, F within range, e from 1 to 16, the running page below V"; K5: a number of devices outside its range gives "7 later"; K6: the
 -- pending pair.
@@ -256,9 +255,9 @@ ask_questions v page frame =
     ∷ []
 
 -- Commit: "with 20 [..] [a] commit whose page has an approval", the pending one; "and with 22 a commit or drop with nothing pending".
-unfoldable pub page_unapproved : View → Pending → Bool
-page_unapproved v Nothing = true
-page_unapproved v (Pair page frame) = eqb (v.approval page) none
+unfoldable pub page_unapproved : View → Option Pending → Bool
+page_unapproved v None = true
+page_unapproved v (Some asked) = eqb (v.approval asked.page) none
 
 unfoldable pub commit_questions : View → List Question
 commit_questions v =

@@ -1,7 +1,6 @@
 -- Document 01, "Synchronising one page", and the same for all pages.
-use Rattle.std.specs.Prelude.{ℕ, suc, ◌+◌, Bool, not, cond, List, [], ◌∷◌, leb, eqb, get_or}
-use Rattle.model.specs.declared.Entry.{Entry}
-use Rattle.model.specs.declared.Entry.TheVariants.{Absent, Present}
+use Rattle.std.specs.Prelude.{ℕ, suc, ◌+◌, Bool, not, cond, List, [], ◌∷◌, leb, eqb, get_or, None, Some, Option}
+use Rattle.model.specs.declared.Fields.{Fields}
 use Rattle.model.specs.Basics.{differs}
 use Rattle.model.specs.Guard.{none}
 use Rattle.model.specs.Bits.{taken_apart, approved, ordinary, inspected}
@@ -33,9 +32,9 @@ slot entry approval = record { entry = entry; approval = approval }
 -- "4. Else the frame is excluded: the page joins the map with it; approved entry." Source 000, section 5.1: every virtual alias of an
 -- approved physical page must disallow writes to it.
 -- "5. Else ordinary: present, writable, user, frame and bit 9 from the kernel entry." K3: and bits 3 and 4.
-unfoldable pub step_of : Rules → Entry → ℕ → Slot
-step_of rules Absent approval = slot 0 approval
-step_of rules (Present x) approval =
+unfoldable pub step_of : Rules → Option Fields → ℕ → Slot
+step_of rules None approval = slot 0 approval
+step_of rules (Some x) approval =
     cond (not (eqb approval none)) (slot (approved rules.user approval) approval)
     (cond (leb rules.frames x.frame) (slot 0 approval)
     (cond (eqb x.frame rules.pending) (slot (ordinary rules.user (inspected x)) approval)

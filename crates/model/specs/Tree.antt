@@ -1,7 +1,5 @@
 -- Document 02, K4, "Tables in the processor's own shape": a tree of tables, and the walk of a page down to its flat entry.
-use Rattle.std.specs.Prelude.{ℕ, zero, suc, ◌+◌, ◌*◌, ◌/◌, ◌%◌, ◌^◌, Bool, true, false, cond, List, [], ◌∷◌, length, get_or, ltb, eqb}
-use Rattle.model.specs.declared.Entry.{Entry}
-use Rattle.model.specs.declared.Entry.TheVariants.{Absent, Present}
+use Rattle.std.specs.Prelude.{ℕ, zero, suc, ◌+◌, ◌*◌, ◌/◌, ◌%◌, ◌^◌, Bool, true, false, cond, List, [], ◌∷◌, length, get_or, ltb, eqb, None, Some, Option}
 use Rattle.model.specs.declared.Fields.{Fields}
 use Rattle.model.specs.Basics.{both, either, within, bit, flag}
 use Rattle.model.specs.Bits.{taken_apart}
@@ -76,9 +74,9 @@ meeting entry rest = record { flat = rest.flat; met = entry ∷ rest.met }
 -- What follows an entry that was met at a level. `down` is the walk at the level below, by the rights gathered so far and its table's number.
 -- "An absent entry [..] makes the page absent." "Bit 7 at level 2 means a large page". "The frame field of an upper entry is the number of the next
 -- table in the run."
-unfoldable pub onward : ℕ → ℕ → Rights → ℕ → (Rights → ℕ → Walk) → Entry → Walk
-onward level page rights entry down Absent = ending 0
-onward level page rights entry down (Present x) =
+unfoldable pub onward : ℕ → ℕ → Rights → ℕ → (Rights → ℕ → Walk) → Option Fields → Walk
+onward level page rights entry down None = ending 0
+onward level page rights entry down (Some x) =
     let these : Rights = gathered level rights x in
     cond (eqb level 1) (ending (flat_entry these x x.frame))
     (cond (both (eqb level 2) (bit 7 entry)) (ending (large_entry these x page))

@@ -1,8 +1,7 @@
 -- Document 02, K4: what walks give, and what synchronising from a tree gives. A row of a walk fixes its answer, the flat entry and the count of
 -- entries read, and the entries themselves; a row of a call fixes its whole outcome. The guard is that of Further: V 6, F 8, pages 1, 2 and 4 approved
 -- for frames 5, 3 and 5.
-use Rattle.std.specs.Prelude.{ℕ, suc, ◌+◌, ◌-◌, ◌*◌, true, false, List, [], ◌∷◌, ◌++◌, length, replicate, set}
-use Rattle.model.specs.declared.Pending.TheVariants.{Nothing}
+use Rattle.std.specs.Prelude.{ℕ, suc, ◌+◌, ◌-◌, ◌*◌, true, false, List, [], ◌∷◌, ◌++◌, length, replicate, set, None}
 use Rattle.model.specs.declared.Mode.TheVariants.{Kernel, User}
 use Rattle.model.specs.Guard.{tables, Guard, guard_of, state_of}
 use Rattle.model.specs.Tree.{Tree, tree_of, Walk, walk_of}
@@ -266,7 +265,7 @@ one_table count entry = tree_of (replicate count entry) 0 1
 -- A guard of so many pages with these shadow entries, none approved, no frame excluded; and with entry 1 at each.
 unfoldable pub shadowed : ℕ → List ℕ → Guard
 shadowed pages shadow =
-    guard_of (state_of pages 8 1 (replicate 16 0) (Kernel 0) 1 Nothing) (tables shadow (replicate pages 65535) (0 ∷ []))
+    guard_of (state_of pages 8 1 (replicate 16 0) (Kernel 0) 1 None) (tables shadow (replicate pages 65535) (0 ∷ []))
 
 unfoldable pub ones : ℕ → Guard
 ones pages = shadowed pages (replicate pages 1)

@@ -4,11 +4,12 @@
 
 #![tactic(auto)]
 
-ghost use Rattle.std.specs.Prelude.{◌++◌};
+ghost use Rattle.std.specs.Prelude.{◌++◌, ◌≡◌};
 ghost use Rattle.model.specs.ApprovalCases.{ask_cases, commit_cases, drop_cases, pending_cases};
 ghost use Rattle.model.specs.Cases.{cases, Hold};
 ghost use Rattle.model.specs.DeviceCases.{device_cases};
 ghost use Rattle.model.specs.Further.{start_cases, sync_cases, order_cases, access_cases, switch_cases, answer_cases, apart_cases, vector_cases};
+ghost use Rattle.model.specs.Refusals.{number_of};
 ghost use Rattle.model.specs.Orders.{start_order, call_order};
 ghost use Rattle.model.specs.TreeCases.{walk_cases, walk_refusals, tree_cases};
 
@@ -42,11 +43,11 @@ pub enum Mode {
     User(u64),
 }
 
-// Document 02, K6: "the state holds at most one pending pair": the page and the frame of an ask, until it is committed or dropped.
+// Document 02, K6: the pending pair, the page and the frame of an ask, until it is committed or dropped.
 #[derive(Clone, Copy)]
-pub enum Pending {
-    Nothing,
-    Pair(u64, u64),
+pub struct Pending {
+    pub page: u64,
+    pub frame: u64,
 }
 
 // Document 01, "What the guard keeps": the state. Its numbers have the 64 bits with which they come across the boundary, so that none is cut before question 7.
@@ -58,12 +59,13 @@ pub struct State {
     pub frames: u64,
     // e, the number of entry pages.
     pub entry_count: u64,
-    // The sixteen entry pages; unused ones are 0.
+    // The sixteen entry pages; unused ones are 0. An array with its number beside it: question 7 asks for e, and both cross the boundary as they stand.
     pub entry_pages: [u64; ENTRY_PAGES],
     pub mode: Mode,
     // K5: the number of devices, which the start is given.
     pub devices: u64,
-    pub pending: Pending,
+    // K6: "the state holds at most one pending pair".
+    pub pending: Option<Pending>,
 }
 
 // Document 02, K5: "a list of devices, one record each, with first and last permitted frame". C lays it out as it stands.
@@ -74,7 +76,7 @@ pub struct Device {
     pub last: u16,
 }
 
-// Document 01, "Entry bits": the fields of a kernel entry that is present.
+// Document 01, "Entry bits": the fields of a kernel entry that is present. An entry that is taken apart is these, or absent.
 #[derive(Clone, Copy)]
 pub struct Fields {
     pub writable: bool,
@@ -87,25 +89,42 @@ pub struct Fields {
     pub frame: u64,
 }
 
-// Document 01, "Entry bits": a kernel entry taken apart.
-#[derive(Clone, Copy)]
-pub enum Entry {
-    Absent,
-    Present(Fields),
+// Document 01, "Questions in order", and document 02: the question that refuses a call, with its number. docs/REFUSALS.md has them in words.
+#[derive(Clone, Copy, Debug, PartialEq, Eq)]
+pub enum Refusal {
+    RecordTooShort = 1,
+    SizeOutOfRange = 2,
+    CountOutOfRange = 3,
+    RecordLength = 4,
+    ListedPage = 5,
+    ListedFrame = 6,
+    StateOrTable = 7,
+    LengthOutOfRange = 8,
+    DoesNotExist = 9,
+    WrongMode = 10,
+    NotPresent = 11,
+    NotPermitted = 12,
+    Excluded = 13,
+    CallCutShort = 14,
+    UnknownKind = 15,
+    BufferTooShort = 16,
+    Tree = 17,
+    NoDevice = 18,
+    OutsideWindow = 19,
+    ApprovalConflict = 20,
+    MappedWritable = 21,
+    NothingPending = 22,
 }
 
-// What a call answers: its two numbers, or the number of the question that refused it.
-#[derive(Clone, Copy)]
-pub enum Answer {
-    Done(u64, u64),
-    Refused(u64),
-}
+// What a call answers: its two numbers, or the question that refused it.
+pub type Answer = Result<(u64, u64), Refusal>;
 
-// What a call that may change the state gives: its answer, and the state after it.
-#[derive(Clone, Copy)]
-pub struct Called {
-    pub answer: Answer,
-    pub state: State,
+impl From<Refusal> for u64 {
+    ghost from_gives = { λ refusal number. number ≡ number_of refusal };
+
+    fn from(refusal: Refusal) -> u64 {
+        refusal as u64
+    }
 }
 
 // Document 01, C1 to C12: every row of the table holds of the definitions.

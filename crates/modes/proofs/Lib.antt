@@ -1,4 +1,3 @@
 -- Laws that the proofs of this crate cite.
 pub mod TableLaws
-pub mod SwitchQuestionLaws
 pub mod EnterLeaveLaws

@@ -12,6 +12,7 @@ use model::{ENTRY_PAGES, MOST_DEVICES, MOST_FRAMES, MOST_PAGES, Pending, State};
 use state::running;
 
 // Both answers are yes.
+#[tactic(auto, unfolding(model::specs::Basics::both))]
 pub fn both(a: bool, b: bool) -> bool
     ensures { result ≡ Basics.both a b }
 {
@@ -19,20 +20,23 @@ pub fn both(a: bool, b: bool) -> bool
 }
 
 // x is from low to high, both ends included.
+#[tactic(auto, unfolding(model::specs::Basics::within, model::specs::Basics::both))]
 pub fn in_range(low: u64, high: u64, x: u64) -> bool
     ensures { result ≡ within low high x }
 {
-    both(low <= x, x <= high)
+    (low..=high).contains(&x)
 }
 
 // The numbers of a state, as question 7 asks for them.
 
+#[tactic(auto, unfolding(model::specs::Sizes::pages_in_range))]
 pub fn pages_in_range(pages: u64) -> bool
     ensures { result ≡ pages_in_range pages }
 {
     in_range(1, MOST_PAGES, pages)
 }
 
+#[tactic(auto, unfolding(model::specs::Sizes::frames_in_range))]
 pub fn frames_in_range(frames: u64) -> bool
     ensures { result ≡ frames_in_range frames }
 {
@@ -47,6 +51,7 @@ pub fn entry_count_in_range(count: u64) -> bool
 }
 
 // The number of devices (K5), as the start may be given it and a state may have it.
+#[tactic(auto, unfolding(model::specs::Sizes::devices_in_range))]
 pub fn devices_in_range(count: u64) -> bool
     ensures { result ≡ devices_in_range count }
 {
@@ -54,36 +59,23 @@ pub fn devices_in_range(count: u64) -> bool
 }
 
 // The page of a pending pair is below V, and its frame below F (K6).
-pub fn pending_in_range(pages: u64, frames: u64, pending: Pending) -> bool
+#[tactic(auto, unfolding(model::specs::Questions::pending_in_range, model::specs::Basics::both))]
+pub fn pending_in_range(pages: u64, frames: u64, pending: Option<Pending>) -> bool
     ensures { result ≡ pending_in_range pages frames pending }
 {
-    match pending {
-        Pending::Nothing => true,
-        Pending::Pair(page, frame) => both(page < pages, frame < frames),
-    }
+    pending.is_none_or(|asked| asked.page < pages && asked.frame < frames)
 }
 
 // The state's part of question 7. Each part has a way out, so that the compiler asks once what the boundary and a call below it both ask; the number of devices
 // comes before e, which is the order of the fewest instructions.
+#[tactic(auto, unfolding(model::specs::Questions::state_in_order, model::specs::Basics::both))]
 pub fn state_in_order(s: State) -> bool
     ensures { result ≡ state_in_order s }
 {
-    let mode = s.mode;
-    let pending = s.pending;
-    if !pages_in_range(s.pages) {
-        return false;
-    }
-    if !frames_in_range(s.frames) {
-        return false;
-    }
-    if !devices_in_range(s.devices) {
-        return false;
-    }
-    if !entry_count_in_range(s.entry_count) {
-        return false;
-    }
-    if s.pages <= running(mode) {
-        return false;
-    }
-    pending_in_range(s.pages, s.frames, pending)
+    pages_in_range(s.pages)
+        && frames_in_range(s.frames)
+        && devices_in_range(s.devices)
+        && entry_count_in_range(s.entry_count)
+        && running(s.mode) < s.pages
+        && pending_in_range(s.pages, s.frames, s.pending)
 }

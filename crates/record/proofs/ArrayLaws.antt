@@ -1,25 +1,22 @@
 -- Laws of questions 2 to 6 asked of sizes and arrays: questions 5 and 6 on the numbers that are left, and the first no, by the tests that the code
 -- makes.
-use Prim.Native.Nat.{ℕ, ◌+◌, ◌≤◌, ◌<◌, min, max}
+use Prim.Native.Nat.{ℕ, ◌+◌, ◌≤◌, ◌<◌, min}
 use mathlib.Core.Bool.{Bool, true, false, not}
 use mathlib.Core.List.{List, [], ◌∷◌}
-use mathlib.Core.Path.{◌≡◌, refl, sym, ap, ◌∙◌}
-use lib.Dec.{leb, ltb, eqb}
+use mathlib.Core.Path.{◌≡◌, refl, sym, ◌∙◌}
 use lib.ListN.{length, get_or, drop, drop_of_length-le}
 use lib.Seq.{drop-cons}
 use mir.Syntax.{w16}
 use mir.Val.{Fits}
 use native.Mathlib.Numerals.{add-one}
 use native.Mathlib.Omega.{arith}
-use borrow.Author.Tests.{not-true, not-false, ltb-true, ltb-false, lt-ltb, le-ltb}
+use borrow.Author.Tests.{not-true, not-false}
 use Rattle.model.specs.Basics.{both, within}
 use Rattle.model.specs.Sizes.{pages_in_range, frames_in_range}
 use Rattle.model.specs.Policy.{Policy}
 use Rattle.model.specs.Questions.{first_no, sizes_in_range, counts_in_range, rising, all_below, policy_questions}
 use Rattle.record_model.specs.Record.{policy_by, arrays_exact}
 use Rattle.laws.proofs.QuestionLaws.{both_true, both_first, both-second, within_low, within-high}
-use Rattle.laws.proofs.PolicyLaws.{rising-refuses}
-use Rattle.record.specs.Arrays.{highest_of}
 use Rattle.policy.proofs.RecordLaws.{asked-2, asked-3, asked-4, asked-5, asked-6, asked-none}
 
 -- The numbers that are left begin with the one at place i.
@@ -28,42 +25,6 @@ array-front listed i more = rw add-one (drop-cons listed i 0 more)
 
 pub array-ends : (listed : List ℕ) (i : ℕ) → length listed ≤ i → drop i listed ≡ []
 array-ends listed i h = drop_of_length-le listed h
-
-pub page-refused : (listed : List ℕ) (pages least i : ℕ) (whole r : Bool) → rising pages least (drop i listed) ≡ whole → i < length listed
-    → r ≡ both (leb least (get_or listed i 0)) (ltb (get_or listed i 0) pages) → not r ≡ true → false ≡ whole
-page-refused listed pages least i whole r e more asks h =
-    rising-refuses pages least _ whole e (get_or listed i 0) r asks _ (array-front listed i more) h
-
--- The highest number, at place i of the array: `so_far` is the highest before it.
-pub highest-starts : (numbers : List ℕ) → max 0 (highest_of (drop 0 numbers)) ≡ highest_of numbers
-highest-starts numbers = omega arith
-
-module _ (numbers : List ℕ) (i so_far whole : ℕ) (e : max so_far (highest_of (drop i numbers)) ≡ whole) where
-  pub highest-ends : length numbers ≤ i → so_far ≡ whole
-  unfolding highest_of
-  highest-ends h = omega (arith, rw (array-ends numbers i h) at e)
-
-  pub highest-goes-on : (next : ℕ) → i < length numbers → next ≡ max so_far (get_or numbers i 0) → max next (highest_of (drop (i + 1) numbers)) ≡ whole
-  unfolding highest_of
-  highest-goes-on next more is = omega (arith, rw (array-front numbers i more) at e)
-
--- Question 6 by the highest frame.
-max-below : (a b limit : ℕ) → ltb (max a b) limit ≡ both (ltb a limit) (ltb b limit)
-unfolding both
-max-below a b limit = at (ltb a limit) (ltb b limit) refl refl
-  where
-    at : (p q : Bool) → ltb a limit ≡ p → ltb b limit ≡ q → ltb (max a b) limit ≡ both p q
-    at true true e f = let h : a < limit = ltb-true a limit e in let k : b < limit = ltb-true b limit f in lt-ltb (max a b) limit (omega arith)
-    at true false e f = let k : limit ≤ b = ltb-false b limit f in le-ltb (max a b) limit (omega arith)
-    at false q e f = let h : limit ≤ a = ltb-false a limit e in le-ltb (max a b) limit (omega arith)
-
-highest-is : (limit : ℕ) (frames : List ℕ) → 1 ≤ limit → ltb (highest_of frames) limit ≡ all_below limit frames
-unfolding highest_of all_below
-highest-is limit [] low = lt-ltb 0 limit low
-highest-is limit (f ∷ frames) low = max-below f (highest_of frames) limit ∙ ap (both (ltb f limit)) (highest-is limit frames low)
-
-pub highest-below : (limit : ℕ) (frames : List ℕ) (r : Bool) (top : ℕ) → 1 ≤ limit → top ≡ highest_of frames → r ≡ ltb top limit → r ≡ all_below limit frames
-highest-below limit frames r top low e asks = rw e at asks ∙ highest-is limit frames low
 
 -- Past question 2, V and F have 16 bits, and F is above 0.
 module _ (pages frames : ℕ) (sizes : Bool) (e2 : sizes ≡ both (pages_in_range pages) (frames_in_range frames)) (h2 : not sizes ≡ false) where
@@ -100,11 +61,7 @@ module _ (pages frames count entries : ℕ) (ps fs : List ℕ) where
       pub policy-3 : not counts ≡ true → 3 ≡ first_no (policy_questions true true (arrays_exact policy) policy)
       policy-3 h = asked-3 true true (arrays_exact policy) policy refl sizes is2 h2 counts is3 h
 
-      module _ (h3 : not counts ≡ false) (exact : Bool) (e4 : exact ≡ both (eqb (length ps) count) (eqb (length fs) count)) where
-        is4 : exact ≡ arrays_exact policy
-        unfolding arrays_exact
-        is4 = e4
-
+      module _ (h3 : not counts ≡ false) (exact : Bool) (is4 : exact ≡ arrays_exact policy) where
         pub policy-4 : not exact ≡ true → 4 ≡ first_no (policy_questions true true (arrays_exact policy) policy)
         policy-4 h = asked-4 true true (arrays_exact policy) policy refl sizes is2 h2 counts is3 h3 (sym is4 ∙ not-true exact h)
 

@@ -1,153 +1,121 @@
 // Document 02, K2, "Making the policy at the factory": a policy record written into a lent buffer.
-// All questions come before the first byte is written. Those of the sizes, of one page and of one frame are the policy crate's.
+// All questions come before the first byte is written. Those of the sizes, of the pages and of the frames are the policy crate's.
 
 #![tactic(auto)]
 
-ghost use Rattle.std.specs.Prelude.{◌≡◌, true, [], ◌∷◌, ◌+◌, ◌*◌, ◌<◌, ◌≤◌, max, eqb, length};
+ghost use Rattle.std.specs.Prelude.{◌≡◌, true, List, ◌+◌, ◌*◌, ◌≤◌, length};
 ghost use Rattle.std.proofs.lemmas.List.Edits.{sets};
-ghost use Rattle.model.specs.Basics.{both};
-ghost use Rattle.model.specs.Questions.{first_no, rising, all_below, policy_questions};
+ghost use Rattle.model.specs.Policy as model;
+ghost use Rattle.model.specs.Questions.{first_no, policy_questions};
 ghost use Rattle.model.specs.Calls.{reply_of};
+ghost use Rattle.model.specs.Refusals.{refused_by};
 ghost use Rattle.record_model.specs.Record.{policy_by, number_bytes, numbers_bytes, record_of, arrays_exact, write_record_questions, written, write_record_of};
-ghost use Rattle.record.specs.Arrays.{highest_of};
 
-use model::Answer;
+use model::{Answer, Refusal};
+use std::marker::Model;
 
 // The bytes of the four sizes, which come first.
 const SIZES: usize = 8;
 
-// Question 4: each array has exactly n numbers.
-fn arrays_exact(count: u64, pages_listed: usize, frames_listed: usize) -> bool
-    ensures { result ≡ both (eqb pages_listed count) (eqb frames_listed count) }
-{
-    ranges::both(pages_listed as u64 == count, frames_listed as u64 == count)
+// A policy as the call names it: V, F, n and e, of which none is cut before its question, and the two arrays.
+#[derive(Drop)]
+struct Policy<'a> {
+    pages: u64,
+    frames: u64,
+    count: u64,
+    entry_count: u64,
+    listed_pages: &'a [u16],
+    listed_frames: &'a [u16],
 }
 
-// Question 5.
-fn pages_rising(listed: &[u16], pages: u16) -> bool
-    ensures { result ≡ rising pages 0 listed.now }
-{
-    let mut least: u16 = 0;
-    let mut i = 0;
-    while i < listed.len() {
-        let page = listed[i];
-        if !policy::page_rises(pages, least, page) {
-            return false;
+impl<'a> Model for Policy<'a> {
+    ghost Value = { model.Policy };
+
+    ghost view = { λ p. policy_by p.pages p.frames p.count p.entry_count p.listed_pages.now p.listed_frames.now };
+}
+
+impl Policy<'_> {
+    // Question 4: each array has exactly n numbers.
+    #[tactic(auto, unfolding(record_model::specs::Record::arrays_exact, model::specs::Basics::both))]
+    fn arrays_exact(&self) -> bool
+        ensures { result ≡ arrays_exact self.now }
+    {
+        self.listed_pages.len() as u64 == self.count
+            && self.listed_frames.len() as u64 == self.count
+    }
+
+    // Questions 2 to 6. Past question 2, V and F have 16 bits.
+    fn question(&self) -> Result<(), Refusal>
+        ensures { refused_by result ≡ first_no (policy_questions true true (arrays_exact self.now) self.now) }
+    {
+        if !policy::sizes_in_range(self.pages, self.frames) {
+            return Err(Refusal::SizeOutOfRange);
         }
-        least = page + 1;
-        i += 1;
+        if !policy::counts_in_range(self.pages, self.count, self.entry_count) {
+            return Err(Refusal::CountOutOfRange);
+        }
+        if !self.arrays_exact() {
+            return Err(Refusal::RecordLength);
+        }
+        if !policy::pages_rising(self.pages as u16, self.listed_pages.iter().copied()) {
+            return Err(Refusal::ListedPage);
+        }
+        if !policy::frames_below(self.frames as u16, self.listed_frames.iter().copied()) {
+            return Err(Refusal::ListedFrame);
+        }
+        Ok(())
     }
-    true
+
+    // The bytes of the record. Question 3 has shown what is required.
+    fn record_length(&self) -> u64
+        requires { self.now.count ≤ 2048 }
+        ensures { result ≡ 8 + 4 * self.now.count }
+    {
+        SIZES as u64 + 4 * self.count
+    }
+
+    // All questions: after 6 come 7, where the run for the call's numbers does not fit, and 16, by the buffer's length.
+    #[tactic(auto, using(crate::proofs::WriteLaws::asking))]
+    fn write_question(&self, numbers_fit: bool, room: usize) -> Result<(), Refusal>
+        ensures { refused_by result ≡ first_no (write_record_questions numbers_fit self.now room) }
+    {
+        self.question()?;
+        if !numbers_fit {
+            return Err(Refusal::StateOrTable);
+        }
+        if (room as u64) < self.record_length() {
+            return Err(Refusal::BufferTooShort);
+        }
+        Ok(())
+    }
+
+    // The record into a buffer that is long enough: question 16. Questions 2 to 6 have found no fault. Bytes past the record stay as they are.
+    fn put(&self, buffer: &mut [u8])
+        requires accepted { first_no (policy_questions true true (arrays_exact self.now) self.now) ≡ 0 }
+        requires room { 8 + 4 * self.now.count ≤ length buffer.old }
+        ensures { buffer.new ≡ sets buffer.old 0 (record_of self.now) }
+    {
+        // "Sizes first: V, F, n, e, 16 bits each."
+        put_number(buffer, 0, self.pages as u16);
+        put_number(buffer, 2, self.frames as u16);
+        put_number(buffer, 4, self.count as u16);
+        put_number(buffer, 6, self.entry_count as u16);
+        put_numbers(buffer, SIZES, self.listed_pages);
+        let frames_at = SIZES + 2 * self.listed_pages.len();
+        put_numbers(buffer, frames_at, self.listed_frames);
+    }
 }
 
-fn larger(a: u16, b: u16) -> u16
-    ensures { result ≡ max a b }
-{
-    if a < b { b } else { a }
-}
-
-// The highest number of an array. With no way out of its loop the compiler takes eight numbers at once.
-fn highest(numbers: &[u16]) -> u16
-    ensures { result ≡ highest_of numbers.now }
-{
-    let mut so_far: u16 = 0;
-    let mut i = 0;
-    while i < numbers.len() {
-        so_far = larger(so_far, numbers[i]);
-        i += 1;
-    }
-    so_far
-}
-
-// Question 6: every frame is below F where the highest is. F is above 0, as question 2 has shown.
-fn frames_below(listed: &[u16], frames: u16) -> bool
-    requires { 1 ≤ frames }
-    ensures { result ≡ all_below frames listed.now }
-{
-    policy::frame_below(frames, highest(listed))
-}
-
-// The first no among questions 2 to 6, or 0. Past question 2, V and F have 16 bits.
-fn policy_question(
-    pages: u64,
-    frames: u64,
-    count: u64,
-    entry_count: u64,
-    listed_pages: &[u16],
-    listed_frames: &[u16],
-) -> u64
-    ensures { result ≡ first_no (policy_questions true true
-        (arrays_exact (policy_by pages frames count entry_count listed_pages.now listed_frames.now))
-        (policy_by pages frames count entry_count listed_pages.now listed_frames.now)) }
-{
-    if !policy::sizes_in_range(pages, frames) {
-        return 2;
-    }
-    if !policy::counts_in_range(pages, count, entry_count) {
-        return 3;
-    }
-    if !arrays_exact(count, listed_pages.len(), listed_frames.len()) {
-        return 4;
-    }
-    if !pages_rising(listed_pages, pages as u16) {
-        return 5;
-    }
-    if !frames_below(listed_frames, frames as u16) {
-        return 6;
-    }
-    0
-}
-
-// The bytes of a record that lists n pages. Question 3 has shown what is required.
-fn record_length(count: u64) -> u64
-    requires { count ≤ 2048 }
-    ensures { result ≡ 8 + 4 * count }
-{
-    SIZES as u64 + 4 * count
-}
-
-// The first no of all questions, or 0: after 6 come 7, where the run for the call's numbers does not fit, and 16, by the buffer's length.
-fn write_question(
-    pages: u64,
-    frames: u64,
-    count: u64,
-    entry_count: u64,
-    listed_pages: &[u16],
-    listed_frames: &[u16],
-    numbers_fit: bool,
-    room: usize,
-) -> u64
-    ensures { result ≡ first_no (write_record_questions numbers_fit
-        (policy_by pages frames count entry_count listed_pages.now listed_frames.now) room) }
-{
-    let question = policy_question(
-        pages,
-        frames,
-        count,
-        entry_count,
-        listed_pages,
-        listed_frames,
-    );
-    if question != 0 {
-        return question;
-    }
-    if !numbers_fit {
-        return 7;
-    }
-    if (room as u64) < record_length(count) {
-        return 16;
-    }
-    0
-}
-
-// A number into two bytes of the buffer, the lower one first. Question 16 has shown that they are there.
+// A number into two bytes of the buffer, the lower one first. Question 16 has shown that they are there. By a place: a proof knows nothing of what is
+// written through `chunks_exact_mut`.
+#[tactic(auto, using(crate::proofs::WriteLaws::number_put))]
 fn put_number(buffer: &mut [u8], at: usize, number: u16)
-    requires { at + 1 < length buffer.old }
+    requires { at + 2 ≤ length buffer.old }
     ensures { buffer.new ≡ sets buffer.old at (number_bytes number) }
 {
-    let next = at + 1;
-    buffer[at] = (number % 256) as u8;
-    buffer[next] = (number / 256) as u8;
+    let [low, high] = number.to_le_bytes();
+    buffer[at] = low;
+    buffer[at + 1] = high;
 }
 
 // Numbers in a row.
@@ -155,46 +123,14 @@ fn put_numbers(buffer: &mut [u8], at: usize, numbers: &[u16])
     requires { at + 2 * length numbers.now ≤ length buffer.old }
     ensures { buffer.new ≡ sets buffer.old at (numbers_bytes numbers.now) }
 {
-    let mut place = at;
-    let mut i = 0;
-    while i < numbers.len() {
-        put_number(buffer, place, numbers[i]);
-        place += 2;
-        i += 1;
+    for (i, number) in numbers.iter().enumerate() {
+        put_number(buffer, at + 2 * i, *number);
     }
 }
 
-// "Sizes first: V, F, n, e, 16 bits each."
-fn put_sizes(buffer: &mut [u8], pages: u16, frames: u16, count: u16, entry_count: u16)
-    requires { 8 ≤ length buffer.old }
-    ensures { buffer.new ≡ sets buffer.old 0 (numbers_bytes (pages ∷ frames ∷ count ∷ entry_count ∷ [])) }
-{
-    put_number(buffer, 0, pages);
-    put_number(buffer, 2, frames);
-    put_number(buffer, 4, count);
-    put_number(buffer, 6, entry_count);
-}
-
-// A record into a buffer that is long enough: question 16. Bytes past it stay as they are.
-fn put_record(
-    buffer: &mut [u8],
-    pages: u16,
-    frames: u16,
-    count: u16,
-    entry_count: u16,
-    listed_pages: &[u16],
-    listed_frames: &[u16],
-)
-    requires { 8 + 2 * length listed_pages.now + 2 * length listed_frames.now ≤ length buffer.old }
-    ensures { buffer.new ≡ sets buffer.old 0
-        (record_of (policy_by pages frames count entry_count listed_pages.now listed_frames.now)) }
-{
-    put_sizes(buffer, pages, frames, count, entry_count);
-    put_numbers(buffer, SIZES, listed_pages);
-    put_numbers(buffer, SIZES + 2 * listed_pages.len(), listed_frames);
-}
-
-// Writes a policy's record into the buffer. `numbers_fit`: the run for the call's numbers, where it is lent one, has its length.
+// Writes a policy's record into the buffer. `numbers_fit`: the run for the call's numbers, where it is lent one, has its length. The parameters are those
+// of the C interface.
+#[tactic(auto, using(crate::proofs::WriteLaws::settling))]
 pub fn write_record(
     pages: u64,
     frames: u64,
@@ -208,27 +144,15 @@ pub fn write_record(
     ensures { written (reply_of result) buffer.new ≡ write_record_of numbers_fit
         (policy_by pages frames count entry_count listed_pages.now listed_frames.now) buffer.old }
 {
-    let question = write_question(
+    let policy = Policy {
         pages,
         frames,
         count,
         entry_count,
         listed_pages,
         listed_frames,
-        numbers_fit,
-        buffer.len(),
-    );
-    if question != 0 {
-        return Answer::Refused(question);
-    }
-    put_record(
-        buffer,
-        pages as u16,
-        frames as u16,
-        count as u16,
-        entry_count as u16,
-        listed_pages,
-        listed_frames,
-    );
-    Answer::Done(record_length(count), 0)
+    };
+    policy.write_question(numbers_fit, buffer.len())?;
+    policy.put(buffer);
+    Ok((policy.record_length(), 0))
 }

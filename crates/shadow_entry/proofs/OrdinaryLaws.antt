@@ -40,8 +40,8 @@ parts-63 (suc zero) f r a b c = (omega arith, omega arith)
 parts-63 (suc (suc t)) f r a b c = absurd (omega arith)
 
 -- A number shifted by 12, with what stands below it, fits 64 bits.
-pub copied-fits : (y r w : ℕ) → y < 2 ^ 52 → r < 2 ^ 5 → w < 2 ^ 10 → y * 2 ^ 12 + r + w < 2 ^ 64
-copied-fits y r w a b c = omega arith
+pub copied_fits : (y r w : ℕ) → y < 2 ^ 52 → r < 2 ^ 5 → w < 2 ^ 10 → y * 2 ^ 12 + r + w < 2 ^ 64
+copied_fits y r w a b c = omega arith
 
 -- A valid entry has nothing between its frame and bit 63, so that a shift brings bit 63 to bit 9 and nothing else with it.
 top-to-9 : (entry : ℕ) → entry < 2 ^ 64 → valid entry ≡ true → entry / 2 ^ 54 ≡ entry / 2 ^ 63 * 2 ^ 9
@@ -49,11 +49,11 @@ unfolding frame_of
 top-to-9 entry h p = let parts : entry / 2 ^ 12 ≡ entry / 2 ^ 63 * 2 ^ 51 + frame_of entry = above-12 entry p in omega (arith, parts)
 
 -- An ordinary entry: what a valid entry has at bits 0 to 4 and from bit 12 on, and bit 63 copied to bit 9.
-pub ordinary-is : (user : Bool) (entry : ℕ) (u : Bool) (w : ℕ) → entry < 2 ^ 64 → valid entry ≡ true → u ≡ user_bit entry
+pub ordinary_is : (user : Bool) (entry : ℕ) (u : Bool) (w : ℕ) → entry < 2 ^ 64 → valid entry ≡ true → u ≡ user_bit entry
     → w ≡ cond (not user || not u) (2 ^ 63) 0
     → bit_or (entry / 2 ^ 12 * 2 ^ 12 + entry % 2 ^ 5 + entry / 2 ^ 54) w ≡ ordinary user (fields_of entry)
 unfolding ordinary fields_of writable user_bit write_through cache_disable no_execute frame_of
-ordinary-is user entry u w h p q r =
+ordinary_is user entry u w h p q r =
     let t : ℕ = entry / 2 ^ 63 in
     let f : ℕ = frame_of entry in
     let odd : entry % 2 ≡ 1 = (valid-parts entry p).0 in
@@ -83,10 +83,10 @@ top-on false = refl
 bits-kept : (r w u t c : ℕ) → w ≤ 1 → r ≡ 1 + w * 2 + u * 4 + t * 8 + c * 16 → r / 4 * 4 ≡ u * 4 + t * 8 + c * 16
 bits-kept r w u t c h e = omega arith
 
-pub inspected-is : (entry : ℕ) → entry < 2 ^ 64 → valid entry ≡ true
+pub inspected_is : (entry : ℕ) → entry < 2 ^ 64 → valid entry ≡ true
     → bit_or (entry / 2 ^ 12 * 2 ^ 12 + entry % 2 ^ 5 / 2 ^ 2 * 2 ^ 2 + 2 ^ 0 + 2 ^ 9) (2 ^ 63) ≡ ordinary true (inspected (fields_of entry))
 unfolding ordinary inspected fields_of writable user_bit write_through cache_disable no_execute frame_of ordinary_no_execute either flag
-inspected-is entry h p =
+inspected_is entry h p =
     let t : ℕ = entry / 2 ^ 63 in
     let f : ℕ = frame_of entry in
     let r : ℕ = entry % 2 ^ 5 / 4 * 4 + 1 + 2 ^ 9 in

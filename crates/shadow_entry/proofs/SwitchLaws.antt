@@ -60,11 +60,11 @@ runs-in-kernel : (a : Bool) → flag a 0 ≡ flag (not (cond a false true)) 0
 runs-in-kernel true = refl
 runs-in-kernel false = refl
 
-pub executable-user : (user : Bool) (entry : ℕ) → user ≡ true
+pub executable_user : (user : Bool) (entry : ℕ) → user ≡ true
     → bit_and ((entry * 2 ^ 61) % 2 ^ 64) ((2 ^ 64 - 1) - bit_or ((entry * 2 ^ 53) % 2 ^ 64) ((entry * 2 ^ 54) % 2 ^ 64)) / 2 ^ 63
     ≡ flag (not (no_execute_in user entry)) 0
 unfolding no_execute_in approved_no_execute ordinary_no_execute
-executable-user user entry t =
+executable_user user entry t =
     let mark : ℕ = (entry * 2 ^ 53) % 2 ^ 64 in
     let never : ℕ = (entry * 2 ^ 54) % 2 ^ 64 in
     let e : bit_or mark never / 2 ^ 63 ≡ bit_or (flag (approved_mark entry) 0) (flag (kernel_no_execute entry) 0) =
@@ -76,9 +76,9 @@ executable-user user entry t =
     ∙ ap₂ bit_and (top-of-2 entry) (n ∙ ap (λ (x : ℕ). 1 - x) e)
     ∙ runs-in-user (approved_mark entry) (kernel_no_execute entry) (user_bit entry))
 
-pub executable-kernel : (user : Bool) (entry : ℕ) → user ≡ false → (entry * 2 ^ 53) % 2 ^ 64 / 2 ^ 63 ≡ flag (not (no_execute_in user entry)) 0
+pub executable_kernel : (user : Bool) (entry : ℕ) → user ≡ false → (entry * 2 ^ 53) % 2 ^ 64 / 2 ^ 63 ≡ flag (not (no_execute_in user entry)) 0
 unfolding no_execute_in approved_no_execute ordinary_no_execute
-executable-kernel user entry t = rw t (top-of-10 entry ∙ runs-in-kernel (approved_mark entry))
+executable_kernel user entry t = rw t (top-of-10 entry ∙ runs-in-kernel (approved_mark entry))
 
 -- Whether bit 63 is turned: where the entry is present (p) and the bit (n) is what may be executed (the contrary of m).
 flip : (p n m : Bool) → ℕ
@@ -162,8 +162,8 @@ module _ (user : Bool) (entry x : ℕ) (fits : entry < 2 ^ 64) (small : x < 2 ^ 
       ∙ flip-counts (present entry) (no_execute entry) (no_execute_in user entry) (entry % 2 ^ 63) entry (switched user entry) entry-parts
       (sym change-switches ∙ result_parts)
 
-  pub change-is : (bit_xor entry (change entry x) ≡ switched user entry)
+  pub change_is : (bit_xor entry (change entry x) ≡ switched user entry)
       × (change entry x / 2 ^ 63 ≡ differs entry (switched user entry))
       × (change entry x / 2 ^ 63 ≤ 1)
-  change-is =
+  change_is =
       (change-switches, change-counts, omega (arith, and_le_r ((2 ^ 64 - 1) - bit_xor entry x) ((entry * 2 ^ 63) % 2 ^ 64)))

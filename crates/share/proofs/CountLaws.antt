@@ -1,31 +1,31 @@
--- Laws of a count that goes on number by number: before the first, one more, and after the last.
-use Prim.Native.Nat.{ℕ, suc, ◌+◌, ◌-◌, ◌*◌, ◌/◌, ◌%◌, ◌≤◌, ◌<◌}
-use mathlib.Core.Bool.{Bool, cond}
+-- Laws of a count over a filter, and of a quotient to the nearest.
+use Prim.Native.Nat.{ℕ, zero, suc, ◌+◌, ◌*◌, ◌/◌, ◌%◌, ◌≤◌, ◌<◌}
+use mathlib.Core.Bool.{Bool, true, false}
 use mathlib.Core.List.{List}
-use mathlib.Core.Path.{◌≡◌}
-use mir.Syntax.{w64}
-use mir.Val.{Fits}
+use lib.ListN.{length}
+use mathlib.Core.Path.{◌≡◌, refl}
 use borrow.Author.Tests.{lt-ltb, le-ltb}
-use native.Mathlib.Nat.{zero-add, sub-zero, mod-le, div-le_self}
 use native.Mathlib.Numerals.{add-one}
 use native.Mathlib.Omega.{arith}
+use Rattle.std.specs.List.{filter, range_with_len}
 use Rattle.model.specs.Guard.{has_bit}
 use Rattle.drill_model.specs.Drill.{count_from, nearest, share}
 
-pub count-begins : (test : ℕ → Bool) (n : ℕ) → 0 + count_from test 0 (n - 0) ≡ count_from test 0 n
-count-begins test n = rw (zero-add, sub-zero)
+-- As many numbers pass a filter as are counted, and no more than there are.
+abbrev Kept : (ℕ → Bool) → ℕ → ℕ → Type 0
+Kept test first n = (length (filter test (range_with_len first n)) ≡ count_from test first n) × (count_from test first n ≤ n)
 
-pub count-more : (test : ℕ → Bool) {total w : ℕ} (count at n : ℕ) (b : Bool) → at < n → w ≡ cond b 1 0 → b ≡ test at
-    → count + count_from test at (n - at) ≡ total → (count + w) + count_from test (at + 1) (n - (at + 1)) ≡ total
+count-kept : (test : ℕ → Bool) (first n : ℕ) → Kept test first n
 unfolding count_from
-count-more test {total} {w} count at n b p e f h = go (n - (at + 1)) (let d : n - at ≡ suc (n - (at + 1)) = omega arith in d)
+count-kept test first zero = (refl, omega arith)
+count-kept test first (suc n) = at (test first) refl (count-kept test (suc first) n)
   where
-    go : (k : ℕ) → n - at ≡ suc k → (count + w) + count_from test (at + 1) k ≡ total
-    go k d = rw (add-one, e, f) (let g : count + (cond (test at) 1 0 + count_from test (suc at) k) ≡ total = rw d at h in omega arith)
+    at : (b : Bool) → test first ≡ b → Kept test (suc first) n → Kept test first (suc n)
+    at true e h = rw (e, add-one) (let (p, q) = h in (omega arith, omega arith))
+    at false e h = rw (e, add-one) (let (p, q) = h in (omega arith, omega arith))
 
-pub count-over : (test : ℕ → Bool) {total : ℕ} (count at n : ℕ) → n ≤ at → count + count_from test at (n - at) ≡ total → count ≡ total
-unfolding count_from
-count-over test count at n p h = let d : n - at ≡ 0 = omega arith in let g : count + 0 ≡ _ = rw d at h in omega arith
+pub count-filtered : (test : ℕ → Bool) {r : ℕ} (n : ℕ) → r ≡ length (filter test (range_with_len 0 n)) → (r ≡ count_from test 0 n) × (r ≤ n)
+count-filtered test n e = rw e (let (p, q) = count-kept test 0 n in (p, omega arith))
 
 -- The share of excluded frames: of no frames, and by their count.
 pub share-of-none : {frames : ℕ} (exclusion : List ℕ) → frames ≡ 0 → 0 ≡ share frames exclusion
@@ -47,17 +47,10 @@ unfolding nearest
 nearest-up n d p = rw (le-ltb (2 * (n % d)) d (omega arith), lt-ltb d (2 * (n % d)) p)
 
 -- At an exact half, by whether the quotient is even.
-pub nearest-even : (n d : ℕ) → d ≤ 2 * (n % d) → 2 * (n % d) ≤ d → n / d % 2 ≡ 0 → n / d ≡ nearest n d
+pub nearest-even : (n d : ℕ) → 2 * (n % d) ≡ d → n / d % 2 ≡ 0 → n / d ≡ nearest n d
 unfolding nearest
-nearest-even n d p q e = rw (le-ltb (2 * (n % d)) d p, le-ltb d (2 * (n % d)) q) (omega arith)
+nearest-even n d p e = rw (le-ltb (2 * (n % d)) d (omega arith), le-ltb d (2 * (n % d)) (omega arith)) (omega arith)
 
-pub nearest-odd : (n d : ℕ) → d ≤ 2 * (n % d) → 2 * (n % d) ≤ d → (n / d % 2 ≡ 0 → ⊥) → n / d + 1 ≡ nearest n d
+pub nearest-odd : (n d : ℕ) → 2 * (n % d) ≡ d → (n / d % 2 ≡ 0 → ⊥) → n / d + 1 ≡ nearest n d
 unfolding nearest
-nearest-odd n d p q e = rw (le-ltb (2 * (n % d)) d p, le-ltb d (2 * (n % d)) q) (omega arith)
-
--- What a division leaves, and its quotient, are at most what is divided: they fit their room.
-pub twice-fits : (count frames : ℕ) → count ≤ frames → frames < 65536 → Fits w64 (2 * (100 * count % frames))
-twice-fits count frames p q = let r : 100 * count % frames ≤ 100 * count = mod-le (100 * count) frames in omega arith
-
-pub next_fits : (count frames : ℕ) → count ≤ frames → frames < 65536 → Fits w64 (100 * count / frames + 1)
-next_fits count frames p q = let r : 100 * count / frames ≤ 100 * count = div-le_self (100 * count) frames in omega arith
+nearest-odd n d p e = rw (le-ltb (2 * (n % d)) d (omega arith), le-ltb d (2 * (n % d)) (omega arith)) (omega arith)

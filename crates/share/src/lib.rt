@@ -2,29 +2,18 @@
 
 #![tactic(auto)]
 
-ghost use Rattle.std.specs.Prelude.{◌*◌, ◌≤◌, cond, ◌≡◌};
+ghost use Rattle.std.specs.Prelude.{◌*◌, ◌≤◌, ◌≡◌};
 ghost use Rattle.model.specs.Guard.{has_bit};
 ghost use Rattle.drill_model.specs.Drill.{count_from, nearest, share};
 
-// 1 where b holds, and else 0.
-fn one(b: bool) -> u64
-    ensures { (result ≡ cond b 1 0) × (result ≤ 1) }
-{
-    if b { 1 } else { 0 }
-}
+use std::cmp::Ordering;
 
 // How many of the frames are excluded.
 fn excluded_count(frames: u16, exclusion: &[u8]) -> u64
     ensures { (result ≡ count_from (has_bit exclusion.now) 0 frames) × (result ≤ frames) }
 {
-    let mut count: u64 = 0;
-    let mut frame: u64 = 0;
-    let end = frames as u64;
-    while frame < end {
-        count += one(bitmap::test_bit(exclusion, frame));
-        frame += 1;
-    }
-    count
+    let excluded = (0..frames as u64).filter(|frame| bitmap::test_bit(exclusion, *frame));
+    excluded.count() as u64
 }
 
 // So many frames in percent of all, to the nearest, an exact half to the even number (K7).
@@ -36,13 +25,11 @@ fn percent(count: u64, frames: u16) -> u64
     let down = 100 * count / all;
     let next = down + 1;
     let twice = 2 * (100 * count % all);
-    if twice < all {
-        return down;
+    match twice.cmp(&all) {
+        Ordering::Less => down,
+        Ordering::Greater => next,
+        Ordering::Equal => { if down % 2 == 0 { down } else { next } }
     }
-    if all < twice {
-        return next;
-    }
-    if down % 2 == 0 { down } else { next }
 }
 
 // The share of excluded frames in percent. Of no frames it is 0.

@@ -1,97 +1,106 @@
--- Laws of the start's loops, a step and the end of each: a table filled, bytes copied, places set, frames excluded, entry pages read.
-use Prim.Native.Nat.{ℕ, suc, ◌+◌, ◌-◌, ◌*◌, ◌/◌, ◌≤◌, ◌<◌}
+-- Laws of the start's loops, a step and the end of each: places set, frames excluded, entry pages read.
+use Prim.Native.Nat.{ℕ, zero, suc, ◌+◌, ◌-◌, ◌*◌, ◌≤◌, ◌<◌}
 use mathlib.Core.Bool.{Bool, true, false, cond}
-use mathlib.Core.List.{List, ◌++◌, append-nil}
+use mathlib.Core.List.{List, [], ◌∷◌}
+use mathlib.Core.Logic.{◌⊎◌, inl, inr}
+use Rattle.std.proofs.lemmas.List.{nil_from_length}
 use mathlib.Core.Path.{◌≡◌, refl, sym, ap, ◌∙◌}
 use lib.Dec.{ltb, eqb}
-use lib.ListN.{length, get_or, set, take, drop, replicate}
-use lib.Seq.{take-suc, drop-cons, drop-length, append_snoc, set_at, length-take-le}
-use native.Mathlib.Numerals.{add-one}
+use lib.ListN.{length, set, replicate}
 use native.Mathlib.Omega.{arith}
-use borrow.Author.Fill.{fill_more}
 use borrow.Author.Tests.{eqb-true, eqb-false, lt-ltb, le-ltb, ltb-true, ltb-false}
 use Rattle.model.specs.Guard.{with_bit}
-use Rattle.model.specs.Policy.{number_at, numbers_at}
+use Rattle.model.specs.Policy.{number_at, numbers_at, policy_of}
 use Rattle.model.specs.Bits.{approved}
-use Rattle.model.specs.Questions.{all_below}
+use Rattle.model.specs.Questions.{all_below, first_no, policy_questions}
 use Rattle.laws.proofs.TableLaws.{table_same, set-table, table-const}
-use Rattle.laws.proofs.PolicyLaws.{numbers_at-none, all_below-head, all_below-tail}
-use Rattle.policy.proofs.RecordLaws.{numbers-front}
+use Rattle.laws.proofs.PolicyLaws.{Passed, policy-passed, numbers_at-none, numbers_at-more, length-numbers_at, all_below-head, all_below-tail, all_below-wider}
 use Rattle.start.specs.Start.{stored_each, approved_each, with_each, entry_table}
 
--- A table filled with v up to place i.
-module _ (t t₀ : List ℕ) (i v : ℕ) (e : t ≡ replicate i v ++ drop i t₀) where
-  pub fill_step : i < length t → length t ≡ length t₀ → set t i v ≡ replicate (i + 1) v ++ drop (i + 1) t₀
-  fill_step h l = rw e (fill_more i v t₀ (omega arith))
+-- The numbers that are left, at the first of them.
+pub head-below : (limit x : ℕ) (xs rest : List ℕ) → xs ≡ x ∷ rest → all_below limit xs ≡ true → x < limit
+head-below limit x xs rest there h = all_below-head limit x rest (rw there at h)
 
-  pub fill-ends : length t ≤ i → length t ≡ length t₀ → i ≤ length t₀ → t ≡ replicate (length t₀) v
-  fill-ends h l b =
-      let same : i ≡ length t₀ = omega arith in
-      e ∙ rw (same, drop-length t₀) (append-nil (replicate (length t₀) v))
+pub tail-below : (limit x : ℕ) (xs rest : List ℕ) → xs ≡ x ∷ rest → all_below limit xs ≡ true → all_below limit rest ≡ true
+tail-below limit x xs rest there h = all_below-tail limit x rest (rw there at h)
 
--- The first i bytes copied.
-module _ (from t t₀ : List ℕ) (i : ℕ) (e : t ≡ take i from ++ drop i t₀) where
-  pub copy_step : i < length t → length t ≡ length t₀ → length t₀ ≤ length from → set t i (get_or from i 0) ≡ take (i + 1) from ++ drop (i + 1) t₀
-  copy_step h l b =
-      let inside : i < length t₀ = omega arith in
-      let here : i < length from = omega arith in
-      let long : length (take i from) ≡ i = length-take-le i from (omega arith) in
-      rw (e, drop-cons t₀ i 0 inside, set_at (take i from) (get_or t₀ i 0) (drop (suc i) t₀) (get_or from i 0) i long, add-one, take-suc from i 0 here)
-      (sym (append_snoc (take i from) (get_or from i 0) (drop (suc i) t₀)))
+-- A place set: the front of both lists is taken off.
+module _ (ps fs : List ℕ) (page frame : ℕ) (pages frames : List ℕ) (p : ps ≡ page ∷ pages) (f : fs ≡ frame ∷ frames) where
+  pub listed-map : (t whole : List ℕ) → stored_each ps fs t ≡ whole → stored_each pages frames (set t page frame) ≡ whole
+  unfolding stored_each
+  listed-map t whole e = rw (p, f) at e
 
-  pub copy-ends : length t ≤ i → length t ≡ length t₀ → i ≤ length t₀ → t ≡ take (length t₀) from
-  copy-ends h l b =
-      let same : i ≡ length t₀ = omega arith in
-      e ∙ rw (same, drop-length t₀) (append-nil (take (length t₀) from))
+  pub listed-shadow : (t whole : List ℕ) (entry : ℕ) → entry ≡ approved false frame → stored_each ps (approved_each fs) t ≡ whole
+      → stored_each pages (approved_each frames) (set t page entry) ≡ whole
+  unfolding stored_each approved_each
+  listed-shadow t whole entry made e = rw made (rw (p, f) at e)
 
--- A place set: the list's front is taken off, and the readers have come to what is left.
-module _ (bytes : List ℕ) (page_at left page : ℕ) (read : page ≡ number_at bytes page_at) (more : 0 < left) where
-  -- The page is inside a table whose length is the limit, by way of the length that it had.
-  pub page-inside : (limit m n : ℕ) → all_below limit (numbers_at bytes page_at left) ≡ true → m ≡ n → n ≡ limit → page < m
-  page-inside limit m n h e d =
-      let below : page < limit = all_below-head limit page _ (rw (numbers-front bytes page_at left page (page_at + 2) read refl more) at h) in
-      omega arith
+  pub as-many : length ps ≡ length fs → length pages ≡ length frames
+  as-many same = omega (arith, rw (p, f) at same)
 
-  module _ (page_after : ℕ) (moved : page_after ≡ page_at + 2) where
-    pub pages-inside : (limit : ℕ) → all_below limit (numbers_at bytes page_at left) ≡ true → all_below limit (numbers_at bytes page_after (left - 1)) ≡ true
-    pages-inside limit h = all_below-tail limit page _ (rw (numbers-front bytes page_at left page page_after read moved more) at h)
+-- No page is left, and so no frame, or the other way round.
+pub both-end : (ps fs : List ℕ) → length ps ≡ length fs → ((u : List ℕ) × ((ps ≡ []) × (u ≡ []))) ⊎ ((u : List ℕ) × ((fs ≡ []) × (u ≡ []))) → (ps ≡ []) × (fs ≡ [])
+both-end ps fs same (inl e) = (e.1.0, nil_from_length fs (sym same ∙ ap length e.1.0))
+both-end ps fs same (inr e) = (nil_from_length ps (same ∙ ap length e.1.0), e.1.0)
 
-    module _ (frame_at frame frame_after : ℕ) (frame_read : frame ≡ number_at bytes frame_at) (frame_moved : frame_after ≡ frame_at + 2) (t whole : List ℕ) where
-      pub listed-map : stored_each (numbers_at bytes page_at left) (numbers_at bytes frame_at left) t ≡ whole
-          → stored_each (numbers_at bytes page_after (left - 1)) (numbers_at bytes frame_after (left - 1)) (set t page frame) ≡ whole
-      unfolding stored_each
-      listed-map e =
-          rw (numbers-front bytes page_at left page page_after read moved more, numbers-front bytes frame_at left frame frame_after frame_read frame_moved more) at e
-
-      pub listed-shadow : (entry : ℕ) → entry ≡ approved false frame
-          → stored_each (numbers_at bytes page_at left) (approved_each (numbers_at bytes frame_at left)) t ≡ whole
-          → stored_each (numbers_at bytes page_after (left - 1)) (approved_each (numbers_at bytes frame_after (left - 1))) (set t page entry) ≡ whole
-      unfolding stored_each approved_each
-      listed-shadow entry made e =
-          rw made
-          (rw (numbers-front bytes page_at left page page_after read moved more, numbers-front bytes frame_at left frame frame_after frame_read frame_moved more)
-          at e)
-
--- A frame below 4,096 has a byte in the buffer, and what is left of the frames is below it too.
-pub frame-inside : (bytes : List ℕ) (at left frame : ℕ) (m n : ℕ) → frame ≡ number_at bytes at → 0 < left → all_below 4096 (numbers_at bytes at left) ≡ true
-    → m ≡ n → n ≡ 512 → frame / 8 < m
-frame-inside bytes at left frame m n read more h e d =
-    let below : frame < 4096 = all_below-head 4096 frame _ (rw (numbers-front bytes at left frame (at + 2) read refl more) at h) in
-    omega arith
-
-pub listed-end : (bytes : List ℕ) (at left : ℕ) (values t whole : List ℕ) → left ≤ 0 → stored_each (numbers_at bytes at left) values t ≡ whole → t ≡ whole
+pub listed-end : (ps values t whole : List ℕ) → ps ≡ [] → stored_each ps values t ≡ whole → t ≡ whole
 unfolding stored_each
-listed-end bytes at left values t whole h e = rw (numbers_at-none bytes at {left = left} (omega arith)) at e
+listed-end ps values t whole none e = rw none at e
 
 -- A frame excluded too.
-pub gather-step : (bytes : List ℕ) (at left frame after : ℕ) (v v' whole : List ℕ) → with_each (numbers_at bytes at left) v ≡ whole → frame ≡ number_at bytes at
-    → after ≡ at + 2 → 0 < left → v' ≡ with_bit true v frame → with_each (numbers_at bytes after (left - 1)) v' ≡ whole
+pub gather-step : (fs : List ℕ) (frame : ℕ) (frames v v' whole : List ℕ) → fs ≡ frame ∷ frames → v' ≡ with_bit true v frame → with_each fs v ≡ whole
+    → with_each frames v' ≡ whole
 unfolding with_each
-gather-step bytes at left frame after v v' whole e read moved more made = rw made (rw (numbers-front bytes at left frame after read moved more) at e)
+gather-step fs frame frames v v' whole f made e = rw made (rw f at e)
 
-pub gather-ends : (bytes : List ℕ) (at left : ℕ) (v whole : List ℕ) → left ≤ 0 → with_each (numbers_at bytes at left) v ≡ whole → v ≡ whole
+pub gather-end : (fs v whole : List ℕ) → fs ≡ [] → with_each fs v ≡ whole → v ≡ whole
 unfolding with_each
-gather-ends bytes at left v whole h e = rw (numbers_at-none bytes at {left = left} (omega arith)) at e
+gather-end fs v whole none e = rw none at e
+
+-- The entry pages that are left, at the first of them and where there is none.
+pub entries-front : (bytes : List ℕ) (i entries page : ℕ) (left rest : List ℕ) → left ≡ numbers_at bytes (8 + 2 * i) (entries - i) → left ≡ page ∷ rest
+    → (i < entries) × (page ≡ number_at bytes (8 + 2 * i)) × (rest ≡ numbers_at bytes (8 + 2 * (i + 1)) (entries - (i + 1)))
+entries-front bytes i entries page left rest are there = at (entries - i) refl
+  where
+    at : (n : ℕ) → entries - i ≡ n → (i < entries) × (page ≡ number_at bytes (8 + 2 * i)) × (rest ≡ numbers_at bytes (8 + 2 * (i + 1)) (entries - (i + 1)))
+    at zero e =
+        let none : numbers_at bytes (8 + 2 * i) (entries - i) ≡ [] = numbers_at-none bytes (8 + 2 * i) e in
+        cc (are, there, none)
+    at (suc n) e =
+        let more = numbers_at-more bytes (8 + 2 * i) (entries - i) (omega arith) in
+        let place : 8 + 2 * i + 2 ≡ 8 + 2 * (i + 1) = omega arith in
+        let fewer : entries - i - 1 ≡ entries - (i + 1) = omega arith in
+        let read : page ≡ number_at bytes (8 + 2 * i) = cc (are, there, more) in
+        let after : rest ≡ numbers_at bytes (8 + 2 * i + 2) (entries - i - 1) = cc (are, there, more) in
+        (omega arith, read, rw (← place, ← fewer) after)
+
+pub entries-begin : (bytes : List ℕ) (i entries : ℕ) → i ≡ 0 → numbers_at bytes 8 entries ≡ numbers_at bytes (8 + 2 * i) (entries - i)
+entries-begin bytes i entries none =
+    let place : 8 ≡ 8 + 2 * i = omega arith in
+    let left : entries ≡ entries - i = omega arith in
+    ap (λ (n : ℕ). numbers_at bytes n entries) place ∙ ap (numbers_at bytes (8 + 2 * i)) left
+
+pub entries-done : (bytes : List ℕ) (i entries : ℕ) (left : List ℕ) → left ≡ numbers_at bytes (8 + 2 * i) (entries - i) → left ≡ [] → entries ≤ i
+entries-done bytes i entries left are none = omega (arith, length-numbers_at bytes (8 + 2 * i) (entries - i), ap length are, ap length none)
+
+-- A record that has passed the questions: its entries are at most sixteen, its pages below V and its frames below 4,096, and as many.
+module _ (bytes : List ℕ) (asked : first_no (policy_questions true true true (policy_of bytes)) ≡ 0) where
+  abbrev passes : Passed (policy_of bytes)
+  passes = policy-passed true true true (policy_of bytes) asked
+
+  pub entries-few : (entries : ℕ) → entries ≡ number_at bytes 6 → entries ≤ 16
+  unfolding policy_of
+  entries-few entries e = let p : Passed (policy_of bytes) = passes in omega arith
+
+  pub listed-below : all_below (policy_of bytes).pages (policy_of bytes).listed_pages ≡ true
+  listed-below = passes.pages-below
+
+  pub frames-small : all_below 4096 (policy_of bytes).listed_frames ≡ true
+  frames-small = all_below-wider (policy_of bytes).frames 4096 (policy_of bytes).listed_frames passes.frames-high passes.frames-below
+
+  pub listed-many : length (policy_of bytes).listed_pages ≡ length (policy_of bytes).listed_frames
+  unfolding policy_of
+  listed-many = length-numbers_at bytes 8 (number_at bytes 4) ∙ sym (length-numbers_at bytes (8 + 2 * number_at bytes 4) (number_at bytes 4))
 
 -- Entry pages read so far, and none.
 pub entries_none : (bytes : List ℕ) → replicate 16 0 ≡ entry_table bytes 0

@@ -6,13 +6,13 @@ use mathlib.Core.Path.{◌≡◌, refl, sym, ap, fun_ext, ◌∙◌}
 use lib.Dec.{ltb, eqb}
 use lib.ListN.{length, get_or, take, replicate}
 use native.Mathlib.Omega.{arith}
-use borrow.Author.Tests.{ltb-true, ne_eqb}
+use borrow.Author.Tests.{ltb-true, lt-ltb, ne_eqb}
 use Rattle.model.specs.Basics.{either, table, member, flag}
 use Rattle.model.specs.Guard.{none, vector_bytes, byte_of, vector_of, with_bit}
-use Rattle.model.specs.Policy.{number_at, numbers_at, policy_of, frame_for, approval_for, named, first_entry, entry_pages, start_tables}
+use Rattle.model.specs.Policy.{Policy, number_at, numbers_at, policy_of, frame_for, approval_for, named, first_entry, entry_pages, start_tables}
 use Rattle.model.specs.Bits.{approved}
 use Rattle.model.specs.Questions.{all_below}
-use Rattle.laws.proofs.TableLaws.{table_same, set-table, take-table, table-const}
+use Rattle.laws.proofs.TableLaws.{get_or-table, table_same, set-table, take-table, table-const}
 use Rattle.laws.proofs.PolicyLaws.{get_or-numbers_at, all_below-head, all_below-tail, frame_for-map}
 use Rattle.laws.proofs.VectorLaws.{with_bit-length, with_bit-vector_of}
 use Rattle.start.specs.Start.{stored_each, approved_each, with_each, entry_table}
@@ -87,47 +87,25 @@ unfolding either
 either-none true = refl
 either-none false = refl
 
--- The tables by the policy that was read, as the loops leave them.
-module _ (bytes : List ℕ) (count : ℕ) (read : count ≡ number_at bytes 4) where
-  pages-are : numbers_at bytes 8 count ≡ (policy_of bytes).listed_pages
-  unfolding policy_of
-  pages-are = rw read refl
-
-  frames-are : numbers_at bytes (8 + 2 * count) count ≡ (policy_of bytes).listed_frames
-  unfolding policy_of
-  frames-are = rw read refl
-
-  pub numbers-inside : length bytes ≡ 8 + 4 * (policy_of bytes).count → 8 + 4 * count ≤ length bytes
-  unfolding policy_of
-  numbers-inside l = omega arith
-
-  pub pages-inside : (t t₀ : List ℕ) → length t ≡ length t₀ → length t₀ ≡ (policy_of bytes).pages
-      → all_below (policy_of bytes).pages (policy_of bytes).listed_pages ≡ true
-      → all_below (length t) (numbers_at bytes 8 count) ≡ true
-  pages-inside t t₀ e l h = rw (pages-are, e, l) h
-
-  pub frames-inside : all_below 4096 (policy_of bytes).listed_frames ≡ true → all_below 4096 (numbers_at bytes (8 + 2 * count) count) ≡ true
-  frames-inside h = rw frames-are h
-
-  pub shadow-is : (t t' : List ℕ) (n : ℕ) → n ≡ (policy_of bytes).pages → all_below 4096 (policy_of bytes).listed_frames ≡ true → t ≡ replicate n 0
-      → t' ≡ stored_each (numbers_at bytes 8 count) (approved_each (numbers_at bytes (8 + 2 * count) count)) t → t' ≡ (start_tables (policy_of bytes)).shadow
+-- The tables of a policy, as the loops leave them.
+module _ (policy : Policy) where
+  pub shadow-is : (t t' : List ℕ) (n : ℕ) → n ≡ policy.pages → all_below 4096 policy.listed_frames ≡ true → t ≡ replicate n 0
+      → t' ≡ stored_each policy.listed_pages (approved_each policy.listed_frames) t → t' ≡ (start_tables policy).shadow
   unfolding start_tables approval_for
-  shadow-is t t' n l h e e' =
-      e' ∙ rw (e, l, pages-are, frames-are) (shadow-set (policy_of bytes).listed_pages (policy_of bytes).listed_frames (policy_of bytes).pages h)
+  shadow-is t t' n l h e e' = e' ∙ rw (e, l) (shadow-set policy.listed_pages policy.listed_frames policy.pages h)
 
-  pub map_is : (t t' : List ℕ) (n : ℕ) → n ≡ (policy_of bytes).pages → t ≡ replicate n 65535
-      → t' ≡ stored_each (numbers_at bytes 8 count) (numbers_at bytes (8 + 2 * count) count) t → t' ≡ (start_tables (policy_of bytes)).map
+  pub map_is : (t t' : List ℕ) (n : ℕ) → n ≡ policy.pages → t ≡ replicate n 65535 → t' ≡ stored_each policy.listed_pages policy.listed_frames t
+      → t' ≡ (start_tables policy).map
   unfolding start_tables approval_for
-  map_is t t' n l e e' = e' ∙ rw (e, l, pages-are, frames-are) (map-set (policy_of bytes).listed_pages (policy_of bytes).listed_frames (policy_of bytes).pages)
+  map_is t t' n l e e' = e' ∙ rw (e, l) (map-set policy.listed_pages policy.listed_frames policy.pages)
 
-  pub vector-is : (buffer t' : List ℕ) (n : ℕ) → n ≡ vector_bytes (policy_of bytes).frames → (policy_of bytes).frames ≤ 4096
-      → all_below 4096 (policy_of bytes).listed_frames ≡ true → buffer ≡ with_each (numbers_at bytes (8 + 2 * count) count) (replicate 512 0)
-      → t' ≡ take n buffer → t' ≡ (start_tables (policy_of bytes)).exclusion
+  pub vector-is : (buffer t' : List ℕ) (n : ℕ) → n ≡ vector_bytes policy.frames → policy.frames ≤ 4096 → all_below 4096 policy.listed_frames ≡ true
+      → buffer ≡ with_each policy.listed_frames (replicate 512 0) → t' ≡ take n buffer → t' ≡ (start_tables policy).exclusion
   unfolding start_tables named
   vector-is buffer t' n l f h e e' =
-      e' ∙ (rw (e, l, frames-are) (ap (λ (v : List ℕ). take (vector_bytes (policy_of bytes).frames) (with_each (policy_of bytes).listed_frames v)) room
-      ∙ (ap (take (vector_bytes (policy_of bytes).frames)) (each-vector 4096 (policy_of bytes).listed_frames (λ _. false) h)
-      ∙ (vector-take (policy_of bytes).frames 4096 _ f ∙ ap (vector_of (policy_of bytes).frames) (fun_ext (λ g. either-none (member g (policy_of bytes).listed_frames)))))))
+      e' ∙ (rw (e, l) (ap (λ (v : List ℕ). take (vector_bytes policy.frames) (with_each policy.listed_frames v)) room
+      ∙ (ap (take (vector_bytes policy.frames)) (each-vector 4096 policy.listed_frames (λ _. false) h)
+      ∙ (vector-take policy.frames 4096 _ f ∙ ap (vector_of policy.frames) (fun_ext (λ g. either-none (member g policy.listed_frames)))))))
 
 -- Sixteen entry pages, of which as many as there are entries are listed pages.
 pub entries-are : (bytes : List ℕ) (entries : ℕ) → entries ≡ number_at bytes 6 → (policy_of bytes).entry_count ≤ (policy_of bytes).count
@@ -142,7 +120,7 @@ entries-are bytes entries e h = rw e (table_same 16 _ _ (λ i below. at i (ltb i
         rw t (sym (get_or-numbers_at bytes 8 (number_at bytes 4) i (omega arith)))
     at i false t = rw t refl
 
--- The first listed page is the number behind the sizes.
-pub first-is : (bytes : List ℕ) → 1 ≤ (policy_of bytes).count → number_at bytes 8 ≡ get_or (policy_of bytes).listed_pages 0 0
-unfolding policy_of
-first-is bytes h = sym (get_or-numbers_at bytes 8 (number_at bytes 4) 0 h)
+-- The first of them is the first listed page.
+pub first-is : (policy : Policy) → 1 ≤ policy.entry_count → get_or (entry_pages policy) 0 0 ≡ get_or policy.listed_pages 0 0
+unfolding entry_pages
+first-is policy some = get_or-table 16 _ 0 0 (omega arith) ∙ rw (lt-ltb 0 policy.entry_count some) refl

@@ -1,2 +1,2 @@
--- What the start gives, and what its loops have done to a table.
+-- What the loops of the start have done to a table.
 pub mod Start

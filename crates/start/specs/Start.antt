@@ -1,19 +1,10 @@
--- What the start gives, and the tables after each of its loops: places set one by one, frames excluded one by one.
+-- The tables after each of the start's loops: places set one by one, frames excluded one by one.
 -- These stand in the promises of the functions below the start. Its own promise names the model's definitions alone.
 use Rattle.std.specs.Prelude.{ℕ, ◌+◌, ◌*◌, true, false, cond, List, [], ◌∷◌, map, ltb, set}
-use Rattle.model.specs.declared.Answer.TheVariants.{Done, Refused}
-use Rattle.model.specs.declared.Called.{Called}
 use Rattle.model.specs.Basics.{table}
 use Rattle.model.specs.Guard.{with_bit}
-use Rattle.model.specs.Policy.{Givens, number_at, policy_of, start_state, zero_state}
+use Rattle.model.specs.Policy.{number_at}
 use Rattle.model.specs.Bits.{approved}
-
--- A refused start, and an accepted one of what it is given on these bytes.
-unfoldable pub refused_start : ℕ → Called
-refused_start number = record { answer = Refused number; state = zero_state }
-
-unfoldable pub accepted_start : Givens → List ℕ → Called
-accepted_start given bytes = record { answer = Done (policy_of bytes).count (policy_of bytes).entry_count; state = start_state given (policy_of bytes) }
 
 -- The table with a value stored at each of the places, in their order.
 unfoldable pub stored_each : List ℕ → List ℕ → List ℕ → List ℕ

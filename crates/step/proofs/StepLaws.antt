@@ -1,23 +1,24 @@
 -- A law for each answer of this crate's functions: the five steps, the counts, and a page stored.
+use Rattle.std.specs.Prelude.{Some}
 use Prim.Native.Nat.{ℕ, ◌+◌, ◌/◌, ◌≤◌, ◌<◌}
-use mathlib.Core.Bool.{Bool, true, false, not, ◌&&◌, false≢true}
+use Rattle.std.specs.Prelude.{cond}
+use Rattle.std.specs.Int.{from_bool}
+use mathlib.Core.Bool.{Bool, true, false, not, false≢true}
 use mathlib.Core.List.{List}
 use mathlib.Core.Path.{◌≡◌, refl, sym, ◌∙◌}
 use native.Mathlib.Omega.{arith}
 use lib.ListN.{get_or, set}
 use lib.Seq.{set-get_or}
 use lib.Dec.{eqb}
-use borrow.Author.Tests.{eq-eqb, ne_eqb, eqb-true, eqb-false, le-leb, lt-leb, not-true, not-false}
-use Rattle.model.specs.declared.Entry.{Entry}
-use Rattle.model.specs.declared.Entry.TheVariants.{Absent, Present}
+use borrow.Author.Tests.{eq-eqb, ne_eqb, le-leb, lt-leb, not-true, not-false}
 use Rattle.model.specs.declared.Fields.{Fields}
 use Rattle.model.specs.Basics.{both, either, differs}
 use Rattle.model.specs.Guard.{none, vector_bytes, has_bit}
-use Rattle.model.specs.Bits.{fields_of, valid, taken_apart, approved, ordinary_no_execute, ordinary, inspected}
+use Rattle.model.specs.Bits.{frame_of, fields_of, valid, taken_apart, approved, ordinary_no_execute, ordinary, inspected}
 use Rattle.model.specs.Approvals.{maps, committed_slot}
 use Rattle.model.specs.Sync.{Rules, Slot, slot, step_of, step, Sweep, sweep}
-use Rattle.laws.proofs.BitLaws.{fields-apart, present-valid}
-use Rattle.step.specs.Steps.{rules_by, is_marked, stored}
+use Rattle.step.specs.declared.rules.Rules.{Rules as Given}
+use Rattle.step.specs.Steps.{rules_in, is_marked, Known, stored}
 
 -- An entry whose frame is pending is the same in both modes: with bit 9 set the ordinary rule sets bit 63.
 inspected-mode : (user : Bool) (x : Fields) → ordinary user (inspected x) ≡ ordinary true (inspected x)
@@ -25,13 +26,13 @@ unfolding ordinary inspected ordinary_no_execute either
 inspected-mode true x = refl
 inspected-mode false x = refl
 
-second : (a b : Bool) → a && b ≡ true → b ≡ true
-second true b p = p
-second false b p = absurd (false≢true p)
+pub fields-frame : (k f : ℕ) → f ≡ frame_of k → f ≡ (fields_of k).frame
+unfolding fields_of
+fields-frame k f p = p
 
 -- Steps 3 to 5 on a valid entry with the frame f, of a page that has no number in the map.
 module _ (r : Rules) (k f : ℕ) (ok : valid k ≡ true) (same : f ≡ (fields_of k).frame) where
-  parted : taken_apart k ≡ Present (fields_of k)
+  parted : taken_apart k ≡ Some (fields_of k)
   unfolding taken_apart
   parted = rw ok
 
@@ -47,10 +48,6 @@ module _ (r : Rules) (k f : ℕ) (ok : valid k ≡ true) (same : f ≡ (fields_o
     unfolding step step_of
     free-pending n o u = rw (parted, lt-leb r.frames at (rw same at l), eq-eqb at r.pending (sym same ∙ o), u, inspected-mode r.user (fields_of k))
 
-    pub free-pending-unmarked : (n : ℕ) (m : Bool) → not m && eqb f r.pending ≡ true → n ≡ ordinary true (inspected (fields_of k))
-        → slot n 65535 ≡ step r k none
-    free-pending-unmarked n m b u = free-pending n (eqb-true f r.pending (second (not m) _ b)) u
-
     pub free-excluded : (n a : ℕ) (b : Bool) → a ≡ f → b ≡ r.excluded f → not b ≡ false → (f ≡ r.pending → ⊥) → n ≡ approved r.user f
         → slot n a ≡ step r k none
     unfolding step step_of
@@ -64,59 +61,51 @@ unfolding is_marked either
 marked_differs frames pending exclusion f p l without at =
     false≢true (rw (← at, lt-leb frames f l, without) at p)
 
-differs-by : (m : Bool) (frames pending : ℕ) (exclusion : List ℕ) (f : ℕ) → (m ≡ true → is_marked frames pending exclusion ≡ true) → f < frames
-    → not m && eqb f pending ≡ false → has_bit exclusion f ≡ false → f ≡ pending → ⊥
-differs-by true frames pending exclusion f marked l unmarked without = marked_differs frames pending exclusion f (marked refl) l without
-differs-by false frames pending exclusion f marked l unmarked without = eqb-false f pending unmarked
+pub const-true : (m : ℕ) → (m ≡ 0 → ⊥) → not (eqb m 0) ≡ true
+const-true m p = rw (ne_eqb m 0 p)
 
-pub free-ordinary : (m user : Bool) (frames pending : ℕ) (exclusion : List ℕ) (k f n : ℕ) (b : Bool)
-    → (m ≡ true → is_marked frames pending exclusion ≡ true) → valid k ≡ true → f ≡ (fields_of k).frame → f < frames → not m && eqb f pending ≡ false
-    → b ≡ has_bit exclusion f → not b ≡ true → n ≡ ordinary user (fields_of k)
-    → slot n 65535 ≡ step (rules_by user frames pending exclusion) k none
+pub differs-marked : (m : Bool) (given : Given) (f : ℕ) (b : Bool) → m ≡ true → Known m given → f < given.frames → b ≡ has_bit given.exclusion.now f → b ≡ false
+    → f ≡ given.pending → ⊥
+differs-marked true given f b e marked l s t = marked_differs given.frames given.pending given.exclusion.now f marked l (sym s ∙ t)
+differs-marked false given f b e marked l s t = absurd (false≢true e)
+
+pub free-ordinary : (given : Given) (k f n : ℕ) (b : Bool)
+    → valid k ≡ true → f ≡ (fields_of k).frame → f < given.frames → (f ≡ given.pending → ⊥)
+    → b ≡ has_bit given.exclusion.now f → b ≡ false → n ≡ ordinary given.user (fields_of k)
+    → slot n 65535 ≡ step (rules_in given) k none
 unfolding step step_of
-free-ordinary m user frames pending exclusion k f n b marked ok same l unmarked s t u =
-    let without : has_bit exclusion f ≡ false = sym s ∙ not-true b t in
-    let other : f ≡ pending → ⊥ = differs-by m frames pending exclusion f marked l unmarked without in
+free-ordinary given k f n b ok same l other s t u =
     rw (
-      parted (rules_by user frames pending exclusion) k f ok same,
-      lt-leb frames (fields_of k).frame (rw same at l),
-      ne_eqb (fields_of k).frame pending (rw same at other),
-      rw same at without,
+      parted (rules_in given) k f ok same,
+      lt-leb given.frames (fields_of k).frame (rw same at l),
+      ne_eqb (fields_of k).frame given.pending (rw same at other),
+      rw same at (sym s ∙ t),
       u,
     )
 
 -- Steps 1 to 5.
-module _ (r : Rules) (k a : ℕ) (e : Entry) (apart : e ≡ taken_apart k) where
-  pub step-absent : e ≡ Absent → slot 0 a ≡ step r k a
-  unfolding step step_of
-  step-absent p = rw (← apart, p)
+module _ (r : Rules) (k a : ℕ) where
+  pub step_absent : valid k ≡ false → slot 0 a ≡ step r k a
+  unfolding step step_of taken_apart
+  step_absent p = rw p
 
-  pub step-valid : (x : Fields) → e ≡ Present x → valid k ≡ true
-  step-valid x p = present-valid k x (sym apart ∙ p)
-
-  pub step-frame : (x : Fields) → e ≡ Present x → x.frame ≡ (fields_of k).frame
-  step-frame x p = rw (fields-apart k x (sym apart ∙ p))
-
-  pub step-approved : (x : Fields) (n : ℕ) → e ≡ Present x → (a ≡ 65535 → ⊥) → n ≡ approved r.user a → slot n a ≡ step r k a
-  unfolding step step_of
-  step-approved x n p q s = rw (← apart, p, ne_eqb a none q, s)
-
-pub step-free : (r : Rules) (k a : ℕ) (s : Slot) → a ≡ 65535 → s ≡ step r k none → s ≡ step r k a
-step-free r k a s p q = rw p q
+  pub step_approved : (n : ℕ) → valid k ≡ true → (a ≡ 65535 → ⊥) → n ≡ approved r.user a → slot n a ≡ step r k a
+  unfolding step step_of taken_apart
+  step_approved n p q s = rw (p, ne_eqb a none q, s)
 
 -- Whether the pending frame is marked.
-pub marked-above : (frames pending : ℕ) (exclusion : List ℕ) → frames ≤ pending → true ≡ is_marked frames pending exclusion
+pub marked_above : (frames pending : ℕ) (exclusion : List ℕ) → frames ≤ pending → true ≡ is_marked frames pending exclusion
 unfolding is_marked either
-marked-above frames pending exclusion l = rw (le-leb frames pending l)
+marked_above frames pending exclusion l = rw (le-leb frames pending l)
 
 pub marked_by : (frames pending : ℕ) (exclusion : List ℕ) (b : Bool) → pending < frames → b ≡ has_bit exclusion pending → b ≡ is_marked frames pending exclusion
 unfolding is_marked either
 marked_by frames pending exclusion b l s = rw (lt-leb frames pending l) s
 
 -- The frame of a present entry below F has a bit in the vector.
-pub frame-in : (frames frame long : ℕ) → long ≡ vector_bytes frames → frame < frames → frame / 8 < long
+pub frame_in : (frames frame long : ℕ) → long ≡ vector_bytes frames → frame < frames → frame / 8 < long
 unfolding vector_bytes
-frame-in frames frame long p l = omega arith
+frame_in frames frame long p l = omega arith
 
 -- A value stored, and counted where it changed.
 pub kept : (l : List ℕ) (i v : ℕ) → get_or l i 0 ≡ v → l ≡ set l i v
@@ -130,6 +119,14 @@ pub other-counts : (n a b : ℕ) → (a ≡ b → ⊥) → n + 1 ≡ n + differs
 unfolding differs
 other-counts n a b p = rw (ne_eqb a b p)
 
+pub counted : (n a b r : ℕ) → r ≡ from_bool (not (eqb a b)) → (n + r ≡ n + differs a b) × (n + r ≤ n + 1)
+unfolding differs
+counted n a b r p = rw p (at (eqb a b))
+  where
+    at : (c : Bool) → (n + from_bool (not c) ≡ n + cond c 0 1) × (n + from_bool (not c) ≤ n + 1)
+    at true = (refl, omega arith)
+    at false = (refl, omega arith)
+
 -- A page's slot stored in both tables.
 pub stored-step : (p : Slot) (i e a changed joined x y : ℕ) (shadow map shadow' map' : List ℕ) → slot e a ≡ p
     → shadow' ≡ set shadow i e → map' ≡ set map i a → x ≡ changed + differs (get_or shadow i 0) e → y ≡ joined + differs (get_or map i 0) a
@@ -138,12 +135,6 @@ unfolding stored
 stored-step p i e a changed joined x y shadow map shadow' map' q ps pm px py = rw (← q, ps, pm, px, py)
 
 -- What a commit makes of a page that is not the asked one (K6): it has a number, its entry has not the frame, or it is approved.
-pub approved-stored : (user : Bool) (i frame e changed joined x y : ℕ) (shadow map shadow' map' : List ℕ) → e ≡ approved user frame
-    → shadow' ≡ set shadow i e → map' ≡ set map i frame → x ≡ changed + differs (get_or shadow i 0) e → y ≡ joined + differs (get_or map i 0) frame
-    → sweep shadow' map' x y ≡ stored i (sweep shadow map changed joined) (slot (approved user frame) frame)
-approved-stored user i frame e changed joined x y shadow map shadow' map' r ps pm px py =
-    stored-step (slot (approved user frame) frame) i e frame changed joined x y shadow map shadow' map' (rw r refl) ps pm px py
-
 both-no : (a b : Bool) → b ≡ false → both a b ≡ false
 unfolding both
 both-no true b p = p

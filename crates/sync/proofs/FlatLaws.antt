@@ -8,15 +8,16 @@ use lib.Dec.{ltb, eqb}
 use lib.ListN.{length, get_or}
 use borrow.Author.Tests.{eqb-true, not-false}
 use Rattle.model.specs.declared.State.{State}
-use Rattle.model.specs.declared.Answer.TheVariants.{Done, Refused}
-use Rattle.model.specs.Guard.{Tables, with_three, Guard, guard_of, vector_bytes, in_user, pending_frame}
+use Rattle.std.specs.Prelude.{Ok, Err}
+use Rattle.model.specs.declared.Refusal.TheVariants.{StateOrTable, DoesNotExist}
+use Rattle.model.specs.Guard.{Tables, with_three, Guard, guard_of, vector_bytes}
 use Rattle.model.specs.Sync.{Rules, Slot, step, Sweep, sweep, sweep_from, entry_in, step_from}
 use Rattle.model.specs.Questions.{state_in_order, in_order, sync_all_questions, sync_page_questions}
-use Rattle.model.specs.Calls.{kept_by, sync_page, sync_all, questions_of, effect_of, answer}
+use Rattle.model.specs.Calls.{outcome_by, rules_of, sync_page, sync_all, questions_of, effect_of, answer}
 use Rattle.laws.proofs.StateLaws.{frames-few, Fit, in_order_lem}
 use Rattle.laws.proofs.CallLaws.{passed, stopped, none_left, refused-by, accepted-by}
 use Rattle.laws.proofs.SweepLaws.{whole, whole-more, whole-over}
-use Rattle.step.specs.Steps.{rules_by, is_marked, stored}
+use Rattle.step.specs.Steps.{stored}
 use Rattle.sync.proofs.SyncLaws.{guard_fit, vector-fits, map-matches, below-in-shadow, below-in-map, page-below, all-given, one-given}
 
 -- A sweep page by page: after page i, and after the last.
@@ -33,16 +34,6 @@ pub sweep-over : (r : Rules) (kernel : List ℕ) (i : ℕ) (shadow map : List �
     → whole (step_from r (entry_in kernel)) i (sweep shadow map changed joined) ≡ all → length shadow ≡ length kernel → length kernel ≤ i
     → sweep shadow map changed joined ≡ all
 sweep-over r kernel i shadow map changed joined all inv ls past = whole-over (step_from r (entry_in kernel)) i shadow map changed joined all inv (omega arith)
-
--- The loop of a mode, where the mode is that one, and of a pending frame that is marked.
-pub flat-by : (u v : Bool) (frames pending : ℕ) (exclusion kernel shadow map : List ℕ) (all : Sweep) → u ≡ v
-    → all ≡ sweep_from (step_from (rules_by v frames pending exclusion) (entry_in kernel)) 0 shadow map
-    → all ≡ sweep_from (step_from (rules_by u frames pending exclusion) (entry_in kernel)) 0 shadow map
-flat-by u v frames pending exclusion kernel shadow map all q p = rw q p
-
-pub flat-marked : (frames pending : ℕ) (exclusion : List ℕ) (b m : Bool) → b ≡ is_marked frames pending exclusion → not b ≡ false → m ≡ true
-    → is_marked frames pending exclusion ≡ true
-flat-marked frames pending exclusion b m e p q = sym e ∙ not-false b p
 
 -- Of a kernel table besides.
 abbrev lent_fit : State → ℕ → ℕ → ℕ → ℕ → List Bool
@@ -85,37 +76,37 @@ module _ (s : State) (kernel shadow map exclusion : List ℕ) (r : Bool)
   before t = guard_of s (with_three shadow map exclusion t)
 
   pub all-refused : not r ≡ true → (t : Tables)
-      → kept_by (Refused 7) s (with_three shadow map exclusion t) ≡ answer (before t) (sync_all kernel)
+      → outcome_by (Err StateOrTable) s (with_three shadow map exclusion t) ≡ answer (before t) (sync_all kernel)
   unfolding questions_of sync_all_questions
-  all-refused p t = refused-by (before t) (sync_all kernel) _ 7 (sym (stopped 7 r _ _ asked p)) (λ z. omega arith) refl refl
+  all-refused p t = refused-by (before t) (sync_all kernel) (Err StateOrTable) s StateOrTable (sym (stopped 7 r _ _ asked p)) refl refl
 
   pub page-refused : (page : ℕ) → not r ≡ true → (t : Tables)
-      → kept_by (Refused 7) s (with_three shadow map exclusion t) ≡ answer (before t) (sync_page kernel page)
+      → outcome_by (Err StateOrTable) s (with_three shadow map exclusion t) ≡ answer (before t) (sync_page kernel page)
   unfolding questions_of sync_page_questions
-  page-refused page p t = refused-by (before t) (sync_page kernel page) _ 7 (sym (stopped 7 r _ _ asked p)) (λ z. omega arith) refl refl
+  page-refused page p t = refused-by (before t) (sync_page kernel page) (Err StateOrTable) s StateOrTable (sym (stopped 7 r _ _ asked p)) refl refl
 
   module _ (yes7 : not r ≡ false) where
-    pub all-accepted : (u : Bool) (f : ℕ) (shadow' map' : List ℕ) (x y : ℕ) → u ≡ in_user s.mode → f ≡ pending_frame s.pending
-        → sweep shadow' map' x y ≡ sweep_from (step_from (rules_by u s.frames f exclusion) (entry_in kernel)) 0 shadow map → (t : Tables)
-        → kept_by (Done x y) s (with_three shadow' map' exclusion t) ≡ answer (before t) (sync_all kernel)
+    pub all-accepted : (given : Rules) (shadow' map' : List ℕ) (x y : ℕ) → given ≡ rules_of s exclusion
+        → sweep shadow' map' x y ≡ sweep_from (step_from given (entry_in kernel)) 0 shadow map → (t : Tables)
+        → outcome_by (Ok (x, y)) s (with_three shadow' map' exclusion t) ≡ answer (before t) (sync_all kernel)
     unfolding questions_of sync_all_questions effect_of
-    all-accepted u f shadow' map' x y q w p t =
+    all-accepted given shadow' map' x y q p t =
         accepted-by (before t) (sync_all kernel) _ (sym (passed 7 0 r _ _ asked yes7 none_left))
-        (all-given s shadow map exclusion (entry_in kernel) u f shadow' map' x y q w p t)
+        (all-given s shadow map exclusion (entry_in kernel) given shadow' map' x y q p t)
 
     module _ (page : ℕ) (b : Bool) (exists : b ≡ ltb page s.pages) where
       pub page-absent : not b ≡ true → (t : Tables)
-          → kept_by (Refused 9) s (with_three shadow map exclusion t) ≡ answer (before t) (sync_page kernel page)
+          → outcome_by (Err DoesNotExist) s (with_three shadow map exclusion t) ≡ answer (before t) (sync_page kernel page)
       unfolding questions_of sync_page_questions
       page-absent p t =
-          refused-by (before t) (sync_page kernel page) _ 9 (sym (passed 7 9 r _ _ asked yes7 (stopped 9 b _ _ exists p))) (λ z. omega arith) refl refl
+          refused-by (before t) (sync_page kernel page) (Err DoesNotExist) s DoesNotExist (sym (passed 7 9 r _ _ asked yes7 (stopped 9 b _ _ exists p))) refl refl
 
-      pub page-accepted : (u : Bool) (f : ℕ) (shadow' map' : List ℕ) (x y : ℕ) → not b ≡ false → u ≡ in_user s.mode → f ≡ pending_frame s.pending
-          → sweep shadow' map' x y ≡ stored page (sweep shadow map 0 0) (step (rules_by u s.frames f exclusion) (get_or kernel page 0) (get_or map page 0))
+      pub page-accepted : (given : Rules) (shadow' map' : List ℕ) (c j x y : ℕ) → not b ≡ false → given ≡ rules_of s exclusion → (c ≡ 0) × (j ≡ 0)
+          → sweep shadow' map' x y ≡ stored page (sweep shadow map c j) (step given (get_or kernel page 0) (get_or map page 0))
           → (t : Tables)
-          → kept_by (Done x y) s (with_three shadow' map' exclusion t) ≡ answer (before t) (sync_page kernel page)
+          → outcome_by (Ok (x, y)) s (with_three shadow' map' exclusion t) ≡ answer (before t) (sync_page kernel page)
       unfolding questions_of sync_page_questions effect_of
-      page-accepted u f shadow' map' x y there q w p t =
+      page-accepted given shadow' map' c j x y there q z p t =
           let inside : page < length map = flat-page-map s (length kernel) (length shadow) (length map) (length exclusion) r asked yes7 page b exists there in
           accepted-by (before t) (sync_page kernel page) _ (sym (passed 7 0 r _ _ asked yes7 (passed 9 0 b _ _ exists there none_left)))
-          (one-given s shadow map exclusion (entry_in kernel) u f page shadow' map' x y inside q w p t)
+          (one-given s shadow map exclusion (entry_in kernel) given page shadow' map' x y inside q (rw (z.0, z.1) at p) t)

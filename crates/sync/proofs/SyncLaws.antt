@@ -8,14 +8,14 @@ use lib.Dec.{ltb, eqb}
 use lib.ListN.{length, get_or, set}
 use borrow.Author.Tests.{eqb-true, ltb-true, not-false}
 use Rattle.model.specs.declared.State.{State}
-use Rattle.model.specs.declared.Answer.TheVariants.{Done}
+use Rattle.std.specs.Prelude.{Ok}
 use Rattle.model.specs.Basics.{differs}
-use Rattle.model.specs.Guard.{none, Tables, with_three, Guard, guard_of, vector_bytes, in_user, pending_frame}
-use Rattle.model.specs.Sync.{Slot, step, sweep, sweep_from, step_from}
-use Rattle.model.specs.Calls.{reply_of, outcome_by, kept_by, rules_of, page_synced, all_synced, page_from, all_from}
+use Rattle.model.specs.Guard.{none, Tables, with_three, Guard, guard_of, vector_bytes}
+use Rattle.model.specs.Sync.{Rules, Slot, step, sweep, sweep_from, step_from}
+use Rattle.model.specs.Calls.{reply_of, outcome_by, rules_of, page_synced, all_synced, page_from, all_from}
 use Rattle.laws.proofs.StateLaws.{Fit}
 use Rattle.laws.proofs.SweepLaws.{get_or-inside}
-use Rattle.step.specs.Steps.{rules_by, stored}
+use Rattle.step.specs.Steps.{stored}
 
 -- The answers to question 7 of the guard's tables, of lengths that may be any numbers.
 abbrev pub guard_fit : State → ℕ → ℕ → ℕ → List Bool
@@ -43,20 +43,20 @@ module _ (s : State) (shadow map exclusion : List ℕ) (kernel : ℕ → ℕ) wh
   abbrev guard : Tables → Guard
   guard t = guard_of s (with_three shadow map exclusion t)
 
-  pub all-given : (u : Bool) (f : ℕ) (shadow' map' : List ℕ) (x y : ℕ) → u ≡ in_user s.mode → f ≡ pending_frame s.pending
-      → sweep shadow' map' x y ≡ sweep_from (step_from (rules_by u s.frames f exclusion) kernel) 0 shadow map → (t : Tables)
-      → kept_by (Done x y) s (with_three shadow' map' exclusion t) ≡ all_from (guard t) kernel
+  pub all-given : (r : Rules) (shadow' map' : List ℕ) (x y : ℕ) → r ≡ rules_of s exclusion
+      → sweep shadow' map' x y ≡ sweep_from (step_from r kernel) 0 shadow map → (t : Tables)
+      → outcome_by (Ok (x, y)) s (with_three shadow' map' exclusion t) ≡ all_from (guard t) kernel
   unfolding all_from all_synced outcome_by reply_of
-  all-given u f shadow' map' x y q w p t = ap (all_synced (guard t)) (rw (q, w) at p)
+  all-given r shadow' map' x y q p t = ap (all_synced (guard t)) (rw q at p)
 
-  pub one-given : (u : Bool) (f page : ℕ) (shadow' map' : List ℕ) (x y : ℕ) → page < length map → u ≡ in_user s.mode → f ≡ pending_frame s.pending
-      → sweep shadow' map' x y ≡ stored page (sweep shadow map 0 0) (step (rules_by u s.frames f exclusion) (kernel page) (get_or map page 0)) → (t : Tables)
-      → kept_by (Done x y) s (with_three shadow' map' exclusion t) ≡ page_from (guard t) kernel page
+  pub one-given : (r : Rules) (page : ℕ) (shadow' map' : List ℕ) (x y : ℕ) → page < length map → r ≡ rules_of s exclusion
+      → sweep shadow' map' x y ≡ stored page (sweep shadow map 0 0) (step r (kernel page) (get_or map page 0)) → (t : Tables)
+      → outcome_by (Ok (x, y)) s (with_three shadow' map' exclusion t) ≡ page_from (guard t) kernel page
   unfolding page_from step_from page_synced all_synced stored outcome_by reply_of
-  one-given u f page shadow' map' x y inside q w p t =
+  one-given r page shadow' map' x y inside q p t =
       let z : Slot = step (rules_of s exclusion) (kernel page) (get_or map page none) in
       let e
       : sweep shadow' map' x y ≡ sweep (set shadow page z.entry) (set map page z.approval) (differs (get_or shadow page 0) z.entry)
       (differs (get_or map page none) z.approval)
-      = simp zero-add at (rw (q, w, get_or-inside map page 0 none inside) at p) in
+      = simp zero-add at (rw (q, get_or-inside map page 0 none inside) at p) in
       ap (all_synced (guard t)) e

@@ -2,71 +2,75 @@
 
 #![tactic(auto)]
 
-ghost use Rattle.std.specs.Prelude.{◌≡◌, true, ◌≤◌, length};
+ghost use Rattle.std.specs.Prelude.{◌≡◌, true, false, ◌≤◌, length};
 ghost use Rattle.model.specs.Guard.{Tables, with_three, guard_of, vector_bytes};
 ghost use Rattle.model.specs.Sync.{sweep, sweep_from, entry_in, step_from};
-ghost use Rattle.model.specs.Calls.{kept_by, sync_page, sync_all, answer};
-ghost use Rattle.step.specs.Steps.{rules_by, is_marked};
+ghost use Rattle.model.specs.Calls.{outcome_by, rules_of, sync_page, sync_all, answer};
+ghost use Rattle.step.specs.Steps.{rules_in, Known};
 
-use model::{Answer, State};
-use step::Counts;
+use model::{Answer, Refusal, State};
+use step::{Counts, Rules};
 
-// Every page of parts of one length, in rising order. The lengths are asked for since question 7 has settled them in every caller, and `marked` may be true
-// where the pending frame is. Each mode and each `marked` that is a constant has a loop of its own, which asks nothing of it.
-fn sync_pages(
-    marked: bool,
-    user: bool,
-    frames: u64,
-    pending: u64,
-    exclusion: &[u8],
+// The rules of a state and its exclusion vector, whose length and whose F question 7 has settled in every caller.
+pub fn rules_of(s: State, exclusion: &[u8]) -> Rules<'_>
+    requires { (length exclusion.now ≡ vector_bytes s.frames) × (s.frames ≤ 4096) }
+    ensures { rules_in result ≡ rules_of s exclusion.now }
+{
+    Rules {
+        user: state::in_user(s.mode),
+        frames: s.frames,
+        pending: state::pending_frame(s.pending),
+        exclusion,
+    }
+}
+
+// Every page of parts of one length, in rising order. The lengths are asked for since question 7 has settled them in every caller, and `MARKED` may be true
+// where the pending frame is. Each `MARKED`, and with it each mode that is a constant, has a loop of its own, which asks nothing of it. The tables are two
+// slices, as in `step`.
+fn sync_pages<const MARKED: bool>(
+    rules: &Rules,
     kernel: &[u64],
     shadow: &mut [u64],
     map: &mut [u16],
 ) -> Counts
-    requires { (length shadow.old ≡ length kernel.now) × (length map.old ≡ length kernel.now)
-        × (length exclusion.now ≡ vector_bytes frames) × (frames ≤ 4096) × (marked ≡ true → is_marked frames pending exclusion.now ≡ true) }
+    requires { (length shadow.old ≡ length kernel.now) × (length map.old ≡ length kernel.now) × Known MARKED rules.now }
     ensures { sweep shadow.new map.new result.changed result.joined
-        ≡ sweep_from (step_from (rules_by user frames pending exclusion.now) (entry_in kernel.now)) 0
-        shadow.old map.old }
+        ≡ sweep_from (step_from (rules_in rules.now) (entry_in kernel.now)) 0 shadow.old map.old }
 {
-    let mut counts = Counts {
-        changed: 0,
-        joined: 0,
-    };
-    let mut i = 0;
-    while i < kernel.len() {
-        counts = step::sync_by(
-            marked, user, frames, pending, exclusion, kernel[i], shadow, map, i, counts,
-        );
-        i += 1;
+    let mut counts = Counts::default();
+    for (i, entry) in kernel.iter().enumerate() {
+        counts = rules.sync_at::<MARKED>(*entry, shadow, map, i, counts);
     }
     counts
 }
 
-// Every page of parts of one length, in rising order: of a whole flat table, of a part of it that begins anywhere, and of the table of a tree of depth 1 (K4).
-// In a guard the pending frame is marked, or none is, and each mode has a loop for that. Question 7 has settled the lengths, and that F is in its range.
-pub fn sync_flat(
-    user: bool,
-    frames: u64,
-    pending: u64,
-    exclusion: &[u8],
-    kernel: &[u64],
-    shadow: &mut [u64],
-    map: &mut [u16],
-) -> Counts
-    requires { (length shadow.old ≡ length kernel.now) × (length map.old ≡ length kernel.now)
-        × (length exclusion.now ≡ vector_bytes frames) × (frames ≤ 4096) }
-    ensures { sweep shadow.new map.new result.changed result.joined
-        ≡ sweep_from (step_from (rules_by user frames pending exclusion.now) (entry_in kernel.now)) 0
-        shadow.old map.old }
+// The same rules in a mode, field by field: a literal of a struct with an invariant has no `..rules`.
+fn in_mode<'a>(user: bool, rules: &Rules<'a>) -> Rules<'a>
+    ensures { (result.user ≡ user) × (result.frames ≡ rules.now.frames) × (result.pending ≡ rules.now.pending)
+        × (result.exclusion.now ≡ rules.now.exclusion.now) }
 {
-    if !step::is_marked(frames, pending, exclusion) {
-        return sync_pages(false, user, frames, pending, exclusion, kernel, shadow, map);
+    Rules {
+        user,
+        frames: rules.frames,
+        pending: rules.pending,
+        exclusion: rules.exclusion,
     }
-    if user {
-        return sync_pages(true, true, frames, pending, exclusion, kernel, shadow, map);
+}
+
+// Every page of parts of one length, in rising order: of a whole flat table, of a part of it that begins anywhere, and of the table of a tree of depth 1 (K4).
+// In a guard the pending frame is marked, or none is, and each mode has a loop for that. Question 7 has settled the lengths.
+pub fn sync_flat(rules: &Rules, kernel: &[u64], shadow: &mut [u64], map: &mut [u16]) -> Counts
+    requires { (length shadow.old ≡ length kernel.now) × (length map.old ≡ length kernel.now) }
+    ensures { sweep shadow.new map.new result.changed result.joined
+        ≡ sweep_from (step_from (rules_in rules.now) (entry_in kernel.now)) 0 shadow.old map.old }
+{
+    if !step::is_marked(rules.frames, rules.pending, rules.exclusion) {
+        return sync_pages::<false>(rules, kernel, shadow, map);
     }
-    sync_pages(true, false, frames, pending, exclusion, kernel, shadow, map)
+    if rules.user {
+        return sync_pages::<true>(&in_mode(true, rules), kernel, shadow, map);
+    }
+    sync_pages::<true>(&in_mode(false, rules), kernel, shadow, map)
 }
 
 // Synchronise one page.
@@ -78,35 +82,20 @@ pub fn sync_page(
     exclusion: &[u8],
     page: u64,
 ) -> Answer
-    ensures { (t : Tables) → kept_by result s (with_three shadow.new map.new exclusion.now t)
+    ensures { (t : Tables) → outcome_by result s (with_three shadow.new map.new exclusion.now t)
         ≡ answer (guard_of s (with_three shadow.old map.old exclusion.now t))
         (sync_page kernel.now page) }
 {
     if !lengths::sync_in_order(s, kernel.len(), shadow.len(), map.len(), exclusion.len()) {
-        return Answer::Refused(7);
+        return Err(Refusal::StateOrTable);
     }
     if !limits::page_exists(page, s.pages) {
-        return Answer::Refused(9);
+        return Err(Refusal::DoesNotExist);
     }
     let i = page as usize;
-    let mode = s.mode;
-    let pending = s.pending;
-    let none = Counts {
-        changed: 0,
-        joined: 0,
-    };
-    let one = step::sync_at(
-        state::in_user(mode),
-        s.frames,
-        state::pending_frame(pending),
-        exclusion,
-        kernel[i],
-        shadow,
-        map,
-        i,
-        none,
-    );
-    Answer::Done(one.changed, one.joined)
+    let rules = rules_of(s, exclusion);
+    let one = rules.sync_at::<false>(kernel[i], shadow, map, i, Counts::default());
+    Ok((one.changed, one.joined))
 }
 
 // Synchronise all pages.
@@ -117,23 +106,13 @@ pub fn sync_all(
     map: &mut [u16],
     exclusion: &[u8],
 ) -> Answer
-    ensures { (t : Tables) → kept_by result s (with_three shadow.new map.new exclusion.now t)
+    ensures { (t : Tables) → outcome_by result s (with_three shadow.new map.new exclusion.now t)
         ≡ answer (guard_of s (with_three shadow.old map.old exclusion.now t))
         (sync_all kernel.now) }
 {
     if !lengths::sync_in_order(s, kernel.len(), shadow.len(), map.len(), exclusion.len()) {
-        return Answer::Refused(7);
+        return Err(Refusal::StateOrTable);
     }
-    let mode = s.mode;
-    let pending = s.pending;
-    let all = sync_flat(
-        state::in_user(mode),
-        s.frames,
-        state::pending_frame(pending),
-        exclusion,
-        kernel,
-        shadow,
-        map,
-    );
-    Answer::Done(all.changed, all.joined)
+    let all = sync_flat(&rules_of(s, exclusion), kernel, shadow, map);
+    Ok((all.changed, all.joined))
 }

@@ -1,5 +1,6 @@
 -- Laws of this crate's proofs.
 mod RunLaws
+mod AloneLaws
 mod SourceLaws
 mod TreeLaws
 mod TableLaws

@@ -1,63 +1,28 @@
 -- A tree of depth 1: its table is the flat table of its pages, as far as entries are taken apart.
-use Prim.Native.Nat.{ℕ, suc, ◌+◌, ◌-◌, ◌*◌, ◌/◌, ◌%◌, ◌^◌, ◌≤◌, ◌<◌}
-use mathlib.Core.Bool.{Bool, true, false, ◌&&◌, false≢true}
+use Rattle.std.specs.Prelude.{None, Some, Option}
+use Prim.Native.Nat.{ℕ, suc, ◌+◌, ◌-◌, ◌*◌, ◌/◌, ◌^◌, ◌≤◌, ◌<◌}
+use mathlib.Core.Bool.{true}
 use mathlib.Core.List.{List, [], ◌∷◌}
 use mathlib.Core.Path.{◌≡◌, refl, sym, ap, ◌∙◌}
-use mathlib.Core.Logic.{◌⊎◌, inl, inr}
 use native.Mathlib.Omega.{arith}
-use lib.Dec.{leb, eqb}
 use lib.ListN.{length, get_or, take, drop}
 use lib.Seq.{get_or-take, get_or-drop}
-use borrow.Author.Tests.{lt-ltb, ltb-true, eqb-true, leb-true}
-use Rattle.model.specs.declared.Entry.{Entry}
-use Rattle.model.specs.declared.Entry.TheVariants.{Absent, Present}
-use Rattle.model.specs.Basics.{both, either, bit, flag}
-use Rattle.model.specs.Bits.{present, valid, taken_apart, fields_of, writable, user_bit, write_through, cache_disable, no_execute, frame_of}
-use Rattle.model.specs.Tree.{tree_of, tables_in, tree_in_order, place_above, Rights, all_rights, gathered, flat_entry, Walk, meeting, onward, walk_from, walk_of, flat_at}
+use borrow.Author.Tests.{lt-ltb, ltb-true}
+use Rattle.model.specs.declared.Fields.{Fields}
+use Rattle.model.specs.Bits.{taken_apart}
+use Rattle.model.specs.Tree.{tree_of, tables_in, tree_in_order, place_above, Rights, all_rights, Walk, meeting, onward, walk_from, walk_of, flat_at}
 use Rattle.model.specs.Sync.{Rules, Slot, Sweep, sweep_from, entry_in, step_from}
-use Rattle.laws.proofs.BitLaws.{bit_is, taken-apart, present-valid, valid-parts, lowest, lowest-lt, lowest-of}
 use Rattle.laws.proofs.QuestionLaws.{both-second}
-use Rattle.laws.proofs.VectorLaws.{flag-weight, flag_small}
-use Rattle.tree.proofs.BitLaws.{apart-by-bits}
+use Rattle.tree.specs.declared.given.Tree.{Tree as Given}
+use Rattle.tree.specs.Parts.{tree_in}
+use Rattle.sync_tree.proofs.AloneLaws.{flat-alone, alone-apart}
 use Rattle.sync_tree.proofs.SourceLaws.{step_same}
 
--- The digits of a flat entry.
-flat-digits : (r f t : ℕ) → r < 2 ^ 5 → f < 2 ^ 40 → t ≤ 1
-    → let flat : ℕ = r + f * 2 ^ 12 + t * 2 ^ 63 in
-    (flat % 2 ^ 5 ≡ r) × (flat / 2 ^ 12 % 2 ^ 40 ≡ f) × (flat / 2 ^ 52 % 2 ^ 11 ≡ 0) × (flat / 2 ^ 63 % 2 ≡ t)
-flat-digits r f t a b c = (omega arith, omega arith, omega arith, omega arith)
-
--- The flat entry below no rights is taken apart as the entry is.
-flat-alone : Entry → ℕ
-flat-alone Absent = 0
-flat-alone (Present x) = flat_entry (gathered 1 all_rights x) x x.frame
-
-alone-present : (entry : ℕ) → taken_apart entry ≡ Present (fields_of entry)
-    → taken_apart (flat_entry (gathered 1 all_rights (fields_of entry)) (fields_of entry) (fields_of entry).frame) ≡ taken_apart entry
-unfolding flat_entry gathered both either fields_of writable user_bit write_through cache_disable no_execute frame_of
-alone-present entry there =
-    let parts : (entry % 2 ≡ 1) × (entry / 2 ^ 52 % 2 ^ 11 ≡ 0) = valid-parts entry (present-valid entry (fields_of entry) there) in
-    let low : entry % 2 ^ 5 ≡ lowest (fields_of entry) = lowest-of entry parts.0 in
-    let t : ℕ = flag (bit 63 entry) 0 in
-    let flat : ℕ = lowest (fields_of entry) + frame_of entry * 2 ^ 12 + flag (bit 63 entry) 63 in
-    let same : flat ≡ lowest (fields_of entry) + frame_of entry * 2 ^ 12 + t * 2 ^ 63 = rw (flag-weight (bit 63 entry) 63) in
-    let d = flat-digits (lowest (fields_of entry)) (frame_of entry) t (lowest-lt (fields_of entry)) (omega arith) (flag_small (bit 63 entry)) in
-    apart-by-bits flat entry (rw (← same) at d.0 ∙ sym low) (rw (← same) at d.1) (rw (← same) at d.2 ∙ sym parts.1)
-    (bit_is 63 flat (bit 63 entry) (rw (← same) at d.3))
-
-alone-apart : (entry : ℕ) → taken_apart (flat-alone (taken_apart entry)) ≡ taken_apart entry
-unfolding flat-alone taken_apart valid present bit both
-alone-apart entry = by (taken-apart entry)
-  where
-    by : (taken_apart entry ≡ Absent) ⊎ (taken_apart entry ≡ Present (fields_of entry)) → taken_apart (flat-alone (taken_apart entry)) ≡ taken_apart entry
-    by (inl absent) = ap (λ (e : Entry). taken_apart (flat-alone e)) absent ∙ sym absent
-    by (inr there) = ap (λ (e : Entry). taken_apart (flat-alone e)) there ∙ alone-present entry there
-
 -- The walk of a page of the table.
-last_flat_lem : (p entry : ℕ) (down : Rights → ℕ → Walk) (e : Entry) → (onward 1 p all_rights entry down e).flat ≡ flat-alone e
+last_flat_lem : (p entry : ℕ) (down : Rights → ℕ → Walk) (e : Option Fields) → (onward 1 p all_rights entry down e).flat ≡ flat-alone e
 unfolding onward flat-alone
-last_flat_lem p entry down Absent = refl
-last_flat_lem p entry down (Present x) = refl
+last_flat_lem p entry down None = refl
+last_flat_lem p entry down (Some x) = refl
 
 root_in : (words : List ℕ) (root : ℕ) → tree_in_order (tree_of words root 1) ≡ true → root < length words / 512
 unfolding tree_in_order tables_in
@@ -120,26 +85,12 @@ module _ (words : List ℕ) (root first end n : ℕ) (begins : first ≡ root * 
   table-swept r shadow map all long e =
       e ∙ sweep-same (step_from r (entry_in table)) (step_from r (flat_at (tree_of words root 1))) 0 shadow map (λ p s m l. page-same r p s m (omega arith))
 
--- Depth 1 and no page past the table.
-first_of : (a b : Bool) → a && b ≡ true → a ≡ true
-first_of true b p = refl
-first_of false b p = absurd (false≢true p)
+-- Depth 1, by the number that the depth is.
+module _ (given : Given) (one : given.depth ≡ 1) where
+  pub deep_one : tree_in_order (tree_of given.words.now given.root 1) ≡ true
+  deep_one = rw one at given.in_order
 
-second-of : (a b : Bool) → a && b ≡ true → b ≡ true
-second-of true b p = p
-second-of false b p = absurd (false≢true p)
-
-module _ (depth n : ℕ) (both_hold : eqb depth 1 && leb n 512 ≡ true) where
-  one : depth ≡ 1
-  one = eqb-true depth 1 (first_of _ _ both_hold)
-
-  pub few-pages : n ≤ 512
-  few-pages = leb-true n 512 (second-of (eqb depth 1) _ both_hold)
-
-  pub deep_one : (words : List ℕ) (root : ℕ) → tree_in_order (tree_of words root depth) ≡ true → tree_in_order (tree_of words root 1) ≡ true
-  deep_one words root e = rw one at e
-
-  pub one-swept : (r : Rules) (words : List ℕ) (root : ℕ) (shadow map : List ℕ) (all : Sweep)
-      → all ≡ sweep_from (step_from r (flat_at (tree_of words root 1))) 0 shadow map
-      → all ≡ sweep_from (step_from r (flat_at (tree_of words root depth))) 0 shadow map
-  one-swept r words root shadow map all e = rw one e
+  pub one-swept : (r : Rules) (shadow map : List ℕ) (all : Sweep)
+      → all ≡ sweep_from (step_from r (flat_at (tree_of given.words.now given.root 1))) 0 shadow map
+      → all ≡ sweep_from (step_from r (flat_at (tree_in given))) 0 shadow map
+  one-swept r shadow map all e = rw one e

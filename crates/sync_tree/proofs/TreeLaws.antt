@@ -3,21 +3,25 @@ use Prim.Native.Nat.{ℕ, ◌<◌, ◌≤◌}
 use mathlib.Core.Bool.{Bool, true, false, not}
 use mathlib.Core.List.{List}
 use mathlib.Core.Path.{◌≡◌, refl, sym, ap, ◌∙◌}
-use native.Mathlib.Omega.{arith}
 use lib.Dec.{ltb}
 use lib.ListN.{length, get_or}
 use borrow.Author.Tests.{not-false}
 use Rattle.model.specs.declared.State.{State}
-use Rattle.model.specs.declared.Answer.TheVariants.{Done, Refused}
-use Rattle.model.specs.Guard.{Tables, with_three, Guard, guard_of, vector_bytes, in_user, pending_frame}
+use Rattle.std.specs.Prelude.{Ok, Err}
+use Rattle.model.specs.declared.Refusal.{Refusal}
+use Rattle.model.specs.Refusals.{number_of}
+use Rattle.model.specs.declared.Refusal.TheVariants.{StateOrTable, DoesNotExist}
+use Rattle.model.specs.Guard.{Tables, with_three, Guard, guard_of, vector_bytes}
 use Rattle.model.specs.Bits.{taken_apart}
-use Rattle.model.specs.Sync.{step, sweep, sweep_from, step_from}
+use Rattle.model.specs.Sync.{Rules, step, sweep, sweep_from, step_from}
 use Rattle.model.specs.Tree.{Tree, tree_of, tree_in_order, flat_at}
+use Rattle.tree.specs.declared.given.Tree.{Tree as Given}
+use Rattle.tree.specs.Parts.{tree_in}
 use Rattle.model.specs.Questions.{state_in_order, in_order, sync_all_tree_questions, sync_page_tree_questions}
-use Rattle.model.specs.Calls.{kept_by, sync_page_tree, sync_all_tree, questions_of, effect_of, answer}
+use Rattle.model.specs.Calls.{outcome_by, rules_of, sync_page_tree, sync_all_tree, questions_of, effect_of, answer}
 use Rattle.laws.proofs.StateLaws.{frames-few, Fit, in_order_lem}
 use Rattle.laws.proofs.CallLaws.{passed, stopped, none_left, refused-by, accepted-by}
-use Rattle.step.specs.Steps.{rules_by, stored}
+use Rattle.step.specs.Steps.{stored}
 use Rattle.sync.proofs.SyncLaws.{guard_fit, vector-fits, map-matches, below-in-shadow, below-in-map, page-below, all-given, one-given}
 use Rattle.sync_tree.proofs.SourceLaws.{step_same}
 
@@ -43,11 +47,6 @@ module _ (s : State) (shadow map exclusion : ℕ) (r : Bool) (asked : r ≡ in_o
     pub tree-page-map : page < map
     tree-page-map = below-in-map s shadow map exclusion fit-tree page (page-below s page b exists there)
 
--- Question 17 answered yes.
-pub tree-yes : (words : List ℕ) (root depth : ℕ) (w : Bool) → w ≡ tree_in_order (tree_of words root depth) → not w ≡ false
-    → tree_in_order (tree_of words root depth) ≡ true
-tree-yes words root depth w walks yes17 = sym walks ∙ not-false w yes17
-
 -- The calls from a tree: 7, 17 and 9 in this order.
 module _ (s : State) (words : List ℕ) (root depth : ℕ) (shadow map exclusion : List ℕ) (r : Bool)
     (asked : r ≡ in_order (state_in_order s) (guard_fit s (length shadow) (length map) (length exclusion))) where
@@ -58,53 +57,58 @@ module _ (s : State) (words : List ℕ) (root depth : ℕ) (shadow map exclusion
   before-tree t = guard_of s (with_three shadow map exclusion t)
 
   pub all-tree-7 : not r ≡ true → (t : Tables)
-      → kept_by (Refused 7) s (with_three shadow map exclusion t) ≡ answer (before-tree t) (sync_all_tree tree)
+      → outcome_by (Err StateOrTable) s (with_three shadow map exclusion t) ≡ answer (before-tree t) (sync_all_tree tree)
   unfolding questions_of sync_all_tree_questions
-  all-tree-7 p t = refused-by (before-tree t) (sync_all_tree tree) _ 7 (sym (stopped 7 r _ _ asked p)) (λ z. omega arith) refl refl
+  all-tree-7 p t = refused-by (before-tree t) (sync_all_tree tree) (Err StateOrTable) s StateOrTable (sym (stopped 7 r _ _ asked p)) refl refl
 
   pub page-tree-7 : (page : ℕ) → not r ≡ true → (t : Tables)
-      → kept_by (Refused 7) s (with_three shadow map exclusion t) ≡ answer (before-tree t) (sync_page_tree tree page)
+      → outcome_by (Err StateOrTable) s (with_three shadow map exclusion t) ≡ answer (before-tree t) (sync_page_tree tree page)
   unfolding questions_of sync_page_tree_questions
-  page-tree-7 page p t = refused-by (before-tree t) (sync_page_tree tree page) _ 7 (sym (stopped 7 r _ _ asked p)) (λ z. omega arith) refl refl
+  page-tree-7 page p t = refused-by (before-tree t) (sync_page_tree tree page) (Err StateOrTable) s StateOrTable (sym (stopped 7 r _ _ asked p)) refl refl
 
-  module _ (yes7 : not r ≡ false) (w : Bool) (walks : w ≡ tree_in_order tree) where
-    pub all-tree-17 : not w ≡ true → (t : Tables)
-        → kept_by (Refused 17) s (with_three shadow map exclusion t) ≡ answer (before-tree t) (sync_all_tree tree)
+  module _ (yes7 : not r ≡ false) where
+    pub all-tree-17 : (refusal : Refusal) → number_of refusal ≡ 17 → tree_in_order tree ≡ false → (t : Tables)
+        → outcome_by (Err refusal) s (with_three shadow map exclusion t) ≡ answer (before-tree t) (sync_all_tree tree)
     unfolding questions_of sync_all_tree_questions
-    all-tree-17 p t =
-        refused-by (before-tree t) (sync_all_tree tree) _ 17 (sym (passed 7 17 r _ _ asked yes7 (stopped 17 w _ _ walks p))) (λ z. omega arith) refl refl
+    all-tree-17 refusal n p t =
+        refused-by (before-tree t) (sync_all_tree tree) (Err refusal) s refusal
+        (sym (passed 7 17 r _ _ asked yes7 (stopped 17 (tree_in_order tree) _ _ refl (ap not p))) ∙ sym n) refl refl
 
-    pub page-tree-17 : (page : ℕ) → not w ≡ true → (t : Tables)
-        → kept_by (Refused 17) s (with_three shadow map exclusion t) ≡ answer (before-tree t) (sync_page_tree tree page)
+    pub page-tree-17 : (page : ℕ) (refusal : Refusal) → number_of refusal ≡ 17 → tree_in_order tree ≡ false → (t : Tables)
+        → outcome_by (Err refusal) s (with_three shadow map exclusion t) ≡ answer (before-tree t) (sync_page_tree tree page)
     unfolding questions_of sync_page_tree_questions
-    page-tree-17 page p t =
-        refused-by (before-tree t) (sync_page_tree tree page) _ 17 (sym (passed 7 17 r _ _ asked yes7 (stopped 17 w _ _ walks p))) (λ z. omega arith) refl refl
+    page-tree-17 page refusal n p t =
+        refused-by (before-tree t) (sync_page_tree tree page) (Err refusal) s refusal
+        (sym (passed 7 17 r _ _ asked yes7 (stopped 17 (tree_in_order tree) _ _ refl (ap not p))) ∙ sym n) refl refl
 
-    module _ (yes17 : not w ≡ false) where
-      pub all-tree-accepted : (u : Bool) (f : ℕ) (shadow' map' : List ℕ) (x y : ℕ) → u ≡ in_user s.mode → f ≡ pending_frame s.pending
-          → sweep shadow' map' x y ≡ sweep_from (step_from (rules_by u s.frames f exclusion) (flat_at tree)) 0 shadow map → (t : Tables)
-          → kept_by (Done x y) s (with_three shadow' map' exclusion t) ≡ answer (before-tree t) (sync_all_tree tree)
+    module _ (made : Given) (same : tree_in made ≡ tree) where
+      yes17 : not (tree_in_order tree) ≡ false
+      yes17 = ap not (rw same at made.in_order)
+
+      pub all-tree-accepted : (given : Rules) (shadow' map' : List ℕ) (x y : ℕ) → given ≡ rules_of s exclusion
+          → sweep shadow' map' x y ≡ sweep_from (step_from given (flat_at (tree_in made))) 0 shadow map → (t : Tables)
+          → outcome_by (Ok (x, y)) s (with_three shadow' map' exclusion t) ≡ answer (before-tree t) (sync_all_tree tree)
       unfolding questions_of sync_all_tree_questions effect_of
-      all-tree-accepted u f shadow' map' x y q z p t =
-          accepted-by (before-tree t) (sync_all_tree tree) _ (sym (passed 7 0 r _ _ asked yes7 (passed 17 0 w _ _ walks yes17 none_left)))
-          (all-given s shadow map exclusion (flat_at tree) u f shadow' map' x y q z p t)
+      all-tree-accepted given shadow' map' x y q p t =
+          accepted-by (before-tree t) (sync_all_tree tree) _ (sym (passed 7 0 r _ _ asked yes7 (passed 17 0 (tree_in_order tree) _ _ refl yes17 none_left)))
+          (all-given s shadow map exclusion (flat_at tree) given shadow' map' x y q (rw same at p) t)
 
       module _ (page : ℕ) (b : Bool) (exists : b ≡ ltb page s.pages) where
         pub page-tree-9 : not b ≡ true → (t : Tables)
-            → kept_by (Refused 9) s (with_three shadow map exclusion t) ≡ answer (before-tree t) (sync_page_tree tree page)
+            → outcome_by (Err DoesNotExist) s (with_three shadow map exclusion t) ≡ answer (before-tree t) (sync_page_tree tree page)
         unfolding questions_of sync_page_tree_questions
         page-tree-9 p t =
-            refused-by (before-tree t) (sync_page_tree tree page) _ 9
-            (sym (passed 7 9 r _ _ asked yes7 (passed 17 9 w _ _ walks yes17 (stopped 9 b _ _ exists p)))) (λ z. omega arith) refl refl
+            refused-by (before-tree t) (sync_page_tree tree page) (Err DoesNotExist) s DoesNotExist
+            (sym (passed 7 9 r _ _ asked yes7 (passed 17 9 (tree_in_order tree) _ _ refl yes17 (stopped 9 b _ _ exists p)))) refl refl
 
-        pub page-tree-accepted : (u : Bool) (f k : ℕ) (shadow' map' : List ℕ) (x y : ℕ) → not b ≡ false → u ≡ in_user s.mode → f ≡ pending_frame s.pending
-            → taken_apart k ≡ taken_apart (flat_at tree page)
-            → sweep shadow' map' x y ≡ stored page (sweep shadow map 0 0) (step (rules_by u s.frames f exclusion) k (get_or map page 0)) → (t : Tables)
-            → kept_by (Done x y) s (with_three shadow' map' exclusion t) ≡ answer (before-tree t) (sync_page_tree tree page)
+        pub page-tree-accepted : (given : Rules) (k : ℕ) (shadow' map' : List ℕ) (c j x y : ℕ) → not b ≡ false → given ≡ rules_of s exclusion → (c ≡ 0) × (j ≡ 0)
+            → taken_apart k ≡ taken_apart (flat_at (tree_in made) page)
+            → sweep shadow' map' x y ≡ stored page (sweep shadow map c j) (step given k (get_or map page 0)) → (t : Tables)
+            → outcome_by (Ok (x, y)) s (with_three shadow' map' exclusion t) ≡ answer (before-tree t) (sync_page_tree tree page)
         unfolding questions_of sync_page_tree_questions effect_of
-        page-tree-accepted u f k shadow' map' x y there q z apart p t =
+        page-tree-accepted given k shadow' map' c j x y there q z apart p t =
             let inside : page < length map = tree-page-map s (length shadow) (length map) (length exclusion) r asked yes7 page b exists there in
             accepted-by (before-tree t) (sync_page_tree tree page) _
-            (sym (passed 7 0 r _ _ asked yes7 (passed 17 0 w _ _ walks yes17 (passed 9 0 b _ _ exists there none_left))))
-            (one-given s shadow map exclusion (flat_at tree) u f page shadow' map' x y inside q z
-            (p ∙ ap (stored page (sweep shadow map 0 0)) (step_same _ k (flat_at tree page) (get_or map page 0) apart)) t)
+            (sym (passed 7 0 r _ _ asked yes7 (passed 17 0 (tree_in_order tree) _ _ refl yes17 (passed 9 0 b _ _ exists there none_left))))
+            (one-given s shadow map exclusion (flat_at tree) given page shadow' map' x y inside q
+            (rw (z.0, z.1) at p ∙ ap (stored page (sweep shadow map 0 0)) (step_same _ k (flat_at tree page) (get_or map page 0) (rw same at apart))) t)

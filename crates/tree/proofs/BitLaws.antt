@@ -1,4 +1,5 @@
 -- The bits of rights gathered in words, of a flat entry and of a large page's entry.
+use Rattle.std.specs.Prelude.{None, Some, Option}
 use Prim.Native.Nat.{ℕ, zero, suc, ◌+◌, ◌*◌, ◌/◌, ◌%◌, ◌^◌, ◌<◌}
 use mathlib.Core.Bool.{Bool, true, false, cond}
 use mathlib.Core.Logic.{◌⊎◌, inl, inr}
@@ -6,8 +7,7 @@ use mathlib.Core.Path.{◌≡◌, refl, sym, ap, ap₂, ◌∙◌}
 use native.Mathlib.Omega.{arith}
 use lib.Bits.{bit_and, bit_or, and_shr, or_shr, and_mod, or_mod, or_lt, or_comm, or_zero_r, or_block}
 use lib.Dec.{eqb}
-use Rattle.model.specs.declared.Entry.{Entry}
-use Rattle.model.specs.declared.Entry.TheVariants.{Absent, Present}
+use Rattle.model.specs.declared.Fields.{Fields}
 use Rattle.model.specs.Basics.{both, either, bit, flag}
 use Rattle.model.specs.Bits.{present, writable, user_bit, write_through, cache_disable, no_execute, frame_of, fields_of, reserved, valid, taken_apart}
 use Rattle.model.specs.Tree.{Rights, gathered, flat_entry}
@@ -66,7 +66,7 @@ sums a o entry h =
     total f t c w u n = omega arith
 
 -- The flat entry of a last entry that is present.
-flat-present : (all any entry : ℕ) → any < 2 ^ 64 → entry < 2 ^ 64 → taken_apart entry ≡ Present (fields_of entry)
+flat-present : (all any entry : ℕ) → any < 2 ^ 64 → entry < 2 ^ 64 → taken_apart entry ≡ Some (fields_of entry)
     → frame_of entry * 2 ^ 12 + entry / 2 ^ 3 % 4 * 2 ^ 3 + bit_and all entry / 2 % 4 * 2 + 1 + bit_or any entry / 2 ^ 63 * 2 ^ 63
     ≡ last_flat (rights_by all any) (taken_apart entry)
 unfolding last_flat fields_of
@@ -75,16 +75,16 @@ flat-present all any entry l m there =
     rw (there, gathered-by 1 all any entry refl) (sums (bit_and all entry) (bit_or any entry) entry top)
 
 -- The flat entry of a valid last entry: bit 63 is set beside what it was, and below it stand the frame and the low bits.
-pub flat-made : (all any entry : ℕ) → any < 2 ^ 64 → entry < 2 ^ 64 → valid entry ≡ true
+pub flat_made : (all any entry : ℕ) → any < 2 ^ 64 → entry < 2 ^ 64 → valid entry ≡ true
     → bit_or (entry / 2 ^ 12 * 2 ^ 12 + entry / 2 ^ 3 % 4 * 2 ^ 3 + bit_and all entry / 2 % 4 * 2 + entry % 2) (any / 2 ^ 63 * 2 ^ 63)
     ≡ last_flat (rights_by all any) (taken_apart entry)
 unfolding taken_apart fields_of frame_of
-flat-made all any entry l m fits =
+flat_made all any entry l m fits =
     let parts : (entry % 2 ≡ 1) × (entry / 2 ^ 52 % 2 ^ 11 ≡ 0) = valid-parts entry fits in
     let r : ℕ = bit_and all entry / 2 % 4 in
     let t : ℕ = entry / 2 ^ 3 % 4 in
     let low : ℕ = entry / 2 ^ 12 % 2 ^ 40 * 2 ^ 12 + t * 2 ^ 3 + r * 2 + 1 in
-    let there : taken_apart entry ≡ Present (fields_of entry) = rw fits in
+    let there : taken_apart entry ≡ Some (fields_of entry) = rw fits in
     let split : entry / 2 ^ 12 * 2 ^ 12 + t * 2 ^ 3 + r * 2 + entry % 2 ≡ entry / 2 ^ 63 * 2 ^ 63 + low = pieces entry t r parts.0 parts.1 in
     let small : low < 2 ^ 63 = under (entry / 2 ^ 12 % 2 ^ 40) t r (omega arith) (omega arith) (omega arith) in
     let zeros : any / 2 ^ 63 * 2 ^ 63 ≡ any / 2 ^ 63 * 2 ^ 63 + 0 = omega arith in
@@ -204,15 +204,15 @@ flat-digits : (f t r o : ℕ) → f < 2 ^ 40 → t < 4 → r < 4 → o < 2
 flat-digits f t r o a b c d = (omega arith, omega arith, omega arith, omega arith)
 
 -- An entry that is valid where an absent one is, is absent.
-there : Entry → Bool
-there Absent = false
-there (Present x) = true
+there : Option Fields → Bool
+there None = false
+there (Some x) = true
 
-absent-same : (x y : ℕ) → valid x ≡ valid y → taken_apart y ≡ Absent → taken_apart x ≡ taken_apart 0
+absent-same : (x y : ℕ) → valid x ≡ valid y → taken_apart y ≡ None → taken_apart x ≡ taken_apart 0
 unfolding taken_apart valid present reserved bit both there
 absent-same x y e p = rw (e ∙ by (valid y) ∙ ap there p)
   where
-    by : (b : Bool) → b ≡ there (cond b (Present (fields_of y)) Absent)
+    by : (b : Bool) → b ≡ there (cond b (Some (fields_of y)) None)
     by true = refl
     by false = refl
 
@@ -258,7 +258,7 @@ module _ (all any entry : ℕ) (l : any < 2 ^ 64) (m : entry < 2 ^ 64) where
       sym (low_below narrowed) ∙ ap (λ (x : ℕ). x % 2 ^ 5) below-63 ∙ low_below kept ∙ low
 
   -- A present entry: the flat entry has the same bits 0 to 4 and 63 and frame, and neither has a reserved bit.
-  narrowed-present : taken_apart entry ≡ Present (fields_of entry) → taken_apart narrowed ≡ taken_apart (last_flat (rights_by all any) (taken_apart entry))
+  narrowed-present : taken_apart entry ≡ Some (fields_of entry) → taken_apart narrowed ≡ taken_apart (last_flat (rights_by all any) (taken_apart entry))
   unfolding fields_of frame_of
   narrowed-present there =
       let parts : (entry % 2 ≡ 1) × (entry / 2 ^ 52 % 2 ^ 11 ≡ 0) = valid-parts entry (present-valid entry (fields_of entry) there) in
@@ -279,11 +279,11 @@ module _ (all any entry : ℕ) (l : any < 2 ^ 64) (m : entry < 2 ^ 64) where
       let low : narrowed % 2 ^ 1 ≡ entry % 2 ^ 1 = omega (arith, narrowed_low) in
       rw (bits_below 1 narrowed entry low 0 (omega arith), narrowed-reserved)
 
-  pub narrowed-apart : taken_apart narrowed ≡ taken_apart (last_flat (rights_by all any) (taken_apart entry))
+  pub narrowed_apart : taken_apart narrowed ≡ taken_apart (last_flat (rights_by all any) (taken_apart entry))
   unfolding last_flat
-  narrowed-apart = by (taken-apart entry)
+  narrowed_apart = by (taken-apart entry)
     where
-      by : (taken_apart entry ≡ Absent) ⊎ (taken_apart entry ≡ Present (fields_of entry))
+      by : (taken_apart entry ≡ None) ⊎ (taken_apart entry ≡ Some (fields_of entry))
           → taken_apart narrowed ≡ taken_apart (last_flat (rights_by all any) (taken_apart entry))
       by (inl absent) = rw absent (absent-same narrowed entry narrowed-valid absent)
       by (inr there) = narrowed-present there

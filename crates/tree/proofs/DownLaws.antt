@@ -1,4 +1,6 @@
 -- What each way out of a level gives to the walk of a page, in one word, and what the word of a walk from the root says.
+use Rattle.std.specs.Prelude.{None, Some, Option, Ok}
+use Rattle.model.specs.Calls.{Answer}
 use Prim.Native.Nat.{ℕ, zero, suc, ◌+◌, ◌-◌, ◌*◌, ◌/◌, ◌%◌, ◌^◌, ◌≤◌, ◌<◌}
 use mathlib.Core.Bool.{Bool, true, false, cond}
 use mathlib.Core.List.{List}
@@ -8,15 +10,12 @@ use lib.Bits.{bit_and, bit_or}
 use lib.Dec.{eqb, ltb}
 use lib.ListN.{length, get_or}
 use borrow.Author.Tests.{ltb-true, ltb-false, eqb-true, eqb-false, eq-eqb, ne_eqb, lt-ltb, le-ltb}
-use Rattle.model.specs.declared.Answer.TheVariants.{Done}
-use Rattle.model.specs.declared.Entry.{Entry}
-use Rattle.model.specs.declared.Entry.TheVariants.{Absent, Present}
 use Rattle.model.specs.declared.Fields.{Fields}
 use Rattle.model.specs.Basics.{both, bit, flag}
-use Rattle.model.specs.Bits.{valid, taken_apart}
+use Rattle.model.specs.Bits.{taken_apart}
 use Rattle.model.specs.Tree.{tables_in, place_above, Rights, gathered, flat_entry, large_entry, Tree, tree_of, Walk, ending, meeting, onward, walk_from, walk_of}
 use Rattle.model.specs.Tree.{flat_at, reads_at}
-use Rattle.laws.proofs.BitLaws.{present-valid, fields-apart}
+use Rattle.laws.proofs.BitLaws.{fields-apart}
 use Rattle.laws.proofs.TreeLaws.{reads-from}
 use Rattle.laws.proofs.VectorLaws.{flag-weight, flag_small}
 use Rattle.tree.specs.Parts.{rights_by, last_flat, walk_word}
@@ -52,19 +51,16 @@ flat-low rights x frame =
     rw (flat-sum rights x frame)
     (sum_low _ _ _ _ frame _ (flag_small rights.writable) (flag_small rights.user) (flag_small x.write_through) (flag_small x.cache_disable))
 
-last-low : (rights : Rights) (e : Entry) → last_flat rights e % 2 ^ 12 < 2 ^ 5
+last-low : (rights : Rights) (e : Option Fields) → last_flat rights e % 2 ^ 12 < 2 ^ 5
 unfolding last_flat
-last-low rights Absent = omega arith
-last-low rights (Present x) = flat-low (gathered 1 rights x) x x.frame
+last-low rights None = omega arith
+last-low rights (Some x) = flat-low (gathered 1 rights x) x x.frame
 
-pub made-low : (f : ℕ) (rights : Rights) (e : Entry) → f ≡ last_flat rights e → f % 2 ^ 12 < 2 ^ 5
+pub made-low : (f : ℕ) (rights : Rights) (e : Option Fields) → f ≡ last_flat rights e → f % 2 ^ 12 < 2 ^ 5
 made-low f rights e made = rw made (last-low rights e)
 
--- An entry that is there is valid, and the flat entry of an aligned large page has room for a page's low nine bits.
-module _ (entry : ℕ) (e : Entry) (x : Fields) (apart : e ≡ taken_apart entry) (there : e ≡ Present x) where
-  pub there-valid : valid entry ≡ true
-  there-valid = present-valid entry x (sym apart ∙ there)
-
+-- The flat entry of an aligned large page has room for a page's low nine bits.
+module _ (entry : ℕ) (e : Option Fields) (x : Fields) (apart : e ≡ taken_apart entry) (there : e ≡ Some x) where
   pub made-aligned : (f : ℕ) (rights : Rights) → f ≡ last_flat rights (taken_apart entry) → x.frame % 512 ≡ 0 → f % 2 ^ 21 < 2 ^ 5
   unfolding last_flat
   made-aligned f rights made aligned =
@@ -97,11 +93,11 @@ module _ (words : List ℕ) (page all any number count : ℕ) where
   word-outside (suc lower) l h = rw (le-ltb number (length words / 512) h) (omega arith)
 
   -- What follows the entry that is met.
-  abbrev follows : ℕ → Entry → Walk
+  abbrev follows : ℕ → Option Fields → Walk
   follows level e = onward level page (rights_by all any) (met words page level number) (λ these next. walk_from words page (level - 1) these next) e
 
   module _ (h : number < length words / 512) where
-    meets : (level : ℕ) → 1 ≤ level → (e : Entry) → e ≡ taken_apart (met words page level number)
+    meets : (level : ℕ) → 1 ≤ level → (e : Option Fields) → e ≡ taken_apart (met words page level number)
         → walk_word (follows level e) + (count + 2 ^ 5) ≡ word level + count
     unfolding walk_from tables_in place_above meeting walk_word
     meets zero l e apart = absurd (omega arith)
@@ -109,12 +105,12 @@ module _ (words : List ℕ) (page all any number count : ℕ) where
         let same : suc lower - 1 ≡ lower = omega arith in
         rw (apart, same, lt-ltb number (length words / 512) h) (omega arith)
 
-    module _ (level : ℕ) (low : 1 ≤ level) (e : Entry) (apart : e ≡ taken_apart (met words page level number)) where
-      pub word-absent : e ≡ Absent → count + 2 ^ 5 ≡ word level + count
+    module _ (level : ℕ) (low : 1 ≤ level) (e : Option Fields) (apart : e ≡ taken_apart (met words page level number)) where
+      pub word-absent : e ≡ None → count + 2 ^ 5 ≡ word level + count
       unfolding onward walk_word
       word-absent absent = let rest = rw absent at (meets level low e apart) in omega (arith, rest)
 
-      module _ (x : Fields) (there : e ≡ Present x) where
+      module _ (x : Fields) (there : e ≡ Some x) where
         abbrev upper : ℕ
         upper = met words page level number
 
@@ -226,11 +222,11 @@ large-entry-low rights x page = by (eqb (x.frame % 2 ^ 9) 0)
     by true = flat-low rights x (x.frame + page % 2 ^ 9)
     by false = omega arith
 
-onward-low : (level page : ℕ) (rights : Rights) (entry : ℕ) (down : Rights → ℕ → Walk) (e : Entry)
+onward-low : (level page : ℕ) (rights : Rights) (entry : ℕ) (down : Rights → ℕ → Walk) (e : Option Fields)
     → ((these : Rights) (next : ℕ) → (down these next).flat % 2 ^ 12 < 2 ^ 5) → (onward level page rights entry down e).flat % 2 ^ 12 < 2 ^ 5
 unfolding onward
-onward-low level page rights entry down Absent h = omega arith
-onward-low level page rights entry down (Present x) h =
+onward-low level page rights entry down None h = omega arith
+onward-low level page rights entry down (Some x) h =
     let these : Rights = gathered level rights x in
     either-low (eqb level 1) _ _ (flat-low these x x.frame)
     (either-low (both (eqb level 2) (bit 7 entry)) _ _ (large-entry-low these x page) (h these x.frame))
@@ -270,6 +266,9 @@ module _ (f n : ℕ) (low : f % 2 ^ 12 < 2 ^ 5) (few : n ≤ 3) where
       top x = omega arith
 
 -- From the root, of a tree in order.
+abbrev done : ℕ × ℕ → Answer
+done numbers = Ok numbers
+
 module _ (words : List ℕ) (root depth page : ℕ) (most : depth ≤ 3) (b : Bool) (asked : b ≡ ltb page (2 ^ (9 * depth))) where
   abbrev tree : Tree
   tree = tree_of words root depth
@@ -289,9 +288,9 @@ module _ (words : List ℕ) (root depth page : ℕ) (most : depth ≤ 3) (b : Bo
   unfolding flat_at
   none_apart many = ap (λ (w : Walk). taken_apart w.flat) (sym (walk_none many))
 
-  pub none-walked : b ≡ false → Done 0 0 ≡ Done (flat_at tree page) (reads_at tree page)
+  pub none-walked : b ≡ false → done (0, 0) ≡ done (flat_at tree page, reads_at tree page)
   unfolding flat_at reads_at
-  none-walked many = ap (λ (w : Walk). Done w.flat (length w.met)) (sym (walk_none many))
+  none-walked many = ap (λ (w : Walk). done (w.flat, length w.met)) (sym (walk_none many))
 
   module _ (few : b ≡ true) (r : ℕ) (walked : r ≡ walk_word from-root + 0) where
     low : from-root.flat % 2 ^ 12 < 2 ^ 5
@@ -309,9 +308,10 @@ module _ (words : List ℕ) (root depth page : ℕ) (most : depth ≤ 3) (b : Bo
     word-apart =
         ap taken_apart made ∙ beside-apart from-root.flat (length from-root.met) low reads ∙ ap (λ (w : Walk). taken_apart w.flat) (sym (walk-some few))
 
-    pub word-walked : Done (r / 2 ^ 7 * 2 ^ 7 + r % 2 ^ 5) (r / 2 ^ 5 % 4) ≡ Done (flat_at tree page) (reads_at tree page)
+    pub word-walked : done (r / 2 ^ 7 * 2 ^ 7 + r % 2 ^ 5, r / 2 ^ 5 % 4) ≡ done (flat_at tree page, reads_at tree page)
     unfolding flat_at reads_at
     word-walked =
-        ap (λ (x : ℕ). Done (x / 2 ^ 7 * 2 ^ 7 + x % 2 ^ 5) (x / 2 ^ 5 % 4)) made
-        ∙ ap₂ Done (beside-flat from-root.flat (length from-root.met) low reads) (beside-count from-root.flat (length from-root.met) low reads)
-        ∙ ap (λ (w : Walk). Done w.flat (length w.met)) (sym (walk-some few))
+        ap (λ (x : ℕ). done (x / 2 ^ 7 * 2 ^ 7 + x % 2 ^ 5, x / 2 ^ 5 % 4)) made
+        ∙ ap₂ (λ (x y : ℕ). done (x, y)) (beside-flat from-root.flat (length from-root.met) low reads)
+        (beside-count from-root.flat (length from-root.met) low reads)
+        ∙ ap (λ (w : Walk). done (w.flat, length w.met)) (sym (walk-some few))

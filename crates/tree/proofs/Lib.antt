@@ -1,6 +1,5 @@
 -- Laws of this crate's proofs, and what those of `sync_tree` cite.
 mod OrderLaws
 pub mod BitLaws
-mod WordLaws
 mod WalkLaws
 mod DownLaws

@@ -2,18 +2,20 @@
 use Prim.Native.Nat.{ℕ, ◌/◌, ◌%◌, ◌≤◌, ◌<◌}
 use mathlib.Core.Bool.{Bool, true, false, not}
 use mathlib.Core.List.{List, [], ◌∷◌}
-use mathlib.Core.Path.{◌≡◌, refl, sym, ap, ◌∙◌}
+use mathlib.Core.Path.{◌≡◌, refl, sym, ap}
 use native.Mathlib.Omega.{arith}
 use lib.Dec.{ltb}
 use lib.ListN.{length}
 use borrow.Author.Tests.{eq-eqb, ne_eqb, lt-leb, ltb-true}
 use Rattle.model.specs.Basics.{both, within}
-use Rattle.model.specs.Bits.{taken_apart}
-use Rattle.model.specs.declared.Answer.{Answer}
-use Rattle.model.specs.declared.Answer.TheVariants.{Done, Refused}
+use Rattle.model.specs.declared.Refusal.{Refusal}
+use Rattle.model.specs.declared.Refusal.TheVariants.{StateOrTable}
+use Rattle.model.specs.Refusals.{number_of}
+use Rattle.std.specs.Prelude.{Ok, Err}
 use Rattle.model.specs.Tree.{Tree, tree_of, tables_in, tree_in_order, flat_at, reads_at}
+use Rattle.tree.specs.declared.given.Tree.{Tree as Given}
 use Rattle.model.specs.Questions.{question}
-use Rattle.model.specs.Calls.{reply_of, settle}
+use Rattle.model.specs.Calls.{Answer, reply_of, settle}
 use Rattle.model.specs.Walks.{walk_questions, walk_reply}
 use Rattle.laws.proofs.CallLaws.{passed, stopped, none_left}
 use Rattle.laws.proofs.QuestionLaws.{both-no, both-no-after, both_first, both-second, within-yes, within_low, within-high}
@@ -49,42 +51,34 @@ module _ (words : List ℕ) (root depth : ℕ) where
     unfolding tree_in_order tables_in
     root_in = ltb-true root (length words / 512) (both-second _ _ (both-second _ _ fits))
 
-    -- By the number that its depth is.
     pub third-left : (depth ≡ 1 → ⊥) → (depth ≡ 2 → ⊥) → depth ≡ 3
     third-left not-1 not-2 = omega (arith, depth-least, depth-most, not-1, not-2)
 
-    pub order-at : (d : ℕ) → depth ≡ d → tree_in_order (tree_of words root d) ≡ true
-    order-at d same = rw (← same) fits
+-- By the number that its depth is.
+module _ (given : Given) (d : ℕ) (same : given.depth ≡ d) where
+  pub least-of : 1 ≤ d
+  least-of = rw (← same) (depth-least given.words.now given.root given.depth given.in_order)
 
-    pub apart-at : (page d r : ℕ) → depth ≡ d → taken_apart r ≡ taken_apart (flat_at (tree_of words root d) page)
-        → taken_apart r ≡ taken_apart (flat_at (tree_of words root depth) page)
-    apart-at page d r same apart = rw same apart
+  pub most-of : d ≤ 3
+  most-of = rw (← same) (depth-most given.words.now given.root given.depth given.in_order)
 
 -- The walk as a call: refused with 7, with 17, and accepted.
 module _ (fit : Bool) (tree : Tree) (page : ℕ) where
-  pub walk-7 : fit ≡ false → reply_of (Refused 7) ≡ walk_reply fit tree page
+  pub walk-7 : fit ≡ false → reply_of (Err StateOrTable) ≡ walk_reply fit tree page
   unfolding reply_of walk_reply walk_questions settle
   walk-7 p = rw (sym (stopped 7 fit fit (question 17 (tree_in_order tree) ∷ []) refl (ap not p)))
 
-  module _ (r : Bool) (fits : fit ≡ true) (asked : r ≡ tree_in_order tree) where
-    pub walk-17 : r ≡ false → reply_of (Refused 17) ≡ walk_reply fit tree page
+  module _ (fits : fit ≡ true) where
+    pub walk-17 : (refusal : Refusal) → number_of refusal ≡ 17 → tree_in_order tree ≡ false → reply_of (Err refusal) ≡ walk_reply fit tree page
     unfolding reply_of walk_reply walk_questions settle
-    walk-17 p = rw (sym (passed 7 17 fit fit (question 17 (tree_in_order tree) ∷ []) refl (ap not fits) (stopped 17 r (tree_in_order tree) [] asked (ap not p))))
+    walk-17 refusal q p =
+        let stops = stopped 17 (tree_in_order tree) (tree_in_order tree) [] refl (ap not p) in
+        rw (q, sym (passed 7 17 fit fit (question 17 (tree_in_order tree) ∷ []) refl (ap not fits) stops))
 
-    walk-done : (x y : ℕ) → r ≡ true → x ≡ flat_at tree page → y ≡ reads_at tree page → reply_of (Done x y) ≡ walk_reply fit tree page
+    pub walk-done : (given : Tree) → tree_in_order given ≡ true → given ≡ tree → (a : Answer)
+        → a ≡ Ok (flat_at given page, reads_at given page) → reply_of a ≡ walk_reply fit tree page
     unfolding reply_of walk_reply walk_questions settle
-    walk-done x y p q s =
-        rw (sym (passed 7 0 fit fit (question 17 (tree_in_order tree) ∷ []) refl (ap not fits) (passed 17 0 r (tree_in_order tree) [] asked (ap not p) none_left)), q, s)
-
--- A tree in order, by the number that its depth is.
-module _ (words : List ℕ) (root depth : ℕ) (r : Bool) (asked : r ≡ tree_in_order (tree_of words root depth)) (passes : r ≡ true) where
-  pub third-depth : (depth ≡ 1 → ⊥) → (depth ≡ 2 → ⊥) → depth ≡ 3
-  third-depth = third-left words root depth (sym asked ∙ passes)
-
-  pub order-by : (d : ℕ) → depth ≡ d → tree_in_order (tree_of words root d) ≡ true
-  order-by = order-at words root depth (sym asked ∙ passes)
-
-  pub walk-by : (fit : Bool) (page d : ℕ) → fit ≡ true → depth ≡ d → (a : Answer)
-      → a ≡ Done (flat_at (tree_of words root d) page) (reads_at (tree_of words root d) page) → reply_of a ≡ walk_reply fit (tree_of words root depth) page
-  walk-by fit page d fits same a walked =
-      rw (walked, ← same) (walk-done fit (tree_of words root depth) page r fits asked _ _ passes refl refl)
+    walk-done given p same a q =
+        let there : tree_in_order tree ≡ true = rw same at p in
+        let rest = passed 17 0 (tree_in_order tree) (tree_in_order tree) [] refl (ap not there) none_left in
+        rw (q, same, sym (passed 7 0 fit fit (question 17 (tree_in_order tree) ∷ []) refl (ap not fits) rest))

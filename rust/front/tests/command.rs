@@ -8,6 +8,8 @@ use std::fs;
 use std::io::Write;
 use std::os::unix::ffi::OsStrExt;
 use std::process::{Child, Command, Output, Stdio};
+use std::thread::sleep;
+use std::time::Duration;
 
 const POLICY: &str = "policy pages 4 frames 4\napprove page 1 frame 2 entry\n";
 
@@ -195,6 +197,8 @@ fn run_tells_of_a_drill_that_fails() {
 fn closed_pipes() {
     let mut child = started(&["encode"]);
     drop(child.stdout.take());
+    // A program that another test starts just now has a copy of the pipe until its `exec`.
+    sleep(Duration::from_millis(500));
     let output = finished(child, POLICY.as_bytes());
     assert_eq!(output.status.code(), Some(1));
     let told = String::from_utf8(output.stderr).unwrap();

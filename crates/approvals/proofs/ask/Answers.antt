@@ -1,25 +1,20 @@
--- A law for each answer: questions 7, 9, 20 and 21 refuse, or the ask is accepted.
-use Rattle.std.proofs.Common.{ap, not}
-use Rattle.approvals.proofs.ApprovalLaws.{ask-7, ask-9, ask-20, ask-narrow, ask-21, ask-accepted}
-use borrow.Author.Rules.{rules}
+-- The frame fits 16 bits, and question 21 is asked of every page below V.
+use native.Mathlib.Omega.{arith}
+use Rattle.laws.proofs.AskedLaws.{answered}
+use Rattle.approvals.proofs.ApprovalLaws.{asks, asked_21, ask-narrow}
 use Rattle.approvals.proofs.ask.Goals as goal
 
-pub returns-then-not-three_tables_in_order : goal.returns-then-not-three_tables_in_order
-returns-then-not-three_tables_in_order c = search (rules, ask-7)
-
-pub returns-then-not-pair_exists : goal.returns-then-not-pair_exists
-returns-then-not-pair_exists c = search (rules, ask-9)
-
-pub returns-then-not-may_ask : goal.returns-then-not-may_ask
-returns-then-not-may_ask c = search (rules, ask-20)
-
 pub overflow_cast-frame : goal.overflow_cast-frame
-overflow_cast-frame c =
-    ask-narrow _ _ _ _ _ _ c.three_tables_in_order.ensures (ap not c.if-not-three_tables_in_order.false) c.pair_exists.ensures
-    (ap not c.if-not-pair_exists.false)
+overflow_cast-frame c = ask-narrow c.args.s.now _ c.args.page _ c.if-not-three_tables_in_order.ensures c.if-not-pair_exists.ensures
 
 pub returns-then-not-none_writable : goal.returns-then-not-none_writable
-returns-then-not-none_writable c = search (rules, ask-21)
+returns-then-not-none_writable c t =
+    let writable =
+    asked_21 c.args.s.now c.args.frame c.args.shadow.now _ _ c.if-not-three_tables_in_order.ensures c.if-not-none_writable.ensures in
+    grind (arith, answered, asks, writable)
 
 pub returns : goal.returns
-returns c = search (rules, ask-accepted)
+returns c t =
+    let none_writable =
+    asked_21 c.args.s.now c.args.frame c.args.shadow.now _ _ c.if-not-three_tables_in_order.ensures c.if-not-none_writable.ensures in
+    grind (arith, answered, asks, none_writable)

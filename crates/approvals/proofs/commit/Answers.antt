@@ -1,30 +1,19 @@
--- A law for each answer: questions 7, 22 and 20 refuse, or the commit is accepted.
-use Rattle.std.proofs.Common.{ap, not}
-use Rattle.approvals.proofs.ApprovalLaws.{commit-7, commit-22, commit-20, commit-same, commit-few, commit-below, commit-narrow, commit-accepted}
-use borrow.Author.Rules.{rules}
+-- The pair is below V and F, and the sweep is the commit's.
+use native.Mathlib.Omega.{arith}
+use Rattle.laws.proofs.AskedLaws.{answered}
+use Rattle.approvals.proofs.ApprovalLaws.{commits, commit-inside, commit_gives}
 use Rattle.approvals.proofs.commit.Goals as goal
 
-pub returns-then-not-commit_in_order : goal.returns-then-not-commit_in_order
-returns-then-not-commit_in_order c = search (rules, commit-7)
-
-pub returns-in_default : goal.returns-in_default
-returns-in_default c = search (rules, commit-22)
-
-pub returns-then-approval_of : goal.returns-then-approval_of
-returns-then-approval_of c = search (rules, commit-20)
-
-pub overflow_cast-frame : goal.overflow_cast-frame
-overflow_cast-frame c = search (rules, commit-narrow)
+pub overflow_cast-asked : goal.overflow_cast-asked
+overflow_cast-asked c =
+    record { fits = omega (arith, (commit-inside c.args.s.now _ _ c.in_ok-asked.asked c.if-not-commit_in_order.ensures c.in_ok-asked.ensures.ok_part).3) }
 
 pub commit_pages-all-requires : goal.commit_pages-all-requires
 commit_pages-all-requires c =
-    let below =
-    commit-below _ c.args.shadow.now
-    c.args.map.now _
-    c.commit_in_order.ensures
-    (ap not c.if-not-commit_in_order.false) _ _
-    c.in-Pair.is in
-    (search (rules, commit-same), search (rules, commit-few), below.0, below.1)
+    commit-inside c.args.s.now _ _ c.in_ok-asked.asked c.if-not-commit_in_order.ensures c.in_ok-asked.ensures.ok_part
 
 pub returns : goal.returns
-returns c = search (rules, commit-accepted)
+returns c t =
+    let gives =
+    commit_gives c.args.s.now c.in_ok-asked.asked _ _ _ _ _ _ _ t c.in_ok-asked.ensures.ok_part c.in_user-user.ensures c.commit_pages-all.ensures in
+    grind (arith, answered, commits, gives)

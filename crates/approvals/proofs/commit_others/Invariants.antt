@@ -1,6 +1,5 @@
-use Prim.Native.Nat.{◌-◌, ◌≤◌}
+use Prim.Native.Nat.{◌≤◌}
 use mathlib.Core.Path.{◌≡◌}
-use lib.ListN.{length}
 use Rattle.model.specs.Sync.{sweep, sweep_from}
 use Rattle.laws.proofs.SweepLaws.{whole}
 use Rattle.approvals.proofs.CommitLaws.{joining}
@@ -8,8 +7,5 @@ use Rattle.approvals.proofs.commit_others.Given as goal
 
 abbrev pub invariant-loop-i : goal.invariant-loop-i
 invariant-loop-i l =
-    (l.i ≤ length l.shadow) × (length l.shadow ≡ length l.initial.shadow) × (length l.map ≡ length l.shadow) × (l.counts.changed ≤ l.i) × (l.counts.joined ≤ l.i)
+    (l.counts.changed ≤ l.i) × (l.counts.joined ≤ l.i)
     × (whole (joining l.user l.frame) l.i (sweep l.shadow l.map l.counts.changed l.counts.joined) ≡ sweep_from (joining l.user l.frame) 0 l.initial.shadow l.initial.map)
-
-abbrev pub decreases-loop-i : goal.decreases-loop-i
-decreases-loop-i l = length l.shadow - l.i

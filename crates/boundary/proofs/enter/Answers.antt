@@ -3,14 +3,11 @@ use borrow.Author.Rules.{rules}
 use Rattle.boundary.proofs.BoundaryLaws.{unused, run-used, shadow-called}
 use Rattle.boundary.proofs.enter.Goals as goal
 
-pub returns-then-not-usable : goal.returns-then-not-usable
-returns-then-not-usable c = search (rules, unused)
+pub put-requires : goal.put-requires
+put-requires c = search (rules, run-used)
 
-pub state_in-requires : goal.state_in-requires
-state_in-requires c = search (rules, run-used)
+pub returns-in-Ok : goal.returns-in-Ok
+returns-in-Ok c = search (rules, shadow-called)
 
-pub put_switched-requires : goal.put_switched-requires
-put_switched-requires c = search (rules, run-used)
-
-pub returns : goal.returns
-returns c = search (rules, shadow-called)
+pub returns-in-Err : goal.returns-in-Err
+returns-in-Err c = search (rules, unused)

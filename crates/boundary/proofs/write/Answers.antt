@@ -1,13 +1,10 @@
 -- `boundary::write` meets its contract.
-use borrow.Author.Rules.{rules}
-use Rattle.boundary.proofs.BoundaryLaws.{unused, run-used, write_kept}
+use Rattle.std.proofs.Common.{rules, refl}
+use Rattle.model.specs.Guard.{with_shadow, with_exclusion}
+use Rattle.boundary.proofs.BoundaryLaws.{read-answered}
 use Rattle.boundary.proofs.write.Goals as goal
 
-pub returns-then-not-usable : goal.returns-then-not-usable
-returns-then-not-usable c = search (rules, unused)
-
-pub state_in-requires : goal.state_in-requires
-state_in-requires c = search (rules, run-used)
-
 pub returns : goal.returns
-returns c = search (rules, write_kept)
+returns c =
+    read-answered _ _ _ _ _ _ _ (λ t. with_shadow c.args.shadow.now (with_exclusion c.args.exclusion.now t)) refl c.state_of.ensures (search rules)
+    (c.reply.ensures.number, c.reply.ensures.both)

@@ -1,14 +1,19 @@
 -- `boundary_start::start` meets its contract.
 use borrow.Author.Rules.{rules}
-use Rattle.decode.proofs.WordLaws.{run_fits}
-use Rattle.boundary_start.proofs.StartLaws.{start-unfit, started}
+use Rattle.boundary_start.proofs.StartLaws.{start-unfit, run-fits, started, refused-start}
 use Rattle.boundary_start.proofs.start.Goals as goal
 
 pub returns-then-not-runs_fit : goal.returns-then-not-runs_fit
 returns-then-not-runs_fit c = search (rules, start-unfit)
 
-pub put_started-requires : goal.put_started-requires
-put_started-requires c = search (rules, run_fits)
+pub put-requires : goal.put-requires
+put-requires c = search (rules, run-fits)
 
-pub returns : goal.returns
-returns c = search (rules, started)
+pub put-requires-in-Err : goal.put-requires-in-Err
+put-requires-in-Err c = search (rules, run-fits)
+
+pub returns-in-Ok : goal.returns-in-Ok
+returns-in-Ok c = search (rules, started)
+
+pub returns-in-Err : goal.returns-in-Err
+returns-in-Err c = search (rules, refused-start)

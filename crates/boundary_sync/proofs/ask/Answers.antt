@@ -1,20 +1,14 @@
 -- `boundary_sync::ask` meets its contract.
-use Rattle.std.proofs.Common.{ap, not}
+use borrow.Author.Rules.{rules}
 use Rattle.boundary.proofs.BoundaryLaws.{unused, run-used}
 use Rattle.boundary_sync.proofs.SyncLaws.{ask-called}
-use borrow.Author.Rules.{rules}
 use Rattle.boundary_sync.proofs.ask.Goals as goal
 
-pub returns-then-not-usable : goal.returns-then-not-usable
-returns-then-not-usable c = search (rules, unused)
+pub put-requires : goal.put-requires
+put-requires c = search (rules, run-used)
 
-pub state_in-requires : goal.state_in-requires
-state_in-requires c = search (rules, run-used)
+pub returns-in-Ok : goal.returns-in-Ok
+returns-in-Ok c = search (rules, ask-called)
 
-pub put_paired-requires : goal.put_paired-requires
-put_paired-requires c =
-    run-used _ _ _ _ c.usable.ensures
-    (ap not c.if-not-usable.false)
-
-pub returns : goal.returns
-returns c = search (rules, ask-called)
+pub returns-in-Err : goal.returns-in-Err
+returns-in-Err c = search (rules, unused)

@@ -1,17 +1,14 @@
 -- `boundary_sync::commit` meets its contract.
+use borrow.Author.Rules.{rules}
 use Rattle.boundary.proofs.BoundaryLaws.{unused, run-used}
 use Rattle.boundary_sync.proofs.SyncLaws.{commit-called}
-use borrow.Author.Rules.{rules}
 use Rattle.boundary_sync.proofs.commit.Goals as goal
 
-pub returns-then-not-usable : goal.returns-then-not-usable
-returns-then-not-usable c = search (rules, unused)
+pub put-requires : goal.put-requires
+put-requires c = search (rules, run-used)
 
-pub state_in-requires : goal.state_in-requires
-state_in-requires c = search (rules, run-used)
+pub returns-in-Ok : goal.returns-in-Ok
+returns-in-Ok c = search (rules, commit-called)
 
-pub put_paired-requires : goal.put_paired-requires
-put_paired-requires c = search (rules, run-used)
-
-pub returns : goal.returns
-returns c = search (rules, commit-called)
+pub returns-in-Err : goal.returns-in-Err
+returns-in-Err c = search (rules, unused)

@@ -1,14 +1,11 @@
 -- `boundary_sync::sync_page_tree` meets its contract.
 use borrow.Author.Rules.{rules}
-use Rattle.boundary.proofs.BoundaryLaws.{unused, run-used}
+use Rattle.boundary.proofs.BoundaryLaws.{unused}
 use Rattle.boundary_sync.proofs.SyncLaws.{sync-kept}
 use Rattle.boundary_sync.proofs.sync_page_tree.Goals as goal
 
-pub returns-then-not-usable : goal.returns-then-not-usable
-returns-then-not-usable c = search (rules, unused)
+pub returns-in-Ok : goal.returns-in-Ok
+returns-in-Ok c = search (rules, sync-kept)
 
-pub state_in-requires : goal.state_in-requires
-state_in-requires c = search (rules, run-used)
-
-pub returns : goal.returns
-returns c = search (rules, sync-kept)
+pub returns-in-Err : goal.returns-in-Err
+returns-in-Err c = search (rules, unused)

@@ -3,5 +3,8 @@ use Rattle.std.proofs.Common.{rules}
 use Rattle.drill_loop.proofs.LoopLaws.{left-falls}
 use Rattle.drill.proofs.take_turns.Goals as goal
 
-pub loop-devices-smaller : goal.loop-devices-smaller
-loop-devices-smaller g c = search (rules, left-falls)
+pub loop-input-smaller : goal.loop-input-smaller
+loop-input-smaller g c = search (rules, left-falls)
+
+pub loop-input-smaller-in-None-1 : goal.loop-input-smaller-in-None-1
+loop-input-smaller-in-None-1 g c = search (rules, left-falls)

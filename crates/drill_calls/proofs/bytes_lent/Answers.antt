@@ -6,5 +6,5 @@ use Rattle.drill_calls.proofs.bytes_lent.Goals as goal
 pub returns-then-frames_in_range : goal.returns-then-frames_in_range
 returns-then-frames_in_range c = search (rules, bytes-lent, bytes-bounded)
 
-pub returns : goal.returns
-returns c = search (rules, bytes-none)
+pub returns-else-frames_in_range : goal.returns-else-frames_in_range
+returns-else-frames_in_range c = search (rules, bytes-none)

@@ -6,5 +6,5 @@ use Rattle.drill_calls.proofs.pages_lent.Goals as goal
 pub returns-then-pages_in_range : goal.returns-then-pages_in_range
 returns-then-pages_in_range c = search (rules, pages-lent, pages-bounded)
 
-pub returns : goal.returns
-returns c = search (rules, pages-none)
+pub returns-else-pages_in_range : goal.returns-else-pages_in_range
+returns-else-pages_in_range c = search (rules, pages-none)

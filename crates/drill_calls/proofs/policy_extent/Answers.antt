@@ -6,5 +6,5 @@ use Rattle.drill_calls.proofs.policy_extent.Goals as goal
 pub returns-then-in_range : goal.returns-then-in_range
 returns-then-in_range c = search (rules, extent-more, extent-bounded)
 
-pub returns : goal.returns
-returns c = search (rules, extent-eight)
+pub returns-else-in_range : goal.returns-else-in_range
+returns-else-in_range c = search (rules, extent-eight)

@@ -3,8 +3,8 @@ use borrow.Author.Rules.{rules}
 use Rattle.encode.proofs.RunLaws.{numbers-written, numbers-left}
 use Rattle.encode.proofs.put_numbers.Goals as goal
 
-pub returns-then-numbers-eq-NUMBERS : goal.returns-then-numbers-eq-NUMBERS
-returns-then-numbers-eq-NUMBERS c = search (rules, numbers-written)
+pub returns-in-Some : goal.returns-in-Some
+returns-in-Some c = search (rules, numbers-written)
 
-pub returns-else-numbers-eq-NUMBERS : goal.returns-else-numbers-eq-NUMBERS
-returns-else-numbers-eq-NUMBERS c = search (rules, numbers-left)
+pub returns-in_default : goal.returns-in_default
+returns-in_default c = search (rules, numbers-left)

@@ -1,13 +1,12 @@
 -- Present with its fields, or absent.
-use Rattle.entry.proofs.ApartLaws.{valid-yes, apart-present, apart-absent}
 use Rattle.std.proofs.Common.{rules}
+use Rattle.model.specs.Bits.{write_through, cache_disable, fields_of, taken_apart}
 use Rattle.entry.proofs.take_apart.Goals as goal
 
-pub fields_of-requires : goal.fields_of-requires
-fields_of-requires c = search (rules, valid-yes)
+pub returns-in_default : goal.returns-in_default
+unfolding taken_apart
+returns-in_default c = search rules
 
-pub returns-then-valid : goal.returns-then-valid
-returns-then-valid c = search (rules, apart-present)
-
-pub returns-else-valid : goal.returns-else-valid
-returns-else-valid c = search (rules, apart-absent)
+pub returns : goal.returns
+unfolding taken_apart fields_of write_through cache_disable
+returns c = search rules

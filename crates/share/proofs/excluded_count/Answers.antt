@@ -1,29 +1,14 @@
 -- `share::excluded_count` meets its contract.
-use native.Mathlib.Omega.{arith}
-use borrow.Author.Rules.{rules}
-use Rattle.share.proofs.CountLaws.{count-begins, count-more, count-over}
+use Rattle.std.proofs.Common.{rules, tests}
+use Rattle.std.proofs.lemmas.Iterator.{YieldsList-from_range}
+use Rattle.std.proofs.lemmas.Iterator.Consumers.{count_from_yields_List, YieldsList-from_filter}
+use Rattle.model.specs.Guard.{has_bit}
+use Rattle.share.proofs.CountLaws.{count-filtered}
 use Rattle.share.proofs.excluded_count.Goals as goal
 
-pub loop-frame-init : goal.loop-frame-init
-loop-frame-init c = search (rules, count-begins)
-
-pub test_bit-requires : goal.test_bit-requires
-test_bit-requires c = search rules
-
-pub one-count-requires : goal.one-count-requires
-one-count-requires c = search rules
-
-pub overflow_add-count : goal.overflow_add-count
-overflow_add-count c = omega arith
-
-pub overflow_add-frame : goal.overflow_add-frame
-overflow_add-frame c = omega arith
-
-pub loop-frame-smaller : goal.loop-frame-smaller
-loop-frame-smaller c = omega arith
-
-pub loop-frame-preserved : goal.loop-frame-preserved
-loop-frame-preserved c = search (rules, count-more)
-
 pub returns : goal.returns
-returns c = search (rules, count-over)
+returns c =
+    count-filtered (has_bit c.args.exclusion.now) c.args.frames
+    (count_from_yields_List _ _ c.count.ensures.ran
+    (YieldsList-from_filter _ (has_bit c.args.exclusion.now) (YieldsList-from_range 0 c.args.frames c.args.frames (cc) (search rules))
+    c.filter-excluded.ensures.closure (λ x b q k. search (rules, tests))))

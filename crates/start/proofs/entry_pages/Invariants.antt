@@ -1,10 +1,18 @@
-use Prim.Native.Nat.{◌+◌, ◌-◌, ◌*◌, ◌≤◌}
-use mathlib.Core.Path.{◌≡◌}
+use Rattle.std.proofs.Common.{◌≡◌, ◌+◌, ◌-◌, ◌*◌, ◌≤◌}
+use Rattle.std.specs.Iterator.Adapters.{enumerate_source, enumerate_count}
+use Rattle.model.specs.Policy.{numbers_at}
 use Rattle.start.specs.Start.{entry_table}
 use Rattle.start.proofs.entry_pages.Given as goal
 
 abbrev pub invariant-loop-i : goal.invariant-loop-i
-invariant-loop-i l = (l.i ≤ l.entry_count) × (l.at ≡ 8 + 2 * l.i) × (l.pages ≡ entry_table l.bytes l.i)
-
-abbrev pub decreases-loop-i : goal.decreases-loop-i
-decreases-loop-i l = l.entry_count - l.i
+invariant-loop-i l =
+    let bytes = l.policy.bytes.now in
+    let entries = l.policy.sizes.entry_count in
+    let i = enumerate_count l.i-iterator in
+    record {
+      can_next : (goal.iterator-loop-i).can_next l.i-iterator;
+      is_finite : (goal.iterator-loop-i).is_finite l.i-iterator;
+      some : i ≤ entries;
+      left : enumerate_source l.i-iterator ≡ numbers_at bytes (8 + 2 * i) (entries - i);
+      read : l.pages ≡ entry_table bytes i;
+    }

@@ -23,6 +23,9 @@ bounds-kernel-i c =
     flat-page-kernel _ _ _ _ _ _ c.sync_in_order.ensures
     (ap not c.if-not-sync_in_order.false) _ _ c.page_exists.ensures (ap not c.if-not-page_exists.false)
 
+pub rules_of-rules-requires : goal.rules_of-rules-requires
+rules_of-rules-requires c = (search flat-vector, search flat-few)
+
 pub sync_at-one-requires : goal.sync_at-one-requires
 sync_at-one-requires c = (
   flat-page-shadow _ _ _ _ _ _ c.sync_in_order.ensures
@@ -33,10 +36,7 @@ sync_at-one-requires c = (
       (ap not c.if-not-page_exists.false),
   search rules,
   search rules,
-  flat-vector _ _ _ _ _ _ c.sync_in_order.ensures
-      (ap not c.if-not-sync_in_order.false),
-  flat-few _ _ _ _ _ _ c.sync_in_order.ensures
-      (ap not c.if-not-sync_in_order.false),
+  tt,
 )
 
 pub returns : goal.returns

@@ -6,10 +6,10 @@ use borrow.Author.Rules.{rules}
 use Rattle.sync.proofs.sync_pages.Goals as goal
 
 pub loop-i-init : goal.loop-i-init
-loop-i-init c = search (rules, whole-start)
+loop-i-init g c = search (rules, whole-start)
 
 pub loop-i-preserved : goal.loop-i-preserved
-loop-i-preserved c = (omega arith, omega arith, omega arith, omega arith, omega arith, search (rules, sweep-more))
+loop-i-preserved g c = (omega arith, omega arith, omega arith, omega arith, omega arith, search (rules, sweep-more))
 
 pub returns : goal.returns
-returns c = search (rules, sweep-over)
+returns g c = search (rules, sweep-over)

@@ -1,25 +1,38 @@
 -- `transfer::device_write` meets its contract.
-use Rattle.std.proofs.Common.{ap, not}
-use Rattle.transfer.proofs.TransferLaws.{transfer-unfit, transfer-vector, transfer-few, transfer-refused, transferred-last, transfer-accepted}
-use borrow.Author.Rules.{rules}
+use mathlib.Core.Path.{sym, ◌∙◌}
+use native.Mathlib.Omega.{arith}
+use Rattle.model.specs.Guard.{with_exclusion, guard_of}
+use Rattle.model.specs.Questions.{seen}
+use Rattle.laws.proofs.AskedLaws.{answered}
+use Rattle.transfer.proofs.TransferLaws.{placed, transfer_free, transfers}
 use Rattle.transfer.proofs.device_write.Goals as goal
-
-pub returns-then-not-device_write_in_order : goal.returns-then-not-device_write_in_order
-returns-then-not-device_write_in_order c =
-    let a = c.args in
-    transfer-unfit _ a.exclusion.now _ a.window _ _ _ _ c.device_write_in_order.ensures (ap not c.if-not-device_write_in_order.true)
-
-pub device_write_refusal-number-requires : goal.device_write_refusal-number-requires
-device_write_refusal-number-requires c = (search (rules, transfer-vector), search (rules, transfer-few))
-
-pub returns-then-number-ne0 : goal.returns-then-number-ne0
-returns-then-number-ne0 c = search (rules, transfer-refused)
 
 pub last_page-last-requires : goal.last_page-last-requires
 last_page-last-requires c =
-    let a = c.args in
-    transferred-last _ a.exclusion.now _ a.window _ _ _ _ c.device_write_in_order.ensures (ap not c.if-not-device_write_in_order.false) _
-    c.device_write_refusal-number.ensures c.if-number-ne0.false
+    (placed c.args.s _ c.args.listed _ _ c.if-not-device_write_in_order.ensures c.if-not-device_length-2.ensures c.if-not-transfer_exists.ensures).last
+
+pub in_window-requires : goal.in_window-requires
+in_window-requires c =
+    rw c.last_page-last.ensures
+    (placed c.args.s _ c.args.listed _ _ c.if-not-device_write_in_order.ensures c.if-not-device_length-2.ensures c.if-not-transfer_exists.ensures).rises
+
+pub none_set-requires : goal.none_set-requires
+none_set-requires c =
+    let p = placed c.args.s _ c.args.listed _ _ c.if-not-device_write_in_order.ensures c.if-not-device_length-2.ensures c.if-not-transfer_exists.ensures in
+    rw c.last_page-last.ensures (p.rises, p.has)
+
+pub returns-then-not-none_set : goal.returns-then-not-none_set
+returns-then-not-none_set c t devices long is =
+    let free =
+    transfer_free (seen (guard_of c.args.s (with_exclusion c.args.exclusion.now t))) c.args.address c.args.length
+    (sym c.if-not-device_length-2.ensures) (sym c.if-not-transfer_exists.ensures) in
+    let excluded = (rw c.last_page-last.ensures at c.if-not-none_set.ensures) ∙ sym free in
+    grind (arith, answered, transfers, excluded)
 
 pub returns : goal.returns
-returns c = search (rules, transfer-accepted)
+returns c t devices long is =
+    let free =
+    transfer_free (seen (guard_of c.args.s (with_exclusion c.args.exclusion.now t))) c.args.address c.args.length
+    (sym c.if-not-device_length-2.ensures) (sym c.if-not-transfer_exists.ensures) in
+    let none_excluded = (rw c.last_page-last.ensures at c.if-not-none_set.ensures) ∙ sym free in
+    grind (arith, answered, transfers, none_excluded)

@@ -1,0 +1,2 @@
+-- What a call on a state is lent.
+pub mod Lent

@@ -1,0 +1,19 @@
+-- `drill_calls::Machine::turn` meets its contract.
+use Rattle.std.proofs.Common.{rules}
+use Rattle.drill_calls.specs.Turns.{drill_by}
+use Rattle.drill_calls.proofs.TurnLaws.{turn-none, turn-cut, turn-unknown, turn-made}
+use Rattle.drill_calls.proofs.Machine.turn.Goals as goal
+
+pub returns-then-is_empty : goal.returns-then-is_empty
+returns-then-is_empty c = search (rules, turn-none)
+
+pub returns-in_default : goal.returns-in_default
+returns-in_default c = search (rules, turn-cut)
+
+pub returns-in-Err : goal.returns-in-Err
+returns-in-Err c = search (rules, turn-unknown)
+
+pub returns : goal.returns
+returns c =
+    turn-made (drill_by c.args.self.now) c.args.bytes.now c.perform-answer.result (drill_by c.perform-answer.new.self) c.in-Ok.call.kind
+    c.in-Ok.call.index c.in-Ok.call.length c.in-Ok.call.value (search rules) (search rules) (search rules) (search rules) (search rules) (search rules)

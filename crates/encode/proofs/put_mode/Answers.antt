@@ -1,7 +1,0 @@
--- `encode::put_mode` meets its contract.
-use Rattle.encode.proofs.StateLaws.{mode-put}
-use borrow.Author.Rules.{rules}
-use Rattle.encode.proofs.put_mode.Goals as goal
-
-pub returns : goal.returns
-returns c = search (rules, mode-put)

@@ -1,7 +1,0 @@
--- `lengths::start_in_order` meets its contract.
-use Rattle.model.specs.Questions.{in_order}
-use Rattle.lengths.proofs.start_in_order.Goals as goal
-
-pub returns : goal.returns
-unfolding in_order
-returns c = cc

@@ -1,8 +1,0 @@
--- `lines::share_word` meets its contract.
-use mathlib.Core.Path.{refl}
-use Rattle.lines.specs.Text.{text}
-use Rattle.lines.proofs.share_word.Goals as goal
-
-pub returns : goal.returns
-unfolding text
-returns c = (refl, refl)

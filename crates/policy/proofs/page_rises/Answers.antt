@@ -1,4 +1,0 @@
-use Rattle.policy.proofs.page_rises.Goals as goal
-
-pub returns : goal.returns
-returns c = cc

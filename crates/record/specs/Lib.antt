@@ -1,2 +1,0 @@
--- What the loops of this crate find.
-pub mod Arrays

@@ -1,2 +1,0 @@
--- What the promises between the functions of this crate say.
-pub mod TransferView
