@@ -13,9 +13,9 @@ use Rattle.model.specs.declared.Refusal.TheVariants.{StateOrTable}
 use Rattle.model.specs.declared.State.{State}
 use Rattle.model.specs.Refusals.{number_of, refused_by}
 use Rattle.model.specs.Guard.{Tables}
-use Rattle.model.specs.Policy.{Givens, policy_of, zero_state}
+use Rattle.model.specs.Policy.{Givens, policy_of}
 use Rattle.model.specs.Questions.{first_no, record_questions, Lengths, lengths_of, lengths_fit, start_questions}
-use Rattle.model.specs.Calls.{Answer, Reply, reply_of, refused, settle, Outcome, outcome_by, started_by, start_of}
+use Rattle.model.specs.Calls.{Answer, Reply, reply_of, refused, settle, Outcome, outcome_by, start_of}
 use Rattle.laws.proofs.QuestionLaws.{settle-accepted, settle-number}
 use Rattle.laws.proofs.CallLaws.{numbered, settle-refused-by}
 use Rattle.policy.proofs.RecordLaws.{start-refused, start-asked}
@@ -60,13 +60,8 @@ module _ (given : Givens) (bytes run numbers after : List ℕ) (t : Tables) (r :
   pub run-fits : not b ≡ false → length run ≡ state_words
   run-fits fits = run_fits answer_numbers run numbers (sym asks ∙ not-false b fits)
 
-  module _ (x : Result (State × (ℕ × ℕ)) Refusal) (t' : Tables) (fits : not b ≡ false) (e : started_by x t' ≡ start_of given bytes t) where
-    pub started : (run' : List ℕ) (s : State) (both : ℕ × ℕ) → x ≡ Ok (s, both) → Says answer_numbers (Ok both) r numbers after
-        → run' ≡ settle (reply_of (Ok both)).number (words_of s) (λ _. run) → returned r run' after t' ≡ start_at given bytes run numbers t
-    unfolding start_at replied started_by outcome_by run_started
-    started run' s both is says put = rw (sym asks ∙ not-false b fits, sym e, is, says.0, says.1, put) refl
-
-    pub refused-start : (run' : List ℕ) (s : State) (refusal : Refusal) → x ≡ Err refusal → s ≡ zero_state → Says answer_numbers (Err refusal) r numbers after
-        → run' ≡ settle (reply_of (Err refusal)).number (words_of s) (λ _. run) → returned r run' after t' ≡ start_at given bytes run numbers t
-    unfolding start_at replied started_by outcome_by run_started
-    refused-start run' s refusal is zeros says put = rw (sym asks ∙ not-false b fits, sym e, is, says.0, says.1, put, zeros) refl
+  pub started : (run' : List ℕ) (a : Answer) (s : State) (t' : Tables) → not b ≡ false → outcome_by a s t' ≡ start_of given bytes t
+      → Says answer_numbers a r numbers after → run' ≡ settle (reply_of a).number (words_of s) (λ _. run)
+      → returned r run' after t' ≡ start_at given bytes run numbers t
+  unfolding start_at replied outcome_by run_started
+  started run' a s t' fits e says put = rw (sym asks ∙ not-false b fits, sym e, says.0, says.1, put) refl

@@ -30,13 +30,9 @@ pub fn start(
         let answer = policy::record_question(policy, devices).and(Err(Refusal::StateOrTable));
         return encode::reply(numbers, answer);
     }
-    match start::start(policy, devices, shadow, map, exclusion) {
-        Ok((s, both)) => encode::put::<WholeState>(state, numbers, Ok(both), s),
-        Err(refusal) => {
-            let s = start::refused_state();
-            encode::put::<WholeState>(state, numbers, Err(refusal), s)
-        }
-    }
+    let mut s = start::refused_state();
+    let answer = start::start(policy, devices, &mut s, shadow, map, exclusion);
+    encode::put::<WholeState>(state, numbers, answer, s)
 }
 
 // Writes a policy record.

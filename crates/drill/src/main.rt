@@ -7,7 +7,7 @@
 ghost use Rattle.std.specs.Prelude.{◌≤◌, ◌≡◌, IfOk, length};
 
 use drill_calls::{CALL_BYTES, Machine, POLICY_BYTES};
-use lines::{CallLine, EntryLine};
+use lines::Line;
 use model::{MOST_PAGES, VECTOR_BYTES};
 use std::io;
 use std::io::Read;
@@ -46,7 +46,7 @@ fn read_policy(input: &mut impl Read, room: &mut [u8]) -> io::Result<usize>
 fn take_turn(
     input: &mut impl Read,
     machine: &mut Machine,
-) -> io::Result<ControlFlow<Option<CallLine>, CallLine>> {
+) -> io::Result<ControlFlow<Option<Line>, Line>> {
     let mut call = [0u8; CALL_BYTES];
     let taken = read_full(input, &mut call)?;
     Ok(machine.turn(&call[..taken]))
@@ -59,7 +59,9 @@ fn take_turns(input: &mut impl Read, output: &impl Print, machine: &mut Machine)
         let turn = take_turn(input, machine)?;
         left = drill_loop::left_after(left, turn.is_continue());
         match turn {
-            ControlFlow::Continue(line) | ControlFlow::Break(Some(line)) => output.print(line)?,
+            ControlFlow::Continue(line) | ControlFlow::Break(Some(line)) => {
+                output.write_all(line.as_bytes())?
+            }
             ControlFlow::Break(None) => {}
         }
     }
@@ -74,9 +76,9 @@ fn write_closing(
     exclusion: &[u8],
 ) -> io::Result<()> {
     for entry in shadow {
-        output.print(EntryLine(*entry))?;
+        output.write_all(&lines::entry_line(*entry))?;
     }
-    output.print(lines::share_line(frames, exclusion))
+    output.write_all(lines::share_line(frames, exclusion).as_bytes())
 }
 
 // The drill on tables of the policy's sizes, all zeros. A refused start writes its line alone.
@@ -89,11 +91,12 @@ fn drill_on(
     map: &mut [u16],
     exclusion: &mut [u8],
 ) -> io::Result<()> {
-    let (state, line) = match drill_calls::open(policy, shadow, map, exclusion) {
-        ControlFlow::Continue(opened) => opened,
-        ControlFlow::Break(line) => return output.print(line),
+    let mut state = start::refused_state();
+    let line = match drill_calls::open(policy, &mut state, shadow, map, exclusion) {
+        ControlFlow::Continue(line) => line,
+        ControlFlow::Break(line) => return output.write_all(line.as_bytes()),
     };
-    output.print(line)?;
+    output.write_all(line.as_bytes())?;
     let frames = state.frames as u16;
     let mut machine = Machine {
         state,

@@ -14,7 +14,6 @@ use Rattle.std.specs.declared.ops.ControlFlow.TheVariants.{Continue, Break}
 use Rattle.model.specs.declared.State.{State}
 use Rattle.model.specs.declared.Refusal.{Refusal}
 use Rattle.model.specs.declared.Refusal.TheVariants.{DoesNotExist}
-use Rattle.model.specs.declared.Mode.TheVariants.{User}
 use Rattle.model.specs.Refusals.{number_of}
 use Rattle.model.specs.declared.Device.{Device}
 use Rattle.model.specs.Basics.{within}
@@ -23,16 +22,16 @@ use Rattle.model.specs.Guard.{Tables, Guard, vector_bytes}
 use Rattle.model.specs.Devices.{device_of}
 use Rattle.model.specs.Policy.{Givens, policy_of, number_at, start_state, start_guard, zero_state}
 use Rattle.model.specs.Questions.{first_no, lengths_of, start_questions}
-use Rattle.model.specs.Calls.{Answer, Outcome, refused, reply_of, outcome_by, started_by, settle, start_of}
+use Rattle.model.specs.Calls.{Answer, Outcome, refused, reply_of, outcome_by, settle, start_of}
 use Rattle.drill_model.specs.Drill.{Drill, policy_extent, windows_of, kind_of, index_of, length_of, value_of, edited, performed, line}
 use Rattle.drill_model.specs.Drill.{start_line, turn_of, turn}
 use Rattle.laws.proofs.CallLaws.{numbered}
 use Rattle.laws.proofs.QuestionLaws.{within-high}
 use Rattle.laws.proofs.PolicyLaws.{start-passed}
 use Rattle.lines.specs.declared.Kind.{Kind}
-use Rattle.lines.specs.declared.CallLine.{CallLine}
-use Rattle.lines.specs.declared.Label.TheVariants.{Start, Call}
-use Rattle.lines.specs.Text.{kind_number, call_text}
+use Rattle.lines.specs.declared.Line.{Line}
+use Rattle.lines.specs.declared.Label.TheVariants.{Call}
+use Rattle.lines.specs.Text.{text, kind_number, label_byte}
 use Rattle.drill_calls.specs.Turns.{drill_of, performed_by, turn_by, opening_of, opened_by, pages_lent, bytes_lent}
 use Rattle.drill_calls.proofs.CallLaws.{kind-below}
 
@@ -79,22 +78,21 @@ pub windows-are : (frames last : ℕ) → last ≡ frames - 1 → replicate 64 (
 unfolding windows_of
 windows-are frames last e = rw e refl
 
--- The start, its line and whether calls follow: by an accepted start, and by a refused one, which leaves the state of zeros.
-pub opening-goes : (s : State) (numbers : ℕ × ℕ) (o : Outcome) (t : Tables) → started_by (Ok (s, numbers)) t ≡ o
-    → opened_by (Continue (s, record { label = Start; answer = Ok numbers; mode = s.mode })) t ≡ opening_of o
-unfolding opened_by opening_of started_by outcome_by reply_of start_line
-opening-goes s (first, second) o t e = rw (← e) refl
+-- The start, its line and whether calls follow: by an accepted start, and by a refused one.
+pub opening-goes : (s : State) (l : Line) (r : Answer) (numbers : ℕ × ℕ) (o : Outcome) (t : Tables) → r ≡ Ok numbers → outcome_by r s t ≡ o
+    → text l ≡ line 83 (reply_of r) s.mode → opened_by (Continue l) s t ≡ opening_of o
+unfolding opened_by opening_of outcome_by reply_of start_line
+opening-goes s l r (first, second) o t p e f = rw (← e, f, p) refl
 
-pub opening-ends : (refusal : Refusal) (s : State) (o : Outcome) (t : Tables) → s ≡ zero_state → started_by (Err refusal) t ≡ o
-    → opened_by (Break (record { label = Start; answer = Err refusal; mode = s.mode })) t ≡ opening_of o
-unfolding opened_by opening_of started_by outcome_by reply_of start_line zero_state
-opening-ends refusal s o t z e = rw (z, ← e, ne_eqb (number_of refusal) 0 (numbered refusal)) refl
+pub opening-ends : (s : State) (l : Line) (r : Answer) (refusal : Refusal) (o : Outcome) (t : Tables) → r ≡ Err refusal → outcome_by r s t ≡ o
+    → text l ≡ line 83 (reply_of r) s.mode → opened_by (Break l) s t ≡ opening_of o
+unfolding opened_by opening_of outcome_by reply_of start_line
+opening-ends s l r refusal o t p e f = rw (← e, f, p, ne_eqb (number_of refusal) 0 (numbered refusal)) refl
 
--- F of the state that a start leaves: in its range.
-pub opened-few : (s : State) (numbers : ℕ × ℕ) (given : Givens) (bytes : List ℕ) (t t' : Tables) → started_by (Ok (s, numbers)) t' ≡ start_of given bytes t
-    → s.frames ≤ 4096
-unfolding started_by outcome_by start_of settle start_guard start_state zero_state
-opened-few s numbers given bytes t t' e =
+-- F of the state that a start leaves: in its range, or 0.
+pub opened-few : (s : State) (r : Answer) (given : Givens) (bytes : List ℕ) (t t' : Tables) → outcome_by r s t' ≡ start_of given bytes t → s.frames ≤ 4096
+unfolding outcome_by start_of settle start_guard start_state zero_state
+opened-few s r given bytes t t' e =
     let is : s ≡ (start_of given bytes t).guard.state = ap (λ (o : Outcome). o.guard.state) e in
     rw is (by (first_no (start_questions given bytes (policy_of bytes) (lengths_of t))) refl)
   where
@@ -124,24 +122,24 @@ module _ (d : Drill) where
   turn-none [] e = refl
   turn-none (kind ∷ rest) e = absurd (let q : ⊥ = omega arith in q)
 
-  pub turn-cut : (bytes : List ℕ) (l : CallLine) → (length bytes ≡ 0 → ⊥) → (length bytes ≡ 16 → ⊥)
-      → call_text l ≡ line 88 (refused 14) d.guard.state.mode → turn_by (Break (Some l)) d ≡ turn d bytes
+  pub turn-cut : (bytes : List ℕ) (l : Line) → (length bytes ≡ 0 → ⊥) → (length bytes ≡ 16 → ⊥)
+      → text l ≡ line 88 (refused 14) d.guard.state.mode → turn_by (Break (Some l)) d ≡ turn d bytes
   unfolding turn turn_by kind_of first_no settle
   turn-cut [] l p q f = absurd (p refl)
   turn-cut (kind ∷ rest) l p q f = rw (f, ne_eqb (length (kind ∷ rest)) 16 q) refl
 
-  pub turn-unknown : (bytes : List ℕ) (l : CallLine) → length bytes ≡ 16 → 8 ≤ kind_of bytes
-      → call_text l ≡ line 88 (refused 15) d.guard.state.mode → turn_by (Break (Some l)) d ≡ turn d bytes
+  pub turn-unknown : (bytes : List ℕ) (l : Line) → length bytes ≡ 16 → 8 ≤ kind_of bytes
+      → text l ≡ line 88 (refused 15) d.guard.state.mode → turn_by (Break (Some l)) d ≡ turn d bytes
   unfolding turn turn_by kind_of first_no settle
   turn-unknown [] l q h f = absurd (let q : ⊥ = omega arith in q)
   turn-unknown (kind ∷ rest) l q h f = rw (f, eq-eqb (length (kind ∷ rest)) 16 q, le-ltb kind 8 h) refl
 
-  pub turn-made : (bytes : List ℕ) (r : Answer) (d' : Drill) (kind : Kind) (index size value : ℕ) → length bytes ≡ 16 → kind_number kind ≡ kind_of bytes
-      → index ≡ index_of bytes → size ≡ length_of bytes → value ≡ value_of bytes
+  pub turn-made : (bytes : List ℕ) (r : Answer) (d' : Drill) (l : Line) (kind : Kind) (index size value : ℕ) → length bytes ≡ 16
+      → kind_number kind ≡ kind_of bytes → index ≡ index_of bytes → size ≡ length_of bytes → value ≡ value_of bytes
       → performed_by r d' ≡ performed d (kind_number kind) index size value
-      → turn_by (Continue (record { label = Call kind; answer = r; mode = d'.guard.state.mode })) d' ≡ turn d bytes
+      → text l ≡ line (label_byte (Call kind)) (reply_of r) d'.guard.state.mode → turn_by (Continue l) d' ≡ turn d bytes
   unfolding turn turn_by kind_of turn_of performed_by first_no settle
-  turn-made [] r d' kind index size value q h a b c e = absurd (let q : ⊥ = omega arith in q)
-  turn-made (first ∷ rest) r d' kind index size value q h a b c e =
+  turn-made [] r d' l kind index size value q h a b c e f = absurd (let q : ⊥ = omega arith in q)
+  turn-made (first ∷ rest) r d' l kind index size value q h a b c e f =
       let below : first < 8 = rw h at (kind-below kind) in
-      rw (eq-eqb (length (first ∷ rest)) 16 q, lt-ltb first 8 below, ← a, ← b, ← c, h, ← (rw h at e)) refl
+      rw (f, eq-eqb (length (first ∷ rest)) 16 q, lt-ltb first 8 below, ← a, ← b, ← c, h, ← (rw h at e)) refl

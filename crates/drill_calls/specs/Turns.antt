@@ -6,11 +6,11 @@ use Rattle.model.specs.declared.State.{State}
 use Rattle.model.specs.declared.Device.{Device}
 use Rattle.model.specs.Sizes.{pages_in_range, frames_in_range}
 use Rattle.model.specs.Guard.{Tables, tables, Guard, guard_of, vector_bytes}
-use Rattle.model.specs.Policy.{policy_of, zero_state}
+use Rattle.model.specs.Policy.{policy_of}
 use Rattle.model.specs.Calls.{Answer, Outcome, reply_of, start_of}
 use Rattle.drill_model.specs.Drill.{drill_given, Drill, Drilled, Turn, drill_start, start_line}
-use Rattle.lines.specs.declared.CallLine.{CallLine}
-use Rattle.lines.specs.Text.{call_text}
+use Rattle.lines.specs.declared.Line.{Line}
+use Rattle.lines.specs.Text.{text}
 use Rattle.drill_calls.specs.declared.Machine.{Machine}
 
 abbrev pub drill_of : Guard → List ℕ → List Device → Drill
@@ -24,13 +24,18 @@ drill_by m = drill_of (guard_of m.state (tables m.shadow.now m.map.now m.exclusi
 unfoldable pub performed_by : Answer → Drill → Drilled
 performed_by r d = record { reply = reply_of r; drill = d }
 
--- What a turn leaves. The calls end with a line X, or with no line where no bytes remain.
-abbrev pub last_text : Option CallLine → List ℕ
-last_text None = []
-last_text (Some l) = call_text l
+-- The machine holds the same tables: what is written through it is written to those that were lent.
+abbrev pub SameTables : Machine → Machine → Type 0
+SameTables m m' =
+    (m'.kernel.ghost_name ≡ m.kernel.ghost_name) × (m'.shadow.ghost_name ≡ m.shadow.ghost_name) × (m'.map.ghost_name ≡ m.map.ghost_name)
 
-unfoldable pub turn_by : ControlFlow (Option CallLine) CallLine → Drill → Turn
-turn_by (Continue l) d = record { drill = d; line = call_text l; goes = true }
+-- What a turn leaves. The calls end with a line X, or with no line where no bytes remain.
+abbrev pub last_text : Option Line → List ℕ
+last_text None = []
+last_text (Some l) = text l
+
+unfoldable pub turn_by : ControlFlow (Option Line) Line → Drill → Turn
+turn_by (Continue l) d = record { drill = d; line = text l; goes = true }
 turn_by (Break l) d = record { drill = d; line = last_text l; goes = false }
 
 -- The start's guard, its line, and whether calls follow it: "A refused start prints its line alone."
@@ -42,10 +47,9 @@ pub record Opening : Type 0 where
 unfoldable pub opening_of : Outcome → Opening
 opening_of start = record { guard = start.guard; line = start_line start; goes = eqb start.reply.number 0 }
 
--- A refused start leaves the state of zeros.
-unfoldable pub opened_by : ControlFlow CallLine (State × CallLine) → Tables → Opening
-opened_by (Continue o) t = record { guard = guard_of o.0 t; line = call_text o.1; goes = true }
-opened_by (Break l) t = record { guard = guard_of zero_state t; line = call_text l; goes = false }
+unfoldable pub opened_by : ControlFlow Line Line → State → Tables → Opening
+opened_by (Continue l) s t = record { guard = guard_of s t; line = text l; goes = true }
+opened_by (Break l) s t = record { guard = guard_of s t; line = text l; goes = false }
 
 -- How many pages, and how many bytes of the exclusion vector, the start of a record is lent. A V or an F out of range lends nothing: question 2
 -- refuses it before any table is looked at.

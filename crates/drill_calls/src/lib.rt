@@ -4,18 +4,16 @@
 #![tactic(auto)]
 
 ghost use Rattle.std.specs.Prelude.{◌≡◌, ◌≤◌, ◌<◌, MatchResult};
-ghost use Rattle.std.specs.Bool.{⊤};
-ghost use Rattle.std.specs.ControlFlow.{MatchControlFlow};
 ghost use Rattle.model.specs.Guard.{tables};
 ghost use Rattle.model.specs.Refusals.{number_of};
 ghost use Rattle.model.specs.declared.Refusal.TheVariants.{UnknownKind};
 ghost use Rattle.model.specs.Calls.{refused, start_of};
 ghost use Rattle.drill_model.specs.Drill;
 ghost use Rattle.drill_model.specs.Drill.{drill_given, windows_of, policy_extent, kind_of, index_of, length_of, value_of, edited, performed, line};
-ghost use Rattle.lines.specs.Text.{kind_number, call_text};
-ghost use Rattle.drill_calls.specs.Turns.{drill_by, performed_by, turn_by, opening_of, opened_by, pages_lent, bytes_lent, OpensAsDefined};
+ghost use Rattle.lines.specs.Text.{text, kind_number};
+ghost use Rattle.drill_calls.specs.Turns.{SameTables, drill_by, performed_by, turn_by, opening_of, opened_by, pages_lent, bytes_lent, OpensAsDefined};
 
-use lines::{CallLine, Kind, Label};
+use lines::{Kind, Label, Line};
 use model::{Answer, Device, MOST_DEVICES, MOST_PAGES, Refusal, State};
 use std::ops::ControlFlow;
 
@@ -63,32 +61,23 @@ pub fn bytes_lent(bytes: &[u8]) -> usize
     }
 }
 
-// The start, with its line. Where it is accepted calls follow, and F is in its range; a refused start leaves no state, and its line has that of zeros.
+// The start, with its line. Where it is accepted calls follow. F is in its range, or 0 where the start is refused, which leaves the state of zeros.
 pub fn open(
     bytes: &[u8],
+    s: &mut State,
     shadow: &mut [u64],
     map: &mut [u16],
     exclusion: &mut [u8],
-) -> ControlFlow<CallLine, (State, CallLine)>
-    ensures opened { opened_by result (tables shadow.new map.new exclusion.new)
+) -> ControlFlow<Line, Line>
+    ensures opened { opened_by result s.new (tables shadow.new map.new exclusion.new)
         ≡ opening_of (start_of drill_given bytes.now (tables shadow.old map.old exclusion.old)) }
-    ensures few { MatchControlFlow result (λ opened. opened.0.frames ≤ 4096) (λ _. ⊤) }
+    ensures few { s.new.frames ≤ 4096 }
 {
-    let label = Label::Start;
-    match start::start(bytes, MOST_DEVICES as u64, shadow, map, exclusion) {
-        Ok((state, numbers)) => {
-            let line = CallLine {
-                label,
-                answer: Ok(numbers),
-                mode: state.mode,
-            };
-            ControlFlow::Continue((state, line))
-        }
-        Err(refusal) => ControlFlow::Break(CallLine {
-            label,
-            answer: Err(refusal),
-            mode: start::refused_state().mode,
-        }),
+    let answer = start::start(bytes, MOST_DEVICES as u64, s, shadow, map, exclusion);
+    let line = lines::call_line(Label::Start.into(), answer, s.mode);
+    match answer {
+        Ok(_) => ControlFlow::Continue(line),
+        Err(_) => ControlFlow::Break(line),
     }
 }
 
@@ -135,7 +124,8 @@ impl TryFrom<[u8; CALL_BYTES]> for Call {
     }
 }
 
-// The guard's state and tables, the kernel table and the list of devices: what the drill's calls are made on.
+// The guard's state and tables, the kernel table and the list of devices: what the drill's calls are made on. After every call it holds
+// the same tables as before, so that whoever lent them finds in them what the call made.
 #[derive(Drop)]
 pub struct Machine<'a> {
     pub state: State,
@@ -149,7 +139,8 @@ pub struct Machine<'a> {
 impl Machine<'_> {
     // Kind 0. The guard's part of the drill stays as it is, whatever it is; question 9 looks at its V alone.
     fn edit(&mut self, page: u64, value: u64) -> Answer
-        ensures { performed_by result (drill_by self.new) ≡ edited (drill_by self.old) page value }
+        ensures edited { performed_by result (drill_by self.new) ≡ edited (drill_by self.old) page value }
+        ensures same { SameTables self.old self.new }
     {
         if !limits::page_exists(page, self.state.pages) {
             return Err(Refusal::DoesNotExist);
@@ -162,7 +153,8 @@ impl Machine<'_> {
 
     // The call of a kind. Each table is lent by itself before, so that a call can have several.
     fn perform(&mut self, call: Call) -> Answer
-        ensures { performed_by result (drill_by self.new) ≡ performed (drill_by self.old) (kind_number call.kind) call.index call.length call.value }
+        ensures performed { performed_by result (drill_by self.new) ≡ performed (drill_by self.old) (kind_number call.kind) call.index call.length call.value }
+        ensures same { SameTables self.old self.new }
     {
         let exclusion = self.exclusion;
         let devices = self.devices;
@@ -195,19 +187,16 @@ impl Machine<'_> {
 
     // The line X of question 14 or 15, which ends the calls.
     #[tactic(auto, unfolding(model::specs::Calls::reply_of))]
-    fn end(&self, refusal: Refusal) -> CallLine
-        ensures { call_text result ≡ line 88 (refused (number_of refusal)) self.now.state.mode }
+    fn end(&self, refusal: Refusal) -> Line
+        ensures { text result ≡ line 88 (refused (number_of refusal)) self.now.state.mode }
     {
-        CallLine {
-            label: Label::End,
-            answer: Err(refusal),
-            mode: self.state.mode,
-        }
+        lines::call_line(Label::End.into(), Err(refusal), self.state.mode)
     }
 
     // One call, of the bytes that remain, at most 16 of them: its line, and whether calls go on. Of no bytes there is no line.
-    pub fn turn(&mut self, bytes: &[u8]) -> ControlFlow<Option<CallLine>, CallLine>
-        ensures { turn_by result (drill_by self.new) ≡ Drill.turn (drill_by self.old) bytes.now }
+    pub fn turn(&mut self, bytes: &[u8]) -> ControlFlow<Option<Line>, Line>
+        ensures turned { turn_by result (drill_by self.new) ≡ Drill.turn (drill_by self.old) bytes.now }
+        ensures same { SameTables self.old self.new }
     {
         if bytes.is_empty() {
             return ControlFlow::Break(None);
@@ -221,10 +210,7 @@ impl Machine<'_> {
         };
         let answer = self.perform(call);
         let mode = self.state.mode;
-        ControlFlow::Continue(CallLine {
-            label: Label::Call(call.kind),
-            answer,
-            mode,
-        })
+        let label = u8::from(Label::Call(call.kind));
+        ControlFlow::Continue(lines::call_line(label, answer, mode))
     }
 }

@@ -6,7 +6,7 @@
 
 ghost use Rattle.std.specs.Prelude.{◌≡◌, ◌+◌, ◌*◌, ◌%◌, ◌^◌, ◌<◌, ◌≤◌, eqb, true, false, MatchOption};
 ghost use Rattle.model.specs.Basics.{bit, both};
-ghost use Rattle.model.specs.Bits.{present, writable, user_bit, no_execute, kernel_no_execute, approved_mark, frame_of, valid, taken_apart};
+ghost use Rattle.model.specs.Bits.{present, writable, user_bit, no_execute, kernel_no_execute, approved_mark, frame_of, valid, fields_of, taken_apart};
 ghost use Rattle.model.specs.Approvals.{maps, maps_writable};
 
 use model::Fields;
@@ -127,29 +127,37 @@ impl ValidEntry {
     }
 
     // Shifted, a valid entry has nothing above its frame: the frame takes a shift and no mask.
-    #[tactic(auto, using(crate::proofs::ApartLaws::frame_is))]
+    #[tactic(auto, using(crate::proofs::ApartLaws::frame_is), unfolding(model::specs::Bits::fields_of, model::specs::Bits::write_through, model::specs::Bits::cache_disable))]
+    pub fn fields(self) -> Fields
+        ensures { result ≡ fields_of self.bits }
+    {
+        let bits = self.bits;
+        Fields {
+            writable: writable(bits),
+            user: user_bit(bits),
+            write_through: bit::<3>(bits),
+            cache_disable: bit::<4>(bits),
+            no_execute: no_execute(bits),
+            frame: shifted(bits) / (FRAME * 2),
+        }
+    }
+
+    // Of the fields: a step and a walk take an entry apart for it.
+    #[tactic(auto, unfolding(model::specs::Bits::fields_of))]
     pub fn frame(self) -> u64
         ensures { result ≡ frame_of self.bits }
     {
-        shifted(self.bits) / (FRAME * 2)
+        self.fields().frame
     }
 }
 
 // The fields of an entry that is present, or nothing.
+#[tactic(auto, unfolding(model::specs::Bits::taken_apart))]
 pub fn take_apart(entry: u64) -> Option<Fields>
     ensures { result ≡ taken_apart entry }
 {
-    let Some(valid) = ValidEntry::new(entry) else {
-        return None;
-    };
-    Some(Fields {
-        writable: writable(entry),
-        user: user_bit(entry),
-        write_through: bit::<3>(entry),
-        cache_disable: bit::<4>(entry),
-        no_execute: no_execute(entry),
-        frame: valid.frame(),
-    })
+    let valid = ValidEntry::new(entry)?;
+    Some(valid.fields())
 }
 
 // The bits of an entry below a weight are those, and its frame is the frame: both parts in one comparison.

@@ -1,3 +1,2 @@
--- Laws that the proofs of several functions cite, and those of an entry in hexadecimal.
+-- Laws that the proofs of several functions cite.
 mod LineLaws
-mod HexLaws

@@ -1,68 +1,67 @@
--- Laws of numbers as texts: in decimal and in hexadecimal, as std writes them and as the drill's definitions have them.
-use Prim.Native.Nat.{ℕ, ◌^◌, ◌<◌}
+-- Laws of lines as lists of bytes: a byte more, the digits of a number, and the parts of a line put together.
+use Prim.Native.Nat.{ℕ, zero, suc, ◌+◌, ◌-◌, ◌/◌, ◌%◌, ◌≤◌, ◌<◌}
 use mathlib.Core.Bool.{cond}
-use mathlib.Core.List.{List, [], ◌∷◌, ◌++◌, append_assoc}
-use mathlib.Core.Path.{◌≡◌, refl, sym}
+use mathlib.Core.Path.{◌≡◌, refl, sym, ◌∙◌}
+use mathlib.Core.List.{List, [], ◌∷◌, ◌++◌, append_assoc, append-nil}
+use lib.ListN.{length, take, set}
+use lib.Seq.{take-suc-set, take_all}
 use borrow.Author.Tests.{lt-ltb, le-ltb}
+use native.Mathlib.Nat.{mod-eq_of_lt}
+use native.Mathlib.Numerals.{add-one, sub-one}
 use native.Mathlib.Omega.{arith}
-use Rattle.std.specs.Fmt as std
-use Rattle.std.proofs.lemmas.Fmt.{AppendsLastDigit, decimal_from_appends, length-decimal-le, decimal_digit}
-use Rattle.model.specs.declared.Mode.TheVariants.{Kernel, User}
+use Rattle.model.specs.declared.Mode.{Mode}
 use Rattle.model.specs.Guard.{in_user, running}
-use Rattle.model.specs.Calls.{reply_of}
-use Rattle.drill_model.specs.Drill.{digits, decimal, line}
-use Rattle.lines.specs.declared.CallLine.{CallLine}
-use Rattle.lines.specs.declared.Kind.{Kind}
-use Rattle.lines.specs.declared.Kind.TheVariants.{Edit, SyncPage, SyncAll, Fetch, Write, Enter, Leave, DeviceWrite}
-use Rattle.lines.specs.declared.Label.{Label}
-use Rattle.lines.specs.declared.Label.TheVariants.{Call}
-use Rattle.lines.specs.Text.{kind_number, label_byte, call_text}
+use Rattle.model.specs.Calls.{Reply}
+use Rattle.drill_model.specs.Drill.{digits, decimal, line, hex_digit, share, share_line}
 
--- A number of 64 bits in decimal.
-appends : AppendsLastDigit digits
+-- A byte stored behind the first len ones.
+pub take_more : (bytes : List ℕ) (len b : ℕ) → len < length bytes → take (len + 1) (set bytes len b) ≡ take len bytes ++ (b ∷ [])
+take_more bytes len b p = rw (add-one, take-suc-set bytes len b p)
+
+-- All the bytes of the room, where a line would have more.
+pub take-room : (bytes : List ℕ) (len room : ℕ) → length bytes ≡ room → room ≤ len → take room bytes ≡ take len bytes
+take-room bytes len room e p = take_all room bytes (omega arith) ∙ sym (take_all len bytes (omega arith))
+
+-- The digits of a number behind a text: with no room, of a number below 10, and of any other.
+pub digits-none : (l : List ℕ) (room n : ℕ) → room ≡ 0 → l ≡ l ++ digits room n
 unfolding digits
-appends = record { one = λ k n p. rw (lt-ltb n 10 p); more = λ k n p. rw (le-ltb n 10 p) }
+digits-none l room n p = rw p (sym (append-nil l))
 
-pub decimal-is : (n : ℕ) → n < 2 ^ 64 → std.decimal n ≡ decimal n
+pub digits-one : {r : List ℕ} {d : ℕ} (l : List ℕ) (room n : ℕ) → r ≡ l ++ (d ∷ []) → d ≡ 48 + n % 10 → (room ≡ 0 → ⊥) → n < 10 → r ≡ l ++ digits room n
+unfolding digits
+digits-one l zero n e f p q = absurd (p refl)
+digits-one l (suc room) n e f p q = rw (e, f, lt-ltb n 10 q, mod-eq_of_lt {n = n} {m = 10} q)
+
+pub digits_more : {r m : List ℕ} {d : ℕ} (l : List ℕ) (room n : ℕ) → r ≡ m ++ (d ∷ []) → m ≡ l ++ digits (room - 1) (n / 10) → d ≡ 48 + n % 10
+    → (room ≡ 0 → ⊥) → 10 ≤ n → r ≡ l ++ digits room n
+unfolding digits
+digits_more l zero n e g f p q = absurd (p refl)
+digits_more l (suc room) n e g f p q = rw (e, g, f, le-ltb n 10 q, sub-one, append_assoc)
+
+-- A space and a number behind a text.
+pub number-after : {r m : List ℕ} (l : List ℕ) (n : ℕ) → r ≡ m ++ digits 20 n → m ≡ l ++ (32 ∷ []) → r ≡ l ++ (32 ∷ decimal n)
 unfolding decimal
-decimal-is n p = sym (decimal_from_appends digits appends 20 n p (length-decimal-le 20 n (omega arith) (omega arith) p))
+number-after l n e f = rw (e, f, append_assoc)
 
--- A kind's digit.
-small : (kind : Kind) → kind_number kind < 10
-small Edit = omega arith
-small SyncPage = omega arith
-small SyncAll = omega arith
-small Fetch = omega arith
-small Write = omega arith
-small Enter = omega arith
-small Leave = omega arith
-small DeviceWrite = omega arith
+-- The line of a call: what it begins with, its answer's number and two values, each behind the bytes before it, and the mode.
+pub line-made : {r m k j i h : List ℕ} (kind number first second : ℕ) (reply : Reply) (mode : Mode)
+    → r ≡ m ++ (32 ∷ cond (in_user mode) 85 75 ∷ 32 ∷ decimal (running mode)) ++ (10 ∷ []) → m ≡ k ++ (32 ∷ decimal second) → k ≡ j ++ (32 ∷ decimal first)
+    → j ≡ i ++ (32 ∷ decimal number) → i ≡ h ++ (kind ∷ []) → h ≡ [] → number ≡ reply.number → first ≡ reply.first → second ≡ reply.second
+    → r ≡ line kind reply mode
+unfolding line
+line-made kind number first second reply mode a b c d e f p q s = rw (a, b, c, d, e, f, ← p, ← q, ← s)
 
-pub kind-shown : (l : Label) (kind : Kind) (n : ℕ) → l ≡ Call kind → n ≡ kind_number kind → std.decimal n ≡ label_byte l ∷ []
-kind-shown l kind n e f = rw (e, f) (decimal_digit (kind_number kind) (small kind))
+-- A hexadecimal digit, below 10 and from 10 on.
+pub hex_digit-low : (n : ℕ) → n < 10 → 48 + n ≡ hex_digit n
+unfolding hex_digit
+hex_digit-low n p = rw (lt-ltb n 10 p)
 
--- The text that a call's line writes, with std's digits, by the mode.
-module _ (l : CallLine) (number first second page : ℕ) where
-  abbrev written : ℕ → List ℕ
-  written letter =
-      label_byte l.label ∷ 32 ∷ (std.decimal number ++ (32 ∷ (std.decimal first ++ (32 ∷ (std.decimal second
-      ++ (32 ∷ letter ∷ 32 ∷ (std.decimal page ++ (10 ∷ []))))))))
+pub hex_digit-high : (n : ℕ) → 10 ≤ n → 87 + n ≡ hex_digit n
+unfolding hex_digit
+hex_digit-high n p = rw (le-ltb n 10 p)
 
-  abbrev Columns : Type 0
-  Columns = (number ≡ (reply_of l.answer).number) × (first ≡ (reply_of l.answer).first) × (second ≡ (reply_of l.answer).second)
-
-  abbrev Fits : Type 0
-  Fits = (number < 2 ^ 64) × (first < 2 ^ 64) × (second < 2 ^ 64) × (page < 2 ^ 64)
-
-  line-written : (letter : ℕ) → Fits → Columns → letter ≡ cond (in_user l.mode) 85 75 → page ≡ running l.mode → written letter ≡ call_text l
-  unfolding line
-  line-written letter (a, b, c, d) (e, f, g) h i =
-      rw (decimal-is number a, decimal-is first b, decimal-is second c, decimal-is page d, e, f, g, h, i) (simp append_assoc)
-
-  pub kernel-written : l.mode ≡ Kernel page → Fits → Columns → written 75 ≡ call_text l
-  unfolding in_user running
-  kernel-written m p e = line-written 75 p e (rw m refl) (rw m refl)
-
-  pub user-written : l.mode ≡ User page → Fits → Columns → written 85 ≡ call_text l
-  unfolding in_user running
-  user-written m p e = line-written 85 p e (rw m refl) (rw m refl)
+-- The word share, a number and the line's end.
+pub share-line-is : {r m w : List ℕ} {s : ℕ} (frames : ℕ) (exclusion : List ℕ) → r ≡ m ++ (10 ∷ []) → m ≡ w ++ digits 20 s
+    → w ≡ 115 ∷ 104 ∷ 97 ∷ 114 ∷ 101 ∷ 32 ∷ [] → s ≡ share frames exclusion → r ≡ share_line frames exclusion
+unfolding share_line decimal
+share-line-is frames exclusion e f g h = rw (e, f, g, h)

@@ -85,20 +85,21 @@ impl<'a> Numbers<'a> {
     }
 }
 
-// V, F, n and e of a record.
+// V, F, n and e of a record, and how far their reader has come: the first listed page is there.
 #[derive(Clone, Copy)]
 pub struct Sizes {
     pub pages: u16,
     pub frames: u16,
     pub count: u16,
     pub entry_count: u16,
+    pub at: usize,
 }
 
 // One reader takes all four. Question 1 has shown that they are there.
 pub fn read_sizes(bytes: &[u8]) -> Sizes
     requires { 8 ≤ length bytes.now }
     ensures { (result.pages ≡ number_at bytes.now 0) × (result.frames ≡ number_at bytes.now 2)
-        × (result.count ≡ number_at bytes.now 4) × (result.entry_count ≡ number_at bytes.now 6) }
+        × (result.count ≡ number_at bytes.now 4) × (result.entry_count ≡ number_at bytes.now 6) × (result.at ≡ 8) }
 {
     let mut reader = Reader { bytes, at: 0 };
     Sizes {
@@ -106,6 +107,7 @@ pub fn read_sizes(bytes: &[u8]) -> Sizes
         frames: reader.take(),
         count: reader.take(),
         entry_count: reader.take(),
+        at: reader.at,
     }
 }
 

@@ -1,15 +1,15 @@
-// Document 01, "The policy record": the start. It asks questions 1 to 7, sets every table and answers the first state.
+// Document 01, "The policy record": the start. It asks questions 1 to 7, sets every table and leaves the first state.
 // Each loop is a function, and the record is read through the policy crate's reader alone.
 
 #![tactic(auto)]
 
-ghost use Rattle.std.specs.Prelude.{◌≡◌, length};
+ghost use Rattle.std.specs.Prelude.{◌≡◌, length, get_or, Err};
 ghost use Rattle.model.specs.Guard.{tables, vector_bytes};
 ghost use Rattle.model.specs.Policy.{given_of, policy_of, start_state, start_tables, zero_state};
-ghost use Rattle.model.specs.Calls.{started_by, start_of};
+ghost use Rattle.model.specs.Calls.{outcome_by, start_of};
 ghost use Rattle.start.specs.Start.{stored_each, approved_each, with_each, entry_table};
 
-use model::{ENTRY_PAGES, Mode, NONE, Refusal, State, VECTOR_BYTES};
+use model::{Answer, ENTRY_PAGES, Mode, NONE, Refusal, State, VECTOR_BYTES};
 use policy::Record;
 
 // The listed places of both tables and the exclusion bits of the listed frames, in one loop. Every listed page is inside the tables, and every listed
@@ -57,8 +57,15 @@ fn entry_pages(policy: Record) -> [u64; ENTRY_PAGES]
     pages
 }
 
+// The first entry page. It is read from the record once more: where it is read from the array of entry pages, the compiler copies that on the stack.
+#[tactic(auto, using(crate::proofs::StartLaws::first_of))]
+fn first_page(policy: Record) -> u16
+    ensures { result ≡ get_or (policy_of policy.entry.bytes.now).listed_pages 0 0 }
+{
+    policy.listed_pages().next().unwrap_or(0)
+}
+
 // The state of an accepted start stands in kernel mode on the first entry page.
-#[tactic(auto, using(crate::proofs::StartLaws::state_is))]
 fn first_state(policy: Record, devices: u64) -> State
     ensures { result ≡ start_state (given_of devices) (policy_of policy.entry.bytes.now) }
 {
@@ -69,7 +76,7 @@ fn first_state(policy: Record, devices: u64) -> State
         frames: sizes.frames as u64,
         entry_count: sizes.entry_count as u64,
         entry_pages,
-        mode: Mode::Kernel(entry_pages[0]),
+        mode: Mode::Kernel(first_page(policy) as u64),
         devices,
         pending: None,
     }
@@ -91,18 +98,30 @@ pub fn refused_state() -> State
     }
 }
 
-// The first state, n and e. A caller that needs a state where the start is refused has `refused_state`.
+// A refused start leaves that state, whatever it was lent.
+fn refuse(s: &mut State, refusal: Refusal) -> Answer
+    ensures { (result ≡ Err refusal) × (s.new ≡ zero_state) }
+{
+    *s = refused_state();
+    Err(refusal)
+}
+
+// Answers n and e, and leaves the first state in `s`. A refused start leaves `refused_state` there.
 pub fn start(
     bytes: &[u8],
     devices: u64,
+    s: &mut State,
     shadow: &mut [u64],
     map: &mut [u16],
     exclusion: &mut [u8],
-) -> Result<(State, (u64, u64)), Refusal>
-    ensures { started_by result (tables shadow.new map.new exclusion.new)
+) -> Answer
+    ensures { outcome_by result s.new (tables shadow.new map.new exclusion.new)
         ≡ start_of (given_of devices) bytes.now (tables shadow.old map.old exclusion.old) }
 {
-    let policy = policy::accepted(bytes, devices)?;
+    let policy = match policy::accepted(bytes, devices) {
+        Ok(policy) => policy,
+        Err(refusal) => return refuse(s, refusal),
+    };
     let sizes = policy.sizes;
     if !lengths::start_in_order(
         sizes.pages,
@@ -111,9 +130,9 @@ pub fn start(
         map.len(),
         exclusion.len(),
     ) {
-        return Err(Refusal::StateOrTable);
+        return refuse(s, Refusal::StateOrTable);
     }
     set_tables(policy, shadow, map, exclusion);
-    let state = first_state(policy, devices);
-    Ok((state, (sizes.count as u64, sizes.entry_count as u64)))
+    *s = first_state(policy, devices);
+    Ok((sizes.count as u64, sizes.entry_count as u64))
 }

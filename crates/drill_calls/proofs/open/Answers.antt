@@ -11,3 +11,6 @@ returns-in-Ok-clause-few c = search (rules, opened-few)
 
 pub returns-in-Err-clause-opened : goal.returns-in-Err-clause-opened
 returns-in-Err-clause-opened c = search (rules, opening-ends)
+
+pub returns-in-Err-clause-few : goal.returns-in-Err-clause-few
+returns-in-Err-clause-few c = search (rules, opened-few)

@@ -13,7 +13,8 @@ returns-in_default c = search (rules, turn-cut)
 pub returns-in-Err : goal.returns-in-Err
 returns-in-Err c = search (rules, turn-unknown)
 
-pub returns : goal.returns
-returns c =
-    turn-made (drill_by c.args.self.now) c.args.bytes.now c.perform-answer.result (drill_by c.perform-answer.new.self) c.in-Ok.call.kind
+pub returns-clause-turned : goal.returns-clause-turned
+returns-clause-turned c =
+    turn-made (drill_by c.args.self.now) c.args.bytes.now c.perform-answer.result (drill_by c.perform-answer.new.self) c.call_line.result c.in-Ok.call.kind
     c.in-Ok.call.index c.in-Ok.call.length c.in-Ok.call.value (search rules) (search rules) (search rules) (search rules) (search rules) (search rules)
+    (search rules)

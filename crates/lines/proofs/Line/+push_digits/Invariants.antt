@@ -1,0 +1,5 @@
+-- The room that is left.
+use Rattle.lines.proofs.Line.+push_digits.Given as goal
+
+abbrev pub decreases-push_digits : goal.decreases-push_digits
+decreases-push_digits l = l.room
