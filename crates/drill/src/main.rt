@@ -49,7 +49,7 @@ fn take_turn(
 ) -> io::Result<ControlFlow<Option<Line>, Line>> {
     let mut call = [0u8; CALL_BYTES];
     let taken = read_full(input, &mut call)?;
-    Ok(machine.turn(&call[..taken]))
+    Ok(machine.turn_line(&call[..taken]))
 }
 
 // As many calls as there are, and no more than the limit, each with its line. The loop is the one of `loops_as_defined`, and so no `for`.

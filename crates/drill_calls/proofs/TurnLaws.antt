@@ -24,15 +24,16 @@ use Rattle.model.specs.Policy.{Givens, policy_of, number_at, start_state, start_
 use Rattle.model.specs.Questions.{first_no, lengths_of, start_questions}
 use Rattle.model.specs.Calls.{Answer, Outcome, refused, reply_of, outcome_by, settle, start_of}
 use Rattle.drill_model.specs.Drill.{Drill, policy_extent, windows_of, kind_of, index_of, length_of, value_of, edited, performed, line}
-use Rattle.drill_model.specs.Drill.{start_line, turn_of, turn}
+use Rattle.drill_model.specs.Drill.{Turn, start_line, turn_of, turn}
 use Rattle.laws.proofs.CallLaws.{numbered}
 use Rattle.laws.proofs.QuestionLaws.{within-high}
 use Rattle.laws.proofs.PolicyLaws.{start-passed}
 use Rattle.lines.specs.declared.Kind.{Kind}
 use Rattle.lines.specs.declared.Line.{Line}
+use Rattle.lines.specs.declared.CallLine.{CallLine}
 use Rattle.lines.specs.declared.Label.TheVariants.{Call}
-use Rattle.lines.specs.Text.{text, kind_number, label_byte}
-use Rattle.drill_calls.specs.Turns.{drill_of, performed_by, turn_by, opening_of, opened_by, pages_lent, bytes_lent}
+use Rattle.lines.specs.Text.{text, kind_number, label_byte, call_text}
+use Rattle.drill_calls.specs.Turns.{drill_of, performed_by, turn_by, turn_line_by, opening_of, opened_by, pages_lent, bytes_lent}
 use Rattle.drill_calls.proofs.CallLaws.{kind-below}
 
 -- The policy's extent, with n in its range and outside.
@@ -115,31 +116,76 @@ module _ (g : Guard) (kernel : List ℕ) (devices : List Device) (page value : �
       → performed_by (Ok (0, 0)) (drill_of g kernel devices) ≡ edited (drill_of g kernel devices) page value
   edit-past e q = rw (set_out kernel page value q) at (edit-done e)
 
--- A turn: of no bytes, of too few or too many, of no kind, and of a call.
+-- A turn: of no bytes, of too few or too many, of no kind, and of a call. Each is said of a text, and then of a line and of its value.
 module _ (d : Drill) where
-  pub turn-none : (bytes : List ℕ) → length bytes ≡ 0 → turn_by (Break None) d ≡ turn d bytes
-  unfolding turn turn_by
-  turn-none [] e = refl
-  turn-none (kind ∷ rest) e = absurd (let q : ⊥ = omega arith in q)
+  left : List ℕ → Bool → Turn
+  left text goes = record { drill = d; line = text; goes = goes }
 
-  pub turn-cut : (bytes : List ℕ) (l : Line) → (length bytes ≡ 0 → ⊥) → (length bytes ≡ 16 → ⊥)
-      → text l ≡ line 88 (refused 14) d.guard.state.mode → turn_by (Break (Some l)) d ≡ turn d bytes
-  unfolding turn turn_by kind_of first_no settle
-  turn-cut [] l p q f = absurd (p refl)
-  turn-cut (kind ∷ rest) l p q f = rw (f, ne_eqb (length (kind ∷ rest)) 16 q) refl
+  no-turn : (bytes : List ℕ) → length bytes ≡ 0 → left [] false ≡ turn d bytes
+  unfolding turn left
+  no-turn [] e = refl
+  no-turn (kind ∷ rest) e = absurd (let q : ⊥ = omega arith in q)
 
-  pub turn-unknown : (bytes : List ℕ) (l : Line) → length bytes ≡ 16 → 8 ≤ kind_of bytes
-      → text l ≡ line 88 (refused 15) d.guard.state.mode → turn_by (Break (Some l)) d ≡ turn d bytes
-  unfolding turn turn_by kind_of first_no settle
-  turn-unknown [] l q h f = absurd (let q : ⊥ = omega arith in q)
-  turn-unknown (kind ∷ rest) l q h f = rw (f, eq-eqb (length (kind ∷ rest)) 16 q, le-ltb kind 8 h) refl
+  cut-turn : (bytes text : List ℕ) → (length bytes ≡ 0 → ⊥) → (length bytes ≡ 16 → ⊥) → text ≡ line 88 (refused 14) d.guard.state.mode
+      → left text false ≡ turn d bytes
+  unfolding turn left kind_of first_no settle
+  cut-turn [] text p q f = absurd (p refl)
+  cut-turn (kind ∷ rest) text p q f = rw (f, ne_eqb (length (kind ∷ rest)) 16 q) refl
 
-  pub turn-made : (bytes : List ℕ) (r : Answer) (d' : Drill) (l : Line) (kind : Kind) (index size value : ℕ) → length bytes ≡ 16
+  unknown-turn : (bytes text : List ℕ) → length bytes ≡ 16 → 8 ≤ kind_of bytes → text ≡ line 88 (refused 15) d.guard.state.mode
+      → left text false ≡ turn d bytes
+  unfolding turn left kind_of first_no settle
+  unknown-turn [] text q h f = absurd (let q : ⊥ = omega arith in q)
+  unknown-turn (kind ∷ rest) text q h f = rw (f, eq-eqb (length (kind ∷ rest)) 16 q, le-ltb kind 8 h) refl
+
+  made-turn : (bytes text : List ℕ) (r : Answer) (d' : Drill) (kind : Kind) (index size value : ℕ) → length bytes ≡ 16
       → kind_number kind ≡ kind_of bytes → index ≡ index_of bytes → size ≡ length_of bytes → value ≡ value_of bytes
       → performed_by r d' ≡ performed d (kind_number kind) index size value
-      → text l ≡ line (label_byte (Call kind)) (reply_of r) d'.guard.state.mode → turn_by (Continue l) d' ≡ turn d bytes
-  unfolding turn turn_by kind_of turn_of performed_by first_no settle
-  turn-made [] r d' l kind index size value q h a b c e f = absurd (let q : ⊥ = omega arith in q)
-  turn-made (first ∷ rest) r d' l kind index size value q h a b c e f =
+      → text ≡ line (label_byte (Call kind)) (reply_of r) d'.guard.state.mode → record { drill = d'; line = text; goes = true } ≡ turn d bytes
+  unfolding turn kind_of turn_of performed_by first_no settle
+  made-turn [] text r d' kind index size value q h a b c e f = absurd (let q : ⊥ = omega arith in q)
+  made-turn (first ∷ rest) text r d' kind index size value q h a b c e f =
       let below : first < 8 = rw h at (kind-below kind) in
       rw (f, eq-eqb (length (first ∷ rest)) 16 q, lt-ltb first 8 below, ← a, ← b, ← c, h, ← (rw h at e)) refl
+
+  pub turn_line-none : (bytes : List ℕ) → length bytes ≡ 0 → turn_line_by (Break None) d ≡ turn d bytes
+  unfolding turn_line_by left
+  turn_line-none bytes e = no-turn bytes e
+
+  pub turn_line-cut : (bytes : List ℕ) (l : Line) → (length bytes ≡ 0 → ⊥) → (length bytes ≡ 16 → ⊥)
+      → text l ≡ line 88 (refused 14) d.guard.state.mode → turn_line_by (Break (Some l)) d ≡ turn d bytes
+  unfolding turn_line_by left
+  turn_line-cut bytes l p q f = cut-turn bytes (text l) p q f
+
+  pub turn_line-unknown : (bytes : List ℕ) (l : Line) → length bytes ≡ 16 → 8 ≤ kind_of bytes
+      → text l ≡ line 88 (refused 15) d.guard.state.mode → turn_line_by (Break (Some l)) d ≡ turn d bytes
+  unfolding turn_line_by left
+  turn_line-unknown bytes l q h f = unknown-turn bytes (text l) q h f
+
+  pub turn_line-made : (bytes : List ℕ) (r : Answer) (d' : Drill) (l : Line) (kind : Kind) (index size value : ℕ) → length bytes ≡ 16
+      → kind_number kind ≡ kind_of bytes → index ≡ index_of bytes → size ≡ length_of bytes → value ≡ value_of bytes
+      → performed_by r d' ≡ performed d (kind_number kind) index size value
+      → text l ≡ line (label_byte (Call kind)) (reply_of r) d'.guard.state.mode → turn_line_by (Continue l) d' ≡ turn d bytes
+  unfolding turn_line_by
+  turn_line-made bytes r d' l kind index size value q h a b c e f = made-turn bytes (text l) r d' kind index size value q h a b c e f
+
+  pub turn-none : (bytes : List ℕ) → length bytes ≡ 0 → turn_by (Break None) d ≡ turn d bytes
+  unfolding turn_by left
+  turn-none bytes e = no-turn bytes e
+
+  pub turn-cut : (bytes : List ℕ) (l : CallLine) → (length bytes ≡ 0 → ⊥) → (length bytes ≡ 16 → ⊥)
+      → call_text l ≡ line 88 (refused 14) d.guard.state.mode → turn_by (Break (Some l)) d ≡ turn d bytes
+  unfolding turn_by left
+  turn-cut bytes l p q f = cut-turn bytes (call_text l) p q f
+
+  pub turn-unknown : (bytes : List ℕ) (l : CallLine) → length bytes ≡ 16 → 8 ≤ kind_of bytes
+      → call_text l ≡ line 88 (refused 15) d.guard.state.mode → turn_by (Break (Some l)) d ≡ turn d bytes
+  unfolding turn_by left
+  turn-unknown bytes l q h f = unknown-turn bytes (call_text l) q h f
+
+  pub turn-made : (bytes : List ℕ) (r : Answer) (d' : Drill) (kind : Kind) (index size value : ℕ) → length bytes ≡ 16 → kind_number kind ≡ kind_of bytes
+      → index ≡ index_of bytes → size ≡ length_of bytes → value ≡ value_of bytes
+      → performed_by r d' ≡ performed d (kind_number kind) index size value
+      → turn_by (Continue (record { label = Call kind; answer = r; mode = d'.guard.state.mode })) d' ≡ turn d bytes
+  unfolding turn_by
+  turn-made bytes r d' kind index size value q h a b c e = made-turn bytes _ r d' kind index size value q h a b c e refl

@@ -10,7 +10,8 @@ use Rattle.model.specs.Policy.{policy_of}
 use Rattle.model.specs.Calls.{Answer, Outcome, reply_of, start_of}
 use Rattle.drill_model.specs.Drill.{drill_given, Drill, Drilled, Turn, drill_start, start_line}
 use Rattle.lines.specs.declared.Line.{Line}
-use Rattle.lines.specs.Text.{text}
+use Rattle.lines.specs.declared.CallLine.{CallLine}
+use Rattle.lines.specs.Text.{text, call_text}
 use Rattle.drill_calls.specs.declared.Machine.{Machine}
 
 abbrev pub drill_of : Guard → List ℕ → List Device → Drill
@@ -30,12 +31,21 @@ SameTables m m' =
     (m'.kernel.ghost_name ≡ m.kernel.ghost_name) × (m'.shadow.ghost_name ≡ m.shadow.ghost_name) × (m'.map.ghost_name ≡ m.map.ghost_name)
 
 -- What a turn leaves. The calls end with a line X, or with no line where no bytes remain.
-abbrev pub last_text : Option Line → List ℕ
-last_text None = []
-last_text (Some l) = text l
+abbrev pub last_line : Option Line → List ℕ
+last_line None = []
+last_line (Some l) = text l
 
-unfoldable pub turn_by : ControlFlow (Option Line) Line → Drill → Turn
-turn_by (Continue l) d = record { drill = d; line = text l; goes = true }
+unfoldable pub turn_line_by : ControlFlow (Option Line) Line → Drill → Turn
+turn_line_by (Continue l) d = record { drill = d; line = text l; goes = true }
+turn_line_by (Break l) d = record { drill = d; line = last_line l; goes = false }
+
+-- The same of a turn whose line is a value.
+abbrev pub last_text : Option CallLine → List ℕ
+last_text None = []
+last_text (Some l) = call_text l
+
+unfoldable pub turn_by : ControlFlow (Option CallLine) CallLine → Drill → Turn
+turn_by (Continue l) d = record { drill = d; line = call_text l; goes = true }
 turn_by (Break l) d = record { drill = d; line = last_text l; goes = false }
 
 -- The start's guard, its line, and whether calls follow it: "A refused start prints its line alone."

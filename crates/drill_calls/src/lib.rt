@@ -10,10 +10,10 @@ ghost use Rattle.model.specs.declared.Refusal.TheVariants.{UnknownKind};
 ghost use Rattle.model.specs.Calls.{refused, start_of};
 ghost use Rattle.drill_model.specs.Drill;
 ghost use Rattle.drill_model.specs.Drill.{drill_given, windows_of, policy_extent, kind_of, index_of, length_of, value_of, edited, performed, line};
-ghost use Rattle.lines.specs.Text.{text, kind_number};
-ghost use Rattle.drill_calls.specs.Turns.{SameTables, drill_by, performed_by, turn_by, opening_of, opened_by, pages_lent, bytes_lent, OpensAsDefined};
+ghost use Rattle.lines.specs.Text.{text, kind_number, call_text};
+ghost use Rattle.drill_calls.specs.Turns.{SameTables, drill_by, performed_by, turn_by, turn_line_by, opening_of, opened_by, pages_lent, bytes_lent, OpensAsDefined};
 
-use lines::{Kind, Label, Line};
+use lines::{CallLine, Kind, Label, Line};
 use model::{Answer, Device, MOST_DEVICES, MOST_PAGES, Refusal, State};
 use std::ops::ControlFlow;
 
@@ -194,8 +194,8 @@ impl Machine<'_> {
     }
 
     // One call, of the bytes that remain, at most 16 of them: its line, and whether calls go on. Of no bytes there is no line.
-    pub fn turn(&mut self, bytes: &[u8]) -> ControlFlow<Option<Line>, Line>
-        ensures turned { turn_by result (drill_by self.new) ≡ Drill.turn (drill_by self.old) bytes.now }
+    pub fn turn_line(&mut self, bytes: &[u8]) -> ControlFlow<Option<Line>, Line>
+        ensures turned { turn_line_by result (drill_by self.new) ≡ Drill.turn (drill_by self.old) bytes.now }
         ensures same { SameTables self.old self.new }
     {
         if bytes.is_empty() {
@@ -212,5 +212,136 @@ impl Machine<'_> {
         let mode = self.state.mode;
         let label = u8::from(Label::Call(call.kind));
         ControlFlow::Continue(lines::call_line(label, answer, mode))
+    }
+
+    // The line of `end`, as a value.
+    #[tactic(auto, unfolding(model::specs::Calls::reply_of))]
+    fn ended(&self, refusal: Refusal) -> CallLine
+        ensures { call_text result ≡ line 88 (refused (number_of refusal)) self.now.state.mode }
+    {
+        CallLine {
+            label: Label::End,
+            answer: Err(refusal),
+            mode: self.state.mode,
+        }
+    }
+
+    // The same turn, whose line is a value: for a caller that asks for the answer.
+    pub fn turn(&mut self, bytes: &[u8]) -> ControlFlow<Option<CallLine>, CallLine>
+        ensures turned { turn_by result (drill_by self.new) ≡ Drill.turn (drill_by self.old) bytes.now }
+        ensures same { SameTables self.old self.new }
+    {
+        let Some(bytes) = bytes.as_array::<CALL_BYTES>() else {
+            let line = if bytes.is_empty() {
+                None
+            } else {
+                Some(self.ended(Refusal::CallCutShort))
+            };
+            return ControlFlow::Break(line);
+        };
+        let call = match Call::try_from(*bytes) {
+            Ok(call) => call,
+            Err(refusal) => return ControlFlow::Break(Some(self.ended(refusal))),
+        };
+        let done = self.perform(call);
+        let after = self.state.mode;
+        ControlFlow::Continue(CallLine {
+            label: Label::Call(call.kind),
+            answer: done,
+            mode: after,
+        })
+    }
+}
+
+#[cfg(test)]
+mod tests {
+    use super::*;
+    use lines::{EntryLine, ShareLine};
+    use model::Mode;
+    use std::test::Fail;
+
+    // The worked example, whose lines are values, and what they print.
+    #[test]
+    fn turns_of_the_worked_example(rt: HostRuntime) -> Result<(), Fail> {
+        let policy = [4, 0, 4, 0, 1, 0, 1, 0, 1, 0, 2, 0];
+        let mut state = start::refused_state();
+        let mut kernel = [0; 4];
+        let mut shadow = [0; 4];
+        let mut map = [0; 4];
+        let mut exclusion = [0; 1];
+        let opened = open(&policy, &mut state, &mut shadow, &mut map, &mut exclusion);
+        assert!(rt; opened.is_continue());
+        let mut machine = Machine {
+            state,
+            kernel: &mut kernel,
+            shadow: &mut shadow,
+            map: &mut map,
+            exclusion: &exclusion,
+            devices: windows(4),
+        };
+        let turns = [
+            (
+                [0, 0, 0, 0, 0, 0, 0, 0, 3, 0x20, 0, 0, 0, 0, 0, 0],
+                "0 0 0 0 K 1\n",
+            ),
+            (
+                [1, 0, 0, 0, 0, 0, 0, 0, 0, 0, 0, 0, 0, 0, 0, 0],
+                "1 0 1 1 K 1\n",
+            ),
+            (
+                [4, 0, 0, 0, 1, 0, 0, 0, 0, 0, 0, 0, 0, 0, 0, 0],
+                "4 12 0 0 K 1\n",
+            ),
+            (
+                [0, 0, 3, 0, 0, 0, 0, 0, 7, 0x30, 0, 0, 0, 0, 0, 0],
+                "0 0 0 0 K 1\n",
+            ),
+            (
+                [1, 0, 3, 0, 0, 0, 0, 0, 0, 0, 0, 0, 0, 0, 0, 0],
+                "1 0 1 0 K 1\n",
+            ),
+            (
+                [6, 0, 3, 0, 0, 0, 0, 0, 0, 0, 0, 0, 0, 0, 0, 0],
+                "6 0 3 0 U 3\n",
+            ),
+            (
+                [7, 0, 0, 0, 1, 0, 0, 0, 0, 0x20, 0, 0, 0, 0, 0, 0],
+                "7 13 0 0 U 3\n",
+            ),
+        ];
+        for (call, want) in turns {
+            let ControlFlow::Continue(line) = machine.turn(&call) else {
+                assert!(rt; false, "no call follows {want}");
+                return Ok(());
+            };
+            assert_eq!(rt; format!(in rt.alloc(); "{line}")?.as_str(), want);
+        }
+        let ends: [(&[u8], &str); 2] = [(&[0; 3], "X 14 0 0 U 3\n"), (&[8; 16], "X 15 0 0 U 3\n")];
+        for (call, want) in ends {
+            let ControlFlow::Break(Some(line)) = machine.turn(call) else {
+                assert!(rt; false, "a call follows {want}");
+                return Ok(());
+            };
+            assert!(rt; line.answer.is_err());
+            assert_eq!(rt; format!(in rt.alloc(); "{line}")?.as_str(), want);
+        }
+        assert!(rt; matches!(machine.turn(&[]), ControlFlow::Break(None)));
+        let start = CallLine {
+            label: Label::Start,
+            answer: Ok((1, 1)),
+            mode: Mode::Kernel(1),
+        };
+        assert_eq!(rt;
+            format!(in rt.alloc(); "{start}")?.as_str(),
+            "S 0 1 1 K 1\n"
+        );
+        let entry = EntryLine(0x8000_0000_00ab_cdef);
+        assert_eq!(rt;
+            format!(in rt.alloc(); "{entry}")?.as_str(),
+            "8000000000abcdef\n"
+        );
+        let share = ShareLine { percent: 25 };
+        assert_eq!(rt; format!(in rt.alloc(); "{share}")?.as_str(), "share 25\n");
+        Ok(())
     }
 }

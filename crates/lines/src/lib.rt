@@ -1,16 +1,18 @@
 // The drill's lines: what a line begins with, and the bytes of a call's line and of the closing lines. A line has its end, as the definitions have it.
-// The bytes are made by functions that cannot fail. `Display` says what is written where it answers `Ok`, and lets an impl give up.
+// The drill writes bytes, which are made by functions that cannot fail. The same lines are values too, for a caller that asks for an answer or formats
+// a text: their `Display` says what is written where it answers `Ok`, and lets an impl give up.
 
 #![tactic(auto)]
 
-ghost use Rattle.std.specs.Prelude.{◌+◌, ◌<◌, ◌≤◌, ◌%◌, ◌≡◌, cond, [], ◌∷◌, ◌++◌, MatchResult};
+ghost use Rattle.std.specs.Prelude.{◌+◌, ◌<◌, ◌≤◌, ◌%◌, ◌≡◌, cond, [], ◌∷◌, ◌++◌, MatchResult, Some};
 ghost use Rattle.model.specs.Guard.{in_user, running};
 ghost use Rattle.model.specs.declared.Refusal.TheVariants.{UnknownKind};
 ghost use Rattle.model.specs.Calls.{reply_of};
 ghost use Rattle.drill_model.specs.Drill.{digits, decimal, line, hex_digit, hex_digits, share_line};
-ghost use Rattle.lines.specs.Text.{text, kind_number, label_byte};
+ghost use Rattle.lines.specs.Text.{text, kind_number, label_byte, call_text, entry_text, share_text};
 
 use model::{Answer, Mode, Refusal};
+use std::fmt;
 
 // The kinds of call, by their numbers. Question 15 refuses any other.
 #[derive(Clone, Copy)]
@@ -247,4 +249,67 @@ pub fn share_line(frames: u16, exclusion: &[u8]) -> Line
     l.push_digits(20, share::share_of(frames, exclusion));
     l.push(b'\n');
     l
+}
+
+// The lines as values.
+
+impl fmt::Display for Label {
+    ghost output = { λ label. Some (label_byte label ∷ []) };
+
+    fn fmt<W: fmt::Write>(&self, f: &mut fmt::Formatter<W>) -> fmt::Result {
+        match *self {
+            Label::Start => f.write_str("S"),
+            Label::Call(kind) => write!(f, "{}", number_of(kind)),
+            Label::End => f.write_str("X"),
+        }
+    }
+}
+
+// The line of a call, of the start, or of the calls' end.
+#[derive(Clone, Copy)]
+pub struct CallLine {
+    pub label: Label,
+    pub answer: Answer,
+    pub mode: Mode,
+}
+
+impl fmt::Display for CallLine {
+    ghost output = { λ l. Some (call_text l) };
+
+    fn fmt<W: fmt::Write>(&self, f: &mut fmt::Formatter<W>) -> fmt::Result {
+        let label = self.label;
+        let (number, first, second) = columns(self.answer);
+        match self.mode {
+            Mode::Kernel(page) => writeln!(f, "{label} {number} {first} {second} K {page}"),
+            Mode::User(page) => writeln!(f, "{label} {number} {first} {second} U {page}"),
+        }
+    }
+}
+
+// A shadow entry's line.
+#[derive(Clone, Copy)]
+pub struct EntryLine(pub u64);
+
+impl fmt::Display for EntryLine {
+    ghost output = { λ l. Some (entry_text l) };
+
+    fn fmt<W: fmt::Write>(&self, f: &mut fmt::Formatter<W>) -> fmt::Result {
+        let entry = self.0;
+        writeln!(f, "{entry:016x}")
+    }
+}
+
+// The line of the share, in percent.
+#[derive(Clone, Copy)]
+pub struct ShareLine {
+    pub percent: u64,
+}
+
+impl fmt::Display for ShareLine {
+    ghost output = { λ l. Some (share_text l) };
+
+    fn fmt<W: fmt::Write>(&self, f: &mut fmt::Formatter<W>) -> fmt::Result {
+        let percent = self.percent;
+        writeln!(f, "share {percent}")
+    }
 }

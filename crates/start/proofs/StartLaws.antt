@@ -25,19 +25,30 @@ use Rattle.laws.proofs.PolicyLaws.{Passed, policy-passed, Fitting, start-fitting
 use Rattle.policy.proofs.RecordLaws.{start-refused, start-asked}
 use Rattle.start.specs.Start.{entry_table, with_each}
 use Rattle.start.proofs.LoopLaws.{frames-small}
-use Rattle.start.proofs.TablesSet.{entries-are, each-length, vector-is}
+use Rattle.start.proofs.TablesSet.{entries-are, first-is, each-length, vector-is}
 
--- The state of an accepted start, made of the numbers that were read.
-pub state_is : (given : Givens) (bytes : List ℕ) (pages frames count entries devices first : ℕ) (entry : List ℕ)
+-- The state of an accepted start, made of the numbers that were read, the first page among them.
+pub first-state-is : (given : Givens) (bytes : List ℕ) (pages frames count entries devices first : ℕ) (entry : List ℕ)
     → (pages ≡ number_at bytes 0) × (frames ≡ number_at bytes 2) × (count ≡ number_at bytes 4) × (entries ≡ number_at bytes 6)
     → first_no (policy_questions true true true (policy_of bytes)) ≡ 0 → entry ≡ entry_table bytes entries
     → first ≡ get_or (policy_of bytes).listed_pages 0 0 → devices ≡ given.devices
     → state_of pages frames entries entry (Kernel first) devices None ≡ start_state given (policy_of bytes)
 unfolding start_state policy_of
-state_is given bytes pages frames count entries devices first entry read asked t f d =
+first-state-is given bytes pages frames count entries devices first entry read asked t f d =
     let p : Passed (policy_of bytes) = policy-passed true true true (policy_of bytes) asked in
     let whole : entry ≡ entry_pages (policy_of bytes) = t ∙ entries-are bytes entries read.3 p.entry-count-listed in
     rw (f, whole, read.3, read.0, read.1, d) refl
+
+-- The same, whose first page is the first entry page.
+pub state_is : (given : Givens) (bytes : List ℕ) (pages frames count entries devices : ℕ) (entry : List ℕ)
+    → (pages ≡ number_at bytes 0) × (frames ≡ number_at bytes 2) × (count ≡ number_at bytes 4) × (entries ≡ number_at bytes 6)
+    → first_no (policy_questions true true true (policy_of bytes)) ≡ 0 → entry ≡ entry_table bytes entries → devices ≡ given.devices
+    → state_of pages frames entries entry (Kernel (get_or entry 0 0)) devices None ≡ start_state given (policy_of bytes)
+state_is given bytes pages frames count entries devices entry read asked t d =
+    let p : Passed (policy_of bytes) = policy-passed true true true (policy_of bytes) asked in
+    let whole : entry ≡ entry_pages (policy_of bytes) = t ∙ entries-are bytes entries read.3 p.entry-count-listed in
+    let first : get_or entry 0 0 ≡ get_or (policy_of bytes).listed_pages 0 0 = rw whole (first-is (policy_of bytes) p.entry-count-low) in
+    first-state-is given bytes pages frames count entries devices _ entry read asked t first d
 
 -- The first of a list, as an iterator gives it.
 pub first_of : (list rest : List ℕ) (n : ℕ) → list ≡ n ∷ rest → n ≡ get_or list 0 0

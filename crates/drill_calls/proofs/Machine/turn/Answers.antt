@@ -4,17 +4,16 @@ use Rattle.drill_calls.specs.Turns.{drill_by}
 use Rattle.drill_calls.proofs.TurnLaws.{turn-none, turn-cut, turn-unknown, turn-made}
 use Rattle.drill_calls.proofs.Machine.turn.Goals as goal
 
-pub returns-then-is_empty : goal.returns-then-is_empty
-returns-then-is_empty c = search (rules, turn-none)
+pub returns-then-is_empty-clause-turned : goal.returns-then-is_empty-clause-turned
+returns-then-is_empty-clause-turned c = search (rules, turn-none)
 
-pub returns-in_default : goal.returns-in_default
-returns-in_default c = search (rules, turn-cut)
+pub returns-else-is_empty-clause-turned : goal.returns-else-is_empty-clause-turned
+returns-else-is_empty-clause-turned c = search (rules, turn-cut)
 
 pub returns-in-Err : goal.returns-in-Err
 returns-in-Err c = search (rules, turn-unknown)
 
 pub returns-clause-turned : goal.returns-clause-turned
 returns-clause-turned c =
-    turn-made (drill_by c.args.self.now) c.args.bytes.now c.perform-answer.result (drill_by c.perform-answer.new.self) c.call_line.result c.in-Ok.call.kind
+    turn-made (drill_by c.args.self.now) c.args.bytes.now c.perform-done.result (drill_by c.perform-done.new.self) c.in-Ok.call.kind
     c.in-Ok.call.index c.in-Ok.call.length c.in-Ok.call.value (search rules) (search rules) (search rules) (search rules) (search rules) (search rules)
-    (search rules)
