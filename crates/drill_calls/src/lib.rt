@@ -260,6 +260,14 @@ mod tests {
     use model::Mode;
     use std::test::Fail;
 
+    // The bytes of a call with small fields.
+    fn call(kind: u8, index: u8, length: u8, value: u16) -> [u8; CALL_BYTES] {
+        let [low, high] = value.to_le_bytes();
+        [
+            kind, 0, index, 0, length, 0, 0, 0, low, high, 0, 0, 0, 0, 0, 0,
+        ]
+    }
+
     // The worked example, whose lines are values, and what they print.
     #[test]
     fn turns_of_the_worked_example(rt: HostRuntime) -> Result<(), Fail> {
@@ -280,45 +288,24 @@ mod tests {
             devices: windows(4),
         };
         let turns = [
-            (
-                [0, 0, 0, 0, 0, 0, 0, 0, 3, 0x20, 0, 0, 0, 0, 0, 0],
-                "0 0 0 0 K 1\n",
-            ),
-            (
-                [1, 0, 0, 0, 0, 0, 0, 0, 0, 0, 0, 0, 0, 0, 0, 0],
-                "1 0 1 1 K 1\n",
-            ),
-            (
-                [4, 0, 0, 0, 1, 0, 0, 0, 0, 0, 0, 0, 0, 0, 0, 0],
-                "4 12 0 0 K 1\n",
-            ),
-            (
-                [0, 0, 3, 0, 0, 0, 0, 0, 7, 0x30, 0, 0, 0, 0, 0, 0],
-                "0 0 0 0 K 1\n",
-            ),
-            (
-                [1, 0, 3, 0, 0, 0, 0, 0, 0, 0, 0, 0, 0, 0, 0, 0],
-                "1 0 1 0 K 1\n",
-            ),
-            (
-                [6, 0, 3, 0, 0, 0, 0, 0, 0, 0, 0, 0, 0, 0, 0, 0],
-                "6 0 3 0 U 3\n",
-            ),
-            (
-                [7, 0, 0, 0, 1, 0, 0, 0, 0, 0x20, 0, 0, 0, 0, 0, 0],
-                "7 13 0 0 U 3\n",
-            ),
+            (call(0, 0, 0, 0x2003), "0 0 0 0 K 1\n"),
+            (call(1, 0, 0, 0), "1 0 1 1 K 1\n"),
+            (call(4, 0, 1, 0), "4 12 0 0 K 1\n"),
+            (call(0, 3, 0, 0x3007), "0 0 0 0 K 1\n"),
+            (call(1, 3, 0, 0), "1 0 1 0 K 1\n"),
+            (call(6, 3, 0, 0), "6 0 3 0 U 3\n"),
+            (call(7, 0, 1, 0x2000), "7 13 0 0 U 3\n"),
         ];
-        for (call, want) in turns {
-            let ControlFlow::Continue(line) = machine.turn(&call) else {
+        for (bytes, want) in turns {
+            let ControlFlow::Continue(line) = machine.turn(&bytes) else {
                 assert!(rt; false, "no call follows {want}");
                 return Ok(());
             };
             assert_eq!(rt; format!(in rt.alloc(); "{line}")?.as_str(), want);
         }
         let ends: [(&[u8], &str); 2] = [(&[0; 3], "X 14 0 0 U 3\n"), (&[8; 16], "X 15 0 0 U 3\n")];
-        for (call, want) in ends {
-            let ControlFlow::Break(Some(line)) = machine.turn(call) else {
+        for (bytes, want) in ends {
+            let ControlFlow::Break(Some(line)) = machine.turn(bytes) else {
                 assert!(rt; false, "a call follows {want}");
                 return Ok(());
             };
